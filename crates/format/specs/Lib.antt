@@ -1,0 +1,5 @@
+pub mod Decode
+pub mod Bits
+pub mod Types
+pub mod Sheet
+pub mod Decoding

@@ -1,0 +1,86 @@
+//! Sheets as document 01 describes them, and nothing else: their value, their
+//! bytes, the twelve refusals of a check, and a seeded generator.
+//!
+//! Two readers stand side by side. [`decode`] builds the value and [`rules`]
+//! judges it, sentence by sentence. [`check`] gives the same answer in one walk
+//! without building anything.
+
+mod bits;
+mod check;
+mod decode;
+pub mod desc;
+mod encode;
+pub mod generate;
+pub mod name;
+mod rng;
+mod rules;
+mod value;
+
+pub use bits::index_width;
+pub use check::check;
+pub use decode::decode;
+pub use encode::{encode, encode_bits};
+pub use rng::Rng;
+pub use rules::{indirect, rules};
+pub use value::*;
+
+/// The limits of document 01.
+pub mod limit {
+    pub const SHEET_BYTES: usize = 32_768;
+    pub const NAMES: usize = 1_023;
+    pub const NAME_CHARS: usize = 63;
+    pub const ITEMS: usize = 255;
+    pub const NAMESPACES: usize = 7;
+    pub const FIELDS: usize = 63;
+    pub const ARGUMENTS: usize = 31;
+    pub const SLOTS: usize = 15;
+    pub const COMMENT_LINES: usize = 31;
+    pub const COMMENT_CHARS: usize = 127;
+    pub const TYPE_DEPTH: usize = 8;
+}
+
+/// Why a sheet is refused; the discriminant is document 01's number.
+#[derive(Clone, Copy, PartialEq, Eq, PartialOrd, Ord, Debug)]
+#[repr(u8)]
+pub enum Refusal {
+    CutSheet = 1,
+    Edition = 2,
+    BadName = 3,
+    LooseIndex = 4,
+    BadKind = 5,
+    TooDeep = 6,
+    BadComment = 7,
+    Tail = 8,
+    WrongPart = 9,
+    Taken = 10,
+    UnfitArgument = 11,
+    Ring = 12,
+}
+
+impl Refusal {
+    pub const ALL: [Refusal; 12] = [
+        Refusal::CutSheet,
+        Refusal::Edition,
+        Refusal::BadName,
+        Refusal::LooseIndex,
+        Refusal::BadKind,
+        Refusal::TooDeep,
+        Refusal::BadComment,
+        Refusal::Tail,
+        Refusal::WrongPart,
+        Refusal::Taken,
+        Refusal::UnfitArgument,
+        Refusal::Ring,
+    ];
+
+    pub fn number(self) -> u8 {
+        self as u8
+    }
+}
+
+/// The plain reader's answer: the value of an accepted sheet, or the refusal.
+pub fn read(bytes: &[u8]) -> Result<Sheet, Refusal> {
+    let sheet = decode(bytes)?;
+    rules(&sheet)?;
+    Ok(sheet)
+}
