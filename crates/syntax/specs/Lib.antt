@@ -1,0 +1,4 @@
+pub mod Items
+pub mod Symbol
+pub mod Mangle
+pub mod Types
