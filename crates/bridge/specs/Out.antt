@@ -32,7 +32,11 @@ some (b ∷ s) = true
 unfoldable pub nextSection : Content → Content
 nextSection c =
     record {
-      text = c .text; namespace = c .namespace; opened = c .opened; pending = c .pending; sectionPending = true;
+      text = c .text;
+      namespace = c .namespace;
+      opened = c .opened;
+      pending = c .pending;
+      sectionPending = true;
       panicked = c .panicked;
     }
 
@@ -51,8 +55,12 @@ push boundary (last ∷ pending) = pick (cancels boundary last) pending (boundar
 unfoldable pub pushBlockBoundary : Boundary → Content → Content
 pushBlockBoundary boundary c =
     record {
-      text = c .text; namespace = c .namespace; opened = c .opened; pending = push boundary (c .pending);
-      sectionPending = c .sectionPending; panicked = c .panicked;
+      text = c .text;
+      namespace = c .namespace;
+      opened = c .opened;
+      pending = push boundary (c .pending);
+      sectionPending = c .sectionPending;
+      panicked = c .panicked;
     }
 
 abbrev pub beginBlock : Block → Content → Content
@@ -73,8 +81,12 @@ beginNamespaces (name ∷ names) c = beginNamespaces names (beginBlock (userDefi
 abbrev pub inNamespace : List Name → Content → Content
 inNamespace names c =
     record {
-      text = c .text; namespace = names; opened = c .opened; pending = c .pending;
-      sectionPending = c .sectionPending; panicked = c .panicked;
+      text = c .text;
+      namespace = names;
+      opened = c .opened;
+      pending = c .pending;
+      sectionPending = c .sectionPending;
+      panicked = c .panicked;
     }
 
 unfoldable pub setNamespace : List Name → Content → Content
@@ -94,20 +106,31 @@ abbrev pub flushBoundary : Boundary → Content → Content
 flushBoundary (begin block) c =
     record {
       text = c .text ++ pickText (c .sectionPending) (bytes "\n") [] ++ writeBegin block;
-      namespace = c .namespace; opened = block ∷ c .opened; pending = []; sectionPending = false;
+      namespace = c .namespace;
+      opened = block ∷ c .opened;
+      pending = [];
+      sectionPending = false;
       panicked = c .panicked;
     }
 flushBoundary (end block) c =
     record {
-      text = c .text ++ writeEnd block; namespace = c .namespace; opened = dropInnermost (c .opened); pending = [];
-      sectionPending = true; panicked = c .panicked || not (innermost block (c .opened));
+      text = c .text ++ writeEnd block;
+      namespace = c .namespace;
+      opened = dropInnermost (c .opened);
+      pending = [];
+      sectionPending = true;
+      panicked = c .panicked || not (innermost block (c .opened));
     }
 
 -- the pending boundaries, the oldest first
 unfoldable pub flushAll : List Boundary → Content → Content
 flushAll [] c =
     record {
-      text = c .text; namespace = c .namespace; opened = c .opened; pending = []; sectionPending = some (c .text);
+      text = c .text;
+      namespace = c .namespace;
+      opened = c .opened;
+      pending = [];
+      sectionPending = some (c .text);
       panicked = c .panicked;
     }
 flushAll (boundary ∷ older) c = flushBoundary boundary (flushAll older c)
@@ -123,7 +146,11 @@ abbrev pub append : List ℕ → Content → Content
 append s c =
     record {
       text = c .text ++ pickText (c .sectionPending && some (c .text)) (bytes "\n") [] ++ s;
-      namespace = c .namespace; opened = c .opened; pending = []; sectionPending = false; panicked = c .panicked;
+      namespace = c .namespace;
+      opened = c .opened;
+      pending = [];
+      sectionPending = false;
+      panicked = c .panicked;
     }
 
 -- "An empty write changes nothing"

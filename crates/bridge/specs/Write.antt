@@ -13,7 +13,8 @@ use Rattle.format.specs.declared.Template.the-variants.{RustBox, RustVec, Uniqu
 use Rattle.format.specs.declared.Pointer.{Pointer}
 use Rattle.format.specs.declared.Pointer.the-variants.{Ref, Ptr, SliceRef}
 use Rattle.format.specs.Types.{Ty, atom, named, template, pointer, fn, array, Ret, none, gives}
-use Rattle.format.specs.Sheet.{Name, Form, free, constMethod, mutMethod, associated, Argument, Function, Body, struct, enum, cxxType, rustType, function, Item, Sheet}
+use Rattle.format.specs.Sheet.{Name, Form, free, constMethod, mutMethod, associated, Argument, Function, Body, struct}
+use Rattle.format.specs.Sheet.{enum, cxxType, rustType, function, Item, Sheet}
 use Rattle.syntax.specs.Items.{itemAt, fullName, selfType}
 use Rattle.syntax.specs.Mangle.{externFn, operator}
 use Rattle.syntax.specs.Types.{needsIndirectAbi, isRustString}
@@ -21,7 +22,8 @@ use Rattle.rules.specs.Rules.{gather, isMethod}
 use Rattle.bridge.specs.Block.{externC}
 use Rattle.bridge.specs.Out.{Content, new, nextSection, beginBlock, endBlock, setNamespace, write, flush}
 use Rattle.bridge.specs.Nested.{filter, directContent, inner, nestedNames}
-use Rattle.bridge.specs.WriteType.{writeAtom, constUnless, spaceAfterType, writeType, writeTypeSpace, writeReturnType}
+use Rattle.bridge.specs.WriteType.{writeAtom, constUnless, spaceAfterType, writeType, writeTypeSpace}
+use Rattle.bridge.specs.WriteType.{writeReturnType}
 
 -- ---- forward declarations
 
@@ -135,7 +137,8 @@ externArgType items t other = writeTypeSpace items t
 
 unfoldable pub externArg : List Item → Argument → List ℕ
 externArg items a =
-    externArgType items (a .type) (shape (a .type)) ++ pickText (needsIndirectAbi items (a .type)) (bytes "*") [] ++ a .name
+    externArgType items (a .type) (shape (a .type)) ++ pickText (needsIndirectAbi items (a .type)) (bytes "*") []
+    ++ a .name
 
 -- the receiver's parameter, in a list of none or one
 abbrev pub receiver : List Item → Form → List (List ℕ)

@@ -1,2 +1,3 @@
 pub mod Computing
+pub mod ByHand
 pub mod Mill

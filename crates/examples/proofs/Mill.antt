@@ -19,17 +19,23 @@ mill =
 abbrev value : Sheet
 value =
     record {
-      header = false; doxygen = false;
+      header = false;
+      doxygen = false;
       items =
-        record { namespace = bytes "mill" ∷ []; cxx = bytes "Job"; body = rustType false }
-        ∷ record {
-          namespace = bytes "mill" ∷ []; cxx = bytes "count";
-          body = function (record {
-            rust = bytes "count"; form = free; throws = false; return = gives (atom U32);
-            arguments = record { name = bytes "job"; type = pointer Ref false (named 0) } ∷ []; comment = [];
-          });
-        }
-        ∷ [];
+          record { namespace = bytes "mill" ∷ []; cxx = bytes "Job"; body = rustType false }
+          ∷ record {
+            namespace = bytes "mill" ∷ [];
+            cxx = bytes "count";
+            body = function (record {
+              rust = bytes "count";
+              form = free;
+              throws = false;
+              return = gives (atom U32);
+              arguments = record { name = bytes "job"; type = pointer Ref false (named 0) } ∷ [];
+              comment = [];
+            });
+          }
+          ∷ [];
     }
 
 pub mill-decodes : judge mill ≡ accepted value
@@ -37,7 +43,7 @@ unfolding computes
 mill-decodes = refl
 
 pub mill-text :
-  text value ≡ bytes
+    text value ≡ bytes
     "namespace mill {\n  struct Job;\n}\n\nnamespace mill {\nextern \"C\" {\n::std::size_t mill$cxxbridge1$205$Job$operator$sizeof() noexcept;\n::std::size_t mill$cxxbridge1$205$Job$operator$alignof() noexcept;\n\n::std::uint32_t mill$cxxbridge1$205$count(::mill::Job const &job) noexcept;\n} // extern \"C\"\n\n::std::size_t Job::layout::size() noexcept {\n  return mill$cxxbridge1$205$Job$operator$sizeof();\n}\n\n::std::size_t Job::layout::align() noexcept {\n  return mill$cxxbridge1$205$Job$operator$alignof();\n}\n\n::std::uint32_t count(::mill::Job const &job) noexcept {\n  return mill$cxxbridge1$205$count(job);\n}\n} // namespace mill\n"
 unfolding computes
 mill-text = refl

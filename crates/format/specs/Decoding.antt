@@ -10,7 +10,8 @@ use Rattle.lexical.specs.Bytes.{within, every}
 use Rattle.lexical.specs.Names.{isName}
 use Rattle.format.specs.declared.Atom.{Atom}
 use Rattle.format.specs.declared.Atom.the-variants as Atom
-use Rattle.format.specs.declared.Template.the-variants.{RustBox, RustVec, UniquePtr, SharedPtr, WeakPtr, CxxVector}
+use Rattle.format.specs.declared.Template.the-variants.{RustBox, RustVec, UniquePtr, SharedPtr, WeakPtr}
+use Rattle.format.specs.declared.Template.the-variants.{CxxVector}
 use Rattle.format.specs.declared.Pointer.the-variants.{Ref, Ptr, SliceRef}
 use Rattle.format.specs.declared.TypeKind.{TypeKind}
 use Rattle.format.specs.declared.TypeKind.the-variants as Kind
@@ -19,7 +20,8 @@ use Rattle.format.specs.declared.ItemKind.the-variants as Part
 use Rattle.format.specs.Decode.{Got, fault, got, Dec, pick, after, _>>_, pure, refuse, unless, many}
 use Rattle.format.specs.Bits.{bits, bit, index}
 use Rattle.format.specs.Types.{Ty, atom, named, template, pointer, str, fn, array, Ret, none, gives, tys}
-use Rattle.format.specs.Sheet.{Name, Form, free, constMethod, mutMethod, associated, Argument, Function, Body, struct, enum, cxxType, rustType, function, Item, Sheet}
+use Rattle.format.specs.Sheet.{Name, Form, free, constMethod, mutMethod, associated, Argument, Function, Body}
+use Rattle.format.specs.Sheet.{struct, enum, cxxType, rustType, function, Item, Sheet}
 
 -- ---- names
 

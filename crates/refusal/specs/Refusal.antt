@@ -1,7 +1,9 @@
 -- The number of each refusal: the table of document 01, "The sheet".
 use Prim.Native.Nat.{ℕ}
 use Rattle.refusal.specs.declared.Refusal.{Refusal}
-use Rattle.refusal.specs.declared.Refusal.the-variants.{CutSheet, Edition, BadName, LooseIndex, BadKind, TooDeep, BadComment, Tail, WrongPart, Taken, UnfitArgument, Ring, Overrun}
+use Rattle.refusal.specs.declared.Refusal.the-variants.{CutSheet, Edition, BadName, LooseIndex, BadKind, TooDeep}
+use Rattle.refusal.specs.declared.Refusal.the-variants.{BadComment, Tail, WrongPart, Taken, UnfitArgument, Ring}
+use Rattle.refusal.specs.declared.Refusal.the-variants.{Overrun}
 
 abbrev pub numberOf : Refusal → ℕ
 numberOf CutSheet = 1

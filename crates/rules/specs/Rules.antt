@@ -8,7 +8,8 @@ use Rattle.format.specs.Decode.{pick}
 use Rattle.format.specs.declared.Template.{Template}
 use Rattle.format.specs.declared.Template.the-variants.{RustBox, RustVec, UniquePtr, SharedPtr, WeakPtr, CxxVector}
 use Rattle.format.specs.Types.{Ty, atom, named, template, pointer, str, fn, array, Ret, none, gives, Tys, nil, cons}
-use Rattle.format.specs.Sheet.{Name, Form, free, constMethod, mutMethod, associated, Argument, Function, Body, struct, enum, cxxType, rustType, function, Item}
+use Rattle.format.specs.Sheet.{Name, Form, free, constMethod, mutMethod, associated, Argument, Function, Body, struct}
+use Rattle.format.specs.Sheet.{enum, cxxType, rustType, function, Item}
 use Rattle.syntax.specs.Items.{itemAt, fullName, selfType, isFunction, isStruct}
 use Rattle.syntax.specs.Mangle.{externFn}
 use Rattle.syntax.specs.Types.{needsIndirectAbi, isRustString}

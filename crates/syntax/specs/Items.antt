@@ -4,7 +4,8 @@ use mathlib.Core.Bool.{Bool, true, false}
 use Prim.Native.Nat.{ℕ}
 use lib.ListN.{getD}
 use Rattle.lexical.specs.Bytes.{bytes}
-use Rattle.format.specs.Sheet.{Name, Form, free, constMethod, mutMethod, associated, Body, struct, enum, cxxType, rustType, function, Item}
+use Rattle.format.specs.Sheet.{Name, Form, free, constMethod, mutMethod, associated, Body, struct, enum, cxxType}
+use Rattle.format.specs.Sheet.{rustType, function, Item}
 
 -- an item that no accepted sheet names: every index of one has its entry
 abbrev noItem : Item

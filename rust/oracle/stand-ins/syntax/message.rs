@@ -1,0 +1,1 @@
+// Stand-in: the oracle needs nothing of this module.

@@ -1,0 +1,274 @@
+//! Sheets at document 01's limits, the same for every seed.
+
+use crate::{
+    Arg, Form, Function, Item, ItemIndex, Kind, NameIndex, Sheet, Type, encode, encode_bits, limit,
+};
+
+/// Each with what it shows.
+pub fn boundaries() -> Vec<(String, Vec<u8>)> {
+    let mut out = Vec::new();
+    let mut add = |label: String, bytes: Vec<u8>| out.push((label, bytes));
+
+    for flags in 0..4 {
+        let mut sheet = Sheet::empty();
+        sheet.header = flags & 2 != 0;
+        sheet.doxygen = flags & 1 != 0;
+        let bytes = encode(&sheet);
+        for len in 0..bytes.len() {
+            add(format!("empty, flags {flags}, cut at {len}"), bytes[..len].to_vec());
+        }
+        add(format!("empty, flags {flags}"), bytes);
+    }
+    for edition in 0..16 {
+        let mut sheet = Sheet::empty();
+        sheet.edition = edition;
+        add(format!("edition {edition}"), encode(&sheet));
+    }
+    for count in [0, 1, 2, 3, 4, 5, 8, 9, 16, 17, 512, 513, 1_022, 1_023] {
+        add(format!("{count} names"), encode(&names(count, count)));
+        if count > 0 && !count.is_power_of_two() {
+            add(format!("{count} names, index past the end"), encode(&names(count, count + 1)));
+        }
+    }
+    add("no name, but an item".into(), encode(&names(0, 1)));
+    for count in [1, 2, 3, 4, 5, 128, 129, 254, 255] {
+        add(format!("{count} items"), encode(&items(count)));
+    }
+    for len in [1, 2, 62, 63] {
+        let mut sheet = names(1, 1);
+        sheet.names[0] = vec![b'q'; len];
+        add(format!("name of {len} characters"), encode(&sheet));
+    }
+    for depth in 0..=limit::NAMESPACES {
+        add(format!("{depth} namespaces"), encode(&namespaces(depth)));
+    }
+    for count in [0, 1, 30, 31] {
+        add(format!("{count} arguments"), encode(&arguments(count, Form::Free)));
+        add(format!("{count} arguments of a method"), encode(&arguments(count, Form::MutMethod(0))));
+    }
+    for count in [0, 1, 62, 63] {
+        add(format!("{count} fields"), encode(&fields(count)));
+    }
+    for (lines, chars) in [(0, 0), (1, 0), (2, 0), (31, 0), (1, 1), (1, 127), (2, 127), (31, 127)] {
+        for doxygen in [false, true] {
+            let mut sheet = comment(lines, chars);
+            sheet.doxygen = doxygen;
+            let label = format!("{lines} comment lines of {chars}, Doxygen {doxygen}");
+            add(label, encode(&sheet));
+        }
+    }
+    for slots in [0, 1, 14, 15] {
+        for ret in [None, Some(Box::new(Type::Str))] {
+            let args = vec![Type::Atom(2); slots];
+            add(format!("{slots} slots in a Fn"), encode(&returns(Type::Fn { ret, args })));
+        }
+    }
+    for len in [0, 1, 9, 10, u32::MAX] {
+        let inner = Box::new(Type::Atom(0));
+        add(format!("array of {len}"), encode(&returns(Type::Array { inner, len })));
+    }
+    for kind in 0..WRAPPERS {
+        for depth in [8, 9] {
+            let mut ty = Type::Str;
+            for _ in 1..depth {
+                ty = wrap(kind, ty);
+            }
+            add(format!("wrapper {kind} at depth {depth}"), encode(&returns(ty)));
+        }
+        for unknown in [12, 15] {
+            for depth in [8, 9, 10] {
+                let mut ty = Type::Unknown(unknown);
+                for _ in 1..depth {
+                    ty = wrap(kind, ty);
+                }
+                let label = format!("wrapper {kind}, type kind {unknown} at depth {depth}");
+                add(label, encode(&returns(ty)));
+            }
+        }
+    }
+    for atom in 0..16 {
+        let mut sheet = names(1, 1);
+        sheet.items[0].kind = Kind::Enum {
+            pointer: false,
+            atom,
+            cxx: false,
+        };
+        add(format!("enum of atom {atom}"), encode(&sheet));
+        add(format!("atom {atom}"), encode(&returns(Type::Atom(atom))));
+    }
+    let longest = of_length(limit::SHEET_BYTES);
+    let mut grown = longest.clone();
+    grown.push(0);
+    add("32,768 bytes".into(), longest);
+    add("32,768 bytes and one more".into(), grown);
+    add("32,769 bytes".into(), of_length(limit::SHEET_BYTES + 1));
+    add("32,769 bytes of edition 0".into(), vec![0; limit::SHEET_BYTES + 1]);
+    add("32,768 bytes of edition 0".into(), vec![0; limit::SHEET_BYTES]);
+    out
+}
+
+/// Names `a0`, `a1` and so on, and an opaque type for the first and last used.
+fn names(count: usize, used: usize) -> Sheet {
+    let mut sheet = Sheet::empty();
+    sheet.names = (0..count).map(|i| format!("a{i}").into_bytes()).collect();
+    let mut indexes: Vec<usize> = vec![0, used.saturating_sub(1)];
+    indexes.dedup();
+    if used > 0 {
+        sheet.items = indexes
+            .into_iter()
+            .map(|index| Item {
+                namespace: Vec::new(),
+                name: index as NameIndex,
+                kind: Kind::RustType { pointer: true },
+            })
+            .collect();
+    }
+    sheet
+}
+
+/// C++ types, and as the last item a function that names the first and the last of them.
+fn items(count: usize) -> Sheet {
+    let mut sheet = names(count, 1);
+    let mut item = sheet.items.remove(0);
+    for index in 1..count {
+        item.name = index as NameIndex;
+        item.kind = Kind::CxxType { pointer: true };
+        sheet.items.push(item.clone());
+    }
+    let mut function = function();
+    if count > 1 {
+        function.form = Form::ConstMethod((count - 2) as ItemIndex);
+        function.ret = Some(Type::Named(0));
+    }
+    item.name = 0;
+    item.kind = Kind::Function(function);
+    sheet.items.push(item);
+    sheet
+}
+
+fn function() -> Function {
+    Function {
+        rust_name: 0,
+        form: Form::Free,
+        throws: false,
+        ret: None,
+        args: Vec::new(),
+        comment: Vec::new(),
+    }
+}
+
+fn with_function(names: usize, function: Function) -> Sheet {
+    let mut sheet = self::names(names, 1);
+    let kind = Kind::Function(function);
+    sheet.items.push(Item {
+        namespace: Vec::new(),
+        name: 0,
+        kind,
+    });
+    sheet
+}
+
+fn namespaces(depth: usize) -> Sheet {
+    let mut sheet = with_function(limit::NAMESPACES + 1, function());
+    for item in &mut sheet.items {
+        item.namespace = (1..=depth).map(|i| i as NameIndex).collect();
+    }
+    sheet
+}
+
+fn arguments(count: usize, form: Form) -> Sheet {
+    let types = [
+        Type::Atom(15),
+        Type::Named(0),
+        Type::RustBox(Box::new(Type::Named(0))),
+        Type::UniquePtr(Box::new(Type::Named(0))),
+        Type::RustVec(Box::new(Type::Str)),
+        Type::Str,
+    ];
+    let mut function = function();
+    function.form = form;
+    function.throws = true;
+    function.args = (0..count)
+        .map(|i| Arg {
+            name: i as NameIndex,
+            ty: types[i % types.len()].clone(),
+        })
+        .collect();
+    with_function(count.max(1), function)
+}
+
+fn fields(count: usize) -> Sheet {
+    let mut sheet = names(2, 2);
+    sheet.items[1].kind = Kind::Struct {
+        pointer: true,
+        fields: vec![Type::Named(0); count],
+    };
+    sheet
+}
+
+fn comment(lines: usize, chars: usize) -> Sheet {
+    let mut function = function();
+    function.comment = vec![vec![b'!'; chars]; lines];
+    with_function(1, function)
+}
+
+fn returns(ty: Type) -> Sheet {
+    let mut function = function();
+    function.ret = Some(ty);
+    with_function(1, function)
+}
+
+const WRAPPERS: usize = 12;
+
+fn wrap(kind: usize, ty: Type) -> Type {
+    let inner = Box::new(ty);
+    let mutable = false;
+    match kind {
+        0 => Type::RustBox(inner),
+        1 => Type::RustVec(inner),
+        2 => Type::UniquePtr(inner),
+        3 => Type::SharedPtr(inner),
+        4 => Type::WeakPtr(inner),
+        5 => Type::Ref { mutable, inner },
+        6 => Type::Ptr { mutable, inner },
+        7 => Type::CxxVector(inner),
+        8 => Type::SliceRef { mutable, inner },
+        9 => Type::Array { inner, len: 7 },
+        10 => Type::Fn {
+            ret: Some(inner),
+            args: vec![Type::Str],
+        },
+        _ => Type::Fn {
+            ret: None,
+            args: vec![Type::Str, *inner],
+        },
+    }
+}
+
+/// An otherwise good sheet of exactly this many bytes, filled with comments.
+fn of_length(bytes: usize) -> Vec<u8> {
+    let mut sheet = with_function(16, function());
+    loop {
+        let (encoded, bits) = encode_bits(&sheet);
+        if encoded.len() == bytes {
+            return encoded;
+        }
+        let functions = sheet.items.len() - 1;
+        let Kind::Function(function) = &mut sheet.items.last_mut().unwrap().kind else {
+            unreachable!("the last item is a function");
+        };
+        if function.comment.len() < limit::COMMENT_LINES {
+            // A line takes 7 bits for its length and 7 for each character.
+            let room = (bytes * 8 - bits) / 7 - 1;
+            let line = vec![b'/'; room.min(limit::COMMENT_CHARS)];
+            function.comment.push(line);
+        } else {
+            let mut next = sheet.items[1].clone();
+            if let Kind::Function(function) = &mut next.kind {
+                function.rust_name = functions as NameIndex;
+                function.comment.clear();
+            }
+            sheet.items.push(next);
+        }
+    }
+}

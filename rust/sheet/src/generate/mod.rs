@@ -1,0 +1,69 @@
+//! Sheets from a seed: accepted ones, the same with chosen faults, damaged
+//! copies, structs that hold one another, and the limits.
+
+mod boundary;
+mod fault;
+mod good;
+mod graph;
+
+pub use boundary::boundaries;
+pub use fault::faulty;
+pub use good::good;
+pub use graph::graph;
+
+use crate::{Refusal, Rng, encode};
+
+/// Any sheet: about half of them are accepted.
+pub fn any(rng: &mut Rng) -> Vec<u8> {
+    match rng.below(40) {
+        0..=20 => encode(&good(rng)),
+        21..=27 => {
+            let refusal = *rng.pick(&Refusal::ALL);
+            faulty(rng, &[refusal])
+        }
+        28..=31 => {
+            let first = *rng.pick(&Refusal::ALL);
+            let second = *rng.pick(&Refusal::ALL);
+            faulty(rng, &[first, second])
+        }
+        32..=35 => damaged(rng),
+        36..=38 => encode(&graph(rng)),
+        _ => noise(rng),
+    }
+}
+
+/// A good sheet with flipped bits, cut short, grown, or with bytes replaced.
+pub fn damaged(rng: &mut Rng) -> Vec<u8> {
+    let mut bytes = encode(&good(rng));
+    for _ in 0..rng.between(1, 3) {
+        match rng.below(6) {
+            0 => bytes.truncate(rng.below(bytes.len() + 1)),
+            1 => {
+                let extra = rng.between(1, 3);
+                let fill = if rng.bit() { 0 } else { rng.next() as u8 };
+                bytes.resize(bytes.len() + extra, fill);
+            }
+            2 if !bytes.is_empty() => {
+                let at = rng.below(bytes.len());
+                bytes[at] = rng.next() as u8;
+            }
+            _ if !bytes.is_empty() => {
+                let at = rng.below(bytes.len());
+                bytes[at] ^= 1 << rng.below(8);
+            }
+            _ => {}
+        }
+    }
+    bytes
+}
+
+/// A few random bytes, mostly behind a whole edition.
+fn noise(rng: &mut Rng) -> Vec<u8> {
+    let mut bytes: Vec<u8> = (0..rng.below(24)).map(|_| rng.next() as u8).collect();
+    if let Some(first) = bytes.first_mut()
+        && !rng.one_in(8)
+    {
+        *first = 0x10 | *first & 0x0c;
+    }
+    bytes
+}
