@@ -1,0 +1,109 @@
+-- What each item of an accepted sheet keeps, by itself.
+use mathlib.Core.Path.{_≡_, refl, sym, _∙_, ap}
+use mathlib.Core.List.{List, [], _∷_, _++_, map}
+use mathlib.Core.Bool.{Bool, true, false, _&&_, _||_, not, false≢true}
+use Prim.Native.Nat.{ℕ, zero, suc, _<_}
+use native.Mathlib.Omega.{arith}
+use lib.Dec.{leb}
+use lib.ListN.{length, getD}
+use Rattle.lexical.specs.Bytes.{every, same}
+use Rattle.lexical.specs.Names.{isName}
+use Rattle.lexical.proofs.BoolLaws.{both, neither}
+use Rattle.format.specs.Sheet.{Name, Argument, Function, Body, struct, enum, cxxType, rustType, function, Item, Sheet}
+use Rattle.rules.specs.Rules.{any, twice, gather, functionOf, functions, reservedNamespace, typeName, symbol, taken}
+use Rattle.rules.specs.Rules.{unfit, unfitArgument}
+use Rattle.decoded.specs.Fits.{functionFits, bodyFits, itemFits, sheetFits}
+use Rattle.decoded.proofs.Accepted.{Accepted}
+
+-- each element has the property
+abbrev pub All : {A : Type 0} → (A → Type 0) → List A → Type 0
+All P [] = Unit {0}
+All P (x ∷ xs) = P x × All P xs
+
+pub all-at : {A : Type 0} (P : A → Type 0) (xs : List A) (i : ℕ) (d : A) → All P xs → i < length xs → P (getD xs i d)
+all-at P [] i d h l = absurd (omega arith)
+all-at P (x ∷ xs) zero d h l = h .0
+all-at P (x ∷ xs) (suc i) d h l = all-at P xs i d (h .1) (omega arith)
+
+abbrev pub argumentNames : Function → List Name
+argumentNames f = map (λ a. a .name) (f .arguments)
+
+pub record FunctionKept (items : List Item) (f : Function) : Type 0 where
+  pub fits : functionFits (length items) f ≡ true
+  pub distinct : twice same (argumentNames f) ≡ false
+  pub fitting : any (unfit items f) (f .arguments) ≡ false
+
+pub record ItemKept (items : List Item) (x : Item) : Type 0 where
+  pub shallow : leb (length (x .namespace)) 7 ≡ true
+  pub namespaceNames : every isName (x .namespace) ≡ true
+  pub cxxName : isName (x .cxx) ≡ true
+  pub unreserved : reservedNamespace (x .namespace) ≡ false
+  pub function : (f : Function) → x .body ≡ function f → FunctionKept items f
+
+-- what rule 10 leaves
+pub record Untaken (items : List Item) : Type 0 where
+  pub unreserved : any (λ x. reservedNamespace (x .namespace)) items ≡ false
+  pub types : twice same (gather typeName items) ≡ false
+  pub symbols : twice same (gather (symbol items) items) ≡ false
+  pub arguments : any (λ f. twice same (argumentNames f)) (functions items) ≡ false
+
+pub untaken : (items : List Item) → taken items ≡ false → Untaken items
+unfolding taken
+untaken items h =
+    let a = neither _ _ h in
+    let b = neither _ _ (a .0) in
+    let c = neither _ _ (b .0) in
+    record { unreserved = c .0; types = c .1; symbols = b .1; arguments = a .1 }
+
+module _ {A : Type 0} (test : A → Bool) where
+  any-split : (xs ys : List A) → any test (xs ++ ys) ≡ false → (any test xs ≡ false) × (any test ys ≡ false)
+  unfolding any
+  any-split [] ys h = (refl, h)
+  any-split (x ∷ xs) ys h =
+      let q = neither (test x) (any test (xs ++ ys)) h in
+      let p = any-split xs ys (q .1) in
+      (rw (q .0) (p .0), p .1)
+
+-- an item whose own facts are at hand, of a sheet of these items
+item-kept : (items : List Item) (x : Item) → itemFits (length items) x ≡ true → reservedNamespace (x .namespace) ≡ false →
+    any (λ f. twice same (argumentNames f)) (functionOf (x .body)) ≡ false →
+    any (λ f. any (unfit items f) (f .arguments)) (functionOf (x .body)) ≡ false → ItemKept items x
+unfolding any itemFits bodyFits
+item-kept items x h u d g =
+    let n = length items in
+    let a = both (leb (length (x .namespace)) 7) _ h in
+    let b = both (every isName (x .namespace)) _ (a .1) in
+    let c = both (isName (x .cxx)) (bodyFits n (x .body)) (b .1) in
+    record {
+      shallow = a .0;
+      namespaceNames = b .0;
+      cxxName = c .0;
+      unreserved = u;
+      function =
+          λ f e. record {
+            fits = rw e at (c .1);
+            distinct = neither _ _ (rw e at d) .0;
+            fitting = neither _ _ (rw e at g) .0;
+          };
+    }
+
+-- every item of the list, where the whole sheet has these items
+each-kept : (items xs : List Item) → every (itemFits (length items)) xs ≡ true →
+    any (λ x. reservedNamespace (x .namespace)) xs ≡ false →
+    any (λ f. twice same (argumentNames f)) (functions xs) ≡ false →
+    any (λ f. any (unfit items f) (f .arguments)) (functions xs) ≡ false → All (ItemKept items) xs
+unfolding every any gather
+each-kept items [] h u d g = tt
+each-kept items (x ∷ xs) h u d g =
+    let a = both (itemFits (length items) x) _ h in
+    let b = neither (reservedNamespace (x .namespace)) _ u in
+    let c = any-split (λ f. twice same (argumentNames f)) (functionOf (x .body)) (functions xs) d in
+    let e = any-split (λ f. any (unfit items f) (f .arguments)) (functionOf (x .body)) (functions xs) g in
+    (item-kept items x (a .0) (b .0) (c .0) (e .0), each-kept items xs (a .1) (b .1) (c .1) (e .1))
+
+pub accepted-kept : (s : List ℕ) (x : Sheet) → Accepted s x → All (ItemKept (x .items)) (x .items)
+unfolding sheetFits unfitArgument
+accepted-kept s x h =
+    let items = x .items in
+    let u = untaken items (h .notTaken) in
+    each-kept items items (both (leb (length items) 255) _ (h .fits) .1) (u .unreserved) (u .arguments) (h .fitArguments)

@@ -1,0 +1,4 @@
+pub mod Yields
+pub mod Decoded
+pub mod Accepted
+pub mod Kept
