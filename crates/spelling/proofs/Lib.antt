@@ -1,0 +1,4 @@
+pub mod Spells
+pub mod ArrayLength
+pub mod TypeSpelling
+pub mod TypeRules
