@@ -57,15 +57,15 @@ nameOf-passes names h =
 
 -- ---- types
 
-fits-depth : (levels items : ℕ) (t : Ty) → typeFits levels items t ≡ true → depth t ≤ levels
+pub fits-depth : (levels items : ℕ) (t : Ty) → typeFits levels items t ≡ true → depth t ≤ levels
 unfolding typeFits
 fits-depth levels items t h = leb-true (depth t) levels (both (leb (depth t) levels) (partsFit items t) h .0)
 
-fits-parts : (levels items : ℕ) (t : Ty) → typeFits levels items t ≡ true → partsFit items t ≡ true
+pub fits-parts : (levels items : ℕ) (t : Ty) → typeFits levels items t ≡ true → partsFit items t ≡ true
 unfolding typeFits
 fits-parts levels items t h = both (leb (depth t) levels) (partsFit items t) h .1
 
-fits : (levels items : ℕ) (t : Ty) → depth t ≤ levels → partsFit items t ≡ true → typeFits levels items t ≡ true
+pub fits : (levels items : ℕ) (t : Ty) → depth t ≤ levels → partsFit items t ≡ true → typeFits levels items t ≡ true
 unfolding typeFits
 fits levels items t l h = and-of (leb (depth t) levels) (partsFit items t) (le-leb (depth t) levels l) h
 

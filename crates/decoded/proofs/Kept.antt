@@ -12,7 +12,9 @@ use Rattle.lexical.proofs.BoolLaws.{both, neither}
 use Rattle.format.specs.Sheet.{Name, Argument, Function, Body, struct, enum, cxxType, rustType, function, Item, Sheet}
 use Rattle.rules.specs.Rules.{any, twice, gather, functionOf, functions, reservedNamespace, typeName, symbol, taken}
 use Rattle.rules.specs.Rules.{unfit, unfitArgument}
-use Rattle.decoded.specs.Fits.{functionFits, bodyFits, itemFits, sheetFits}
+use Rattle.decoded.specs.Fits
+use Rattle.decoded.specs.Fits.{returnFits, argumentFits, formFits, commentFits, functionFits, bodyFits, itemFits}
+use Rattle.decoded.specs.Fits.{sheetFits}
 use Rattle.decoded.proofs.Accepted.{Accepted}
 
 -- each element has the property
@@ -29,7 +31,13 @@ abbrev pub argumentNames : Function → List Name
 argumentNames f = map (λ a. a .name) (f .arguments)
 
 pub record FunctionKept (items : List Item) (f : Function) : Type 0 where
-  pub fits : functionFits (length items) f ≡ true
+  pub rustName : isName (f .rust) ≡ true
+  pub formFits : formFits (length items) (f .form) ≡ true
+  pub returnFits : returnFits (length items) (f .return) ≡ true
+  pub fewArguments : leb (length (f .arguments)) 31 ≡ true
+  pub argumentsFit : every (argumentFits (length items)) (f .arguments) ≡ true
+  pub fewLines : leb (length (f .comment)) 31 ≡ true
+  pub linesFit : every commentFits (f .comment) ≡ true
   pub distinct : twice same (argumentNames f) ≡ false
   pub fitting : any (unfit items f) (f .arguments) ≡ false
 
@@ -64,6 +72,29 @@ module _ {A : Type 0} (test : A → Bool) where
       let p = any-split xs ys (q .1) in
       (rw (q .0) (p .0), p .1)
 
+function-kept : (items : List Item) (f : Function) → functionFits (length items) f ≡ true →
+    twice same (argumentNames f) ≡ false → any (unfit items f) (f .arguments) ≡ false → FunctionKept items f
+unfolding functionFits
+function-kept items f h d g =
+    let n = length items in
+    let a = both (isName (f .rust)) _ h in
+    let b = both (Fits.formFits n (f .form)) _ (a .1) in
+    let c = both (Fits.returnFits n (f .return)) _ (b .1) in
+    let e = both (leb (length (f .arguments)) 31) _ (c .1) in
+    let k = both (every (argumentFits n) (f .arguments)) _ (e .1) in
+    let l = both (leb (length (f .comment)) 31) (every commentFits (f .comment)) (k .1) in
+    record {
+      rustName = a .0;
+      formFits = b .0;
+      returnFits = c .0;
+      fewArguments = e .0;
+      argumentsFit = k .0;
+      fewLines = l .0;
+      linesFit = l .1;
+      distinct = d;
+      fitting = g;
+    }
+
 -- an item whose own facts are at hand, of a sheet of these items
 item-kept : (items : List Item) (x : Item) → itemFits (length items) x ≡ true → reservedNamespace (x .namespace) ≡ false →
     any (λ f. twice same (argumentNames f)) (functionOf (x .body)) ≡ false →
@@ -80,11 +111,7 @@ item-kept items x h u d g =
       cxxName = c .0;
       unreserved = u;
       function =
-          λ f e. record {
-            fits = rw e at (c .1);
-            distinct = neither _ _ (rw e at d) .0;
-            fitting = neither _ _ (rw e at g) .0;
-          };
+          λ f e. function-kept items f (rw e at (c .1)) (neither _ _ (rw e at d) .0) (neither _ _ (rw e at g) .0);
     }
 
 -- every item of the list, where the whole sheet has these items

@@ -1,4 +1,9 @@
 pub mod Spells
+pub mod Lists
 pub mod ArrayLength
 pub mod TypeSpelling
 pub mod TypeRules
+pub mod Symbols
+pub mod Shapes
+pub mod DeclarationSpelling
+pub mod DeclarationRules

@@ -123,8 +123,24 @@ module _ (items : List Item) (kept : All (ItemKept items) items) where
         let q = both (partsFit (length items) t) (partsFitTys (length items) ts) h in
         and-of (partsOk (cxxType items t)) (allPartsOk (cxxTypes items ts)) (parts-ok t (q .0)) (all-parts ts (q .1))
 
-  pub type-ok : (t : Ty) → typeFits 8 (length items) t ≡ true → typeOk 8 (cxxType items t) ≡ true
+  pub type-ok : (limit : ℕ) (t : Ty) → typeFits limit (length items) t ≡ true → typeOk limit (cxxType items t) ≡ true
   unfolding typeFits
-  type-ok t h =
-      let q = both (leb (depth t) 8) (partsFit (length items) t) h in
-      and-of (leb (levels (cxxType items t)) 8) (partsOk (cxxType items t)) (rw (levels-depth items t) (q .0)) (parts-ok t (q .1))
+  type-ok limit t h =
+      let q = both (leb (depth t) limit) (partsFit (length items) t) h in
+      and-of (leb (levels (cxxType items t)) limit) (partsOk (cxxType items t))
+      (rw (levels-depth items t) (q .0)) (parts-ok t (q .1))
+
+-- ---- one more level
+
+pub suffix-ok : (limit : ℕ) (s : Suffix) (x : CxxType) → typeOk limit x ≡ true → typeOk (suc limit) (withSuffix s x) ≡ true
+suffix-ok limit s x h =
+    let q = both (leb (levels x) limit) (partsOk x) h in
+    let l : levels x ≤ limit = leb-true (levels x) limit (q .0) in
+    and-of (leb (levels (withSuffix s x)) (suc limit)) (partsOk (withSuffix s x))
+    (le-leb (levels (withSuffix s x)) (suc limit) (omega (arith, suffix-levels s x))) (suffix-parts s x ∙ q .1)
+
+pub higher-ok : (limit : ℕ) (x : CxxType) → typeOk limit x ≡ true → typeOk (suc limit) x ≡ true
+higher-ok limit x h =
+    let q = both (leb (levels x) limit) (partsOk x) h in
+    let l : levels x ≤ limit = leb-true (levels x) limit (q .0) in
+    and-of (leb (levels x) (suc limit)) (partsOk x) (le-leb (levels x) (suc limit) (omega arith)) (q .1)

@@ -85,7 +85,7 @@ unfolding every
 const-spells true = empty
 const-spells false = lit "const " refl
 
-pointerEnd-spells : (mutable : Bool) → Spells closed (pointerEnd Ptr mutable) (suffixTokens (Cxx.pointer (not mutable)))
+pub pointerEnd-spells : (mutable : Bool) → Spells closed (pointerEnd Ptr mutable) (suffixTokens (Cxx.pointer (not mutable)))
 pointerEnd-spells mutable = const-spells mutable ▷ lit "*" refl
 
 referenceEnd-spells : (mutable : Bool) →
@@ -125,14 +125,18 @@ space-spells (fn r ts) p = p ▷ lit " " refl
 space-spells (array t n) p = p ▷ lit " " refl
 
 -- a suffix behind a type
+pub suffix-tokens : (s : Suffix) (x : CxxType) (ts : List Token) →
+    typeTokens x (suffixTokens s ts) ≡ typeTokens (withSuffix s x) ts
+suffix-tokens s (suffixed base suffixes) ts = ap (baseTokens base) (go suffixes)
+  where
+    go : (ss : List Suffix) →
+        eachTokens suffixTokens ss (suffixTokens s ts) ≡ eachTokens suffixTokens (ss ++ (s ∷ [])) ts
+    go [] = refl
+    go (x ∷ ss) = ap (suffixTokens x) (go ss)
+
 pub suffix-spells : {a b : List ℕ} (s : Suffix) (x : CxxType) → Spells closed a (typeTokens x) →
     Spells closed b (suffixTokens s) → Spells closed (a ++ b) (typeTokens (withSuffix s x))
-suffix-spells s (suffixed base suffixes) p q = as-tokens (λ ts. ap (baseTokens base) (go suffixes ts)) (p ▷ q)
-  where
-    go : (ss : List Suffix) (ts : List Token) →
-        eachTokens suffixTokens ss (suffixTokens s ts) ≡ eachTokens suffixTokens (ss ++ (s ∷ [])) ts
-    go [] ts = refl
-    go (x ∷ ss) ts = ap (suffixTokens x) (go ss ts)
+suffix-spells s x p q = as-tokens (suffix-tokens s x) (p ▷ q)
 
 module _ (items : List Item) (kept : All (ItemKept items) items) where
   pub item-kept : (i : ℕ) → ltb i (length items) ≡ true → ItemKept items (itemAt items i)

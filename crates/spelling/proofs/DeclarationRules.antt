@@ -1,0 +1,219 @@
+-- The trees of declarations and layout definitions keep the grammar's rules.
+use mathlib.Core.Path.{_≡_, refl, ap, _∙_, sym}
+use mathlib.Core.List.{List, [], _∷_, _++_, map}
+use mathlib.Core.Bool.{Bool, true, false, _&&_, _||_, not}
+use Prim.Native.Nat.{ℕ, suc, _+_, _≤_}
+use native.Mathlib.Omega.{arith}
+use borrow.Author.Tests.{leb-true, le-leb}
+use lib.Dec.{leb, ltb}
+use lib.ListN.{length}
+use Rattle.lexical.specs.Bytes.{bytes, every, same, member}
+use Rattle.lexical.specs.Names.{nameShape, nameOk, keywords, alternativeTokens, reserved, isName}
+use Rattle.lexical.proofs.BoolLaws.{both, and-of, by-cases}
+use Rattle.lexical.proofs.ByteLaws.{every-cons, every-append}
+use Rattle.format.specs.Decode.{pick}
+use Rattle.format.specs.declared.Template.{Template}
+use Rattle.format.specs.declared.Template.the-variants.{RustBox, UniquePtr}
+use Rattle.format.specs.declared.Pointer.{Pointer}
+use Rattle.format.specs.declared.Pointer.the-variants.{Ref, SliceRef}
+use Rattle.format.specs.Types.{Ty, template, pointer, str, Ret, none, gives}
+use Rattle.format.specs.Sheet.{Form, free, constMethod, mutMethod, associated, Argument, Function, Item}
+use Rattle.syntax.specs.Items.{itemAt}
+use Rattle.syntax.specs.Mangle.{externFn, operator}
+use Rattle.syntax.specs.Types.{needsIndirectAbi}
+use Rattle.decoded.specs.Fits.{depth, partsFit, typeFits, returnFits, argumentFits, formFits}
+use Rattle.decoded.proofs.Decoded.{fits-depth, fits-parts, fits}
+use Rattle.decoded.proofs.Kept.{All, ItemKept, FunctionKept}
+use Rattle.bridge.specs.Write.{indirectReturn, Shape, shape, slot}
+use Rattle.grammar.specs.Types as Cxx
+use Rattle.grammar.specs.Types.{CxxType, suffixed}
+use Rattle.grammar.specs.Tree as Tree
+use Rattle.grammar.specs.Tree.{Parameter, Measure}
+use Rattle.grammar.specs.Rules.{isSymbol, fullNameOk, levels, partsOk, typeOk, resultOk, isMain, declaredOk}
+use Rattle.grammar.specs.Rules.{declaredArguments, declarationOk, layoutOk}
+use Rattle.spelling.specs.TypeTree.{itemPath, pointerTo, cxxType}
+use Rattle.spelling.specs.DeclarationTree.{directResult, directResultOf, declaredResult, declaredReceiver}
+use Rattle.spelling.specs.DeclarationTree.{declaredType, declaredArgument, slotTree, declaredSlot, declaredParameters}
+use Rattle.spelling.specs.DeclarationTree.{declarationOf, layoutDeclarationOf, operatorName, layoutDefinitionOf}
+use Rattle.spelling.proofs.TypeSpelling.{item-kept}
+use Rattle.spelling.proofs.TypeRules.{itemPath-ok, type-ok, suffix-ok, higher-ok}
+use Rattle.spelling.proofs.Shapes.{Shaped, isBox, isUniquePtr, isRef, isStr, isSlice, isOther, shaped}
+use Rattle.spelling.proofs.Symbols.{externFn-symbol, operator-symbol}
+use Rattle.spelling.proofs.DeclarationSpelling.{slot-fits}
+
+self-name : isName (bytes "self") ≡ true
+unfolding every same member nameShape nameOk keywords alternativeTokens reserved
+self-name = refl
+
+-- the type inside one that fits has a level less
+below : (limit items : ℕ) (outer t : Ty) → depth outer ≡ suc (depth t) → partsFit items outer ≡ partsFit items t →
+    typeFits (suc limit) items outer ≡ true → typeFits limit items t ≡ true
+below limit items outer t d p h =
+    fits limit items t (omega (arith, fits-depth (suc limit) items outer h, d))
+    (sym p ∙ fits-parts (suc limit) items outer h)
+
+-- ---- how many arguments are declared
+
+arguments-append : (ps qs : List Parameter) →
+    declaredArguments (ps ++ qs) ≡ declaredArguments ps + declaredArguments qs
+unfolding declaredArguments
+arguments-append [] qs = omega arith
+arguments-append (Tree.named x name ∷ ps) qs =
+    by-cases (same name (bytes "self"))
+    (λ e. rw (e, declaredArguments) (arguments-append ps qs))
+    (λ e. rw (e, declaredArguments) (omega (arith, arguments-append ps qs)))
+arguments-append (Tree.slot x ∷ ps) qs = arguments-append ps qs
+
+few-arguments : (items : List Item) (xs : List Argument) → declaredArguments (map (declaredArgument items) xs) ≤ length xs
+unfolding declaredArguments declaredArgument
+few-arguments items [] = omega arith
+few-arguments items (a ∷ xs) =
+    by-cases (same (a .name) (bytes "self"))
+    (λ e. rw (e, declaredArguments) (omega (arith, few-arguments items xs)))
+    (λ e. rw (e, declaredArguments) (omega (arith, few-arguments items xs)))
+
+no-arguments : (items : List Item) (ts : List Ty) → declaredArguments (map (declaredSlot items) ts) ≡ 0
+unfolding declaredArguments
+no-arguments items [] = refl
+no-arguments items (t ∷ ts) = no-arguments items ts
+
+no-argument : (items : List Item) (form : Form) → declaredArguments (declaredReceiver items form) ≡ 0
+unfolding declaredArguments same
+no-argument items free = refl
+no-argument items (constMethod i) = refl
+no-argument items (mutMethod i) = refl
+no-argument items (associated i) = refl
+
+module _ (items : List Item) (kept : All (ItemKept items) items) where
+  -- ---- types
+
+  pub pointer-ok : (m : Bool) (limit : ℕ) (t : Ty) → typeFits limit (length items) t ≡ true →
+      typeOk (suc limit) (pointerTo m (cxxType items t)) ≡ true
+  pointer-ok m limit t h = suffix-ok limit (Cxx.pointer (not m)) (cxxType items t) (type-ok items kept limit t h)
+
+  template-below : (k : Template) (t : Ty) → typeFits 8 (length items) (template k t) ≡ true → typeFits 7 (length items) t ≡ true
+  unfolding depth partsFit
+  template-below k t h = below 7 (length items) (template k t) t refl refl h
+
+  pointer-below : (k : Pointer) (m : Bool) (t : Ty) → typeFits 8 (length items) (pointer k m t) ≡ true →
+      typeFits 7 (length items) t ≡ true
+  unfolding depth partsFit
+  pointer-below k m t h = below 7 (length items) (pointer k m t) t refl refl h
+
+  declaredType-ok : {t : Ty} {k : Shape} → Shaped t k → typeFits 8 (length items) t ≡ true →
+      typeOk 8 (declaredType items t k) ≡ true
+  declaredType-ok (isBox t) h = pointer-ok true 7 t (template-below RustBox t h)
+  declaredType-ok (isUniquePtr t) h = pointer-ok true 7 t (template-below UniquePtr t h)
+  declaredType-ok (isRef m t) h = type-ok items kept 8 (pointer Ref m t) h
+  declaredType-ok isStr h = type-ok items kept 8 str h
+  declaredType-ok (isSlice m t) h = type-ok items kept 8 (pointer SliceRef m t) h
+  declaredType-ok (isOther t) h = type-ok items kept 8 t h
+
+  pub slotTree-ok : {t : Ty} {k : Shape} → Shaped t k → typeFits 8 (length items) t ≡ true →
+      typeOk 8 (slotTree items t k) ≡ true
+  slotTree-ok (isRef m t) h = pointer-ok m 7 t (pointer-below Ref m t h)
+  slotTree-ok (isBox t) h = type-ok items kept 8 (template RustBox t) h
+  slotTree-ok (isUniquePtr t) h = type-ok items kept 8 (template UniquePtr t) h
+  slotTree-ok isStr h = type-ok items kept 8 str h
+  slotTree-ok (isSlice m t) h = type-ok items kept 8 (pointer SliceRef m t) h
+  slotTree-ok (isOther t) h = type-ok items kept 8 t h
+
+  -- ---- results
+
+  directResult-ok : (main : Bool) {t : Ty} {k : Shape} → Shaped t k → typeFits 8 (length items) t ≡ true →
+      resultOk main (directResult items t k) ≡ true
+  unfolding resultOk
+  directResult-ok main (isBox t) h = pointer-ok true 7 t (template-below RustBox t h)
+  directResult-ok main (isUniquePtr t) h = pointer-ok true 7 t (template-below UniquePtr t h)
+  directResult-ok main (isRef m t) h = pointer-ok m 7 t (pointer-below Ref m t h)
+  directResult-ok main isStr h = refl
+  directResult-ok main (isSlice m t) h = refl
+  directResult-ok main (isOther t) h = type-ok items kept 8 t h
+
+  declaredResult-ok : (main : Bool) (f : Function) → FunctionKept items f → resultOk main (declaredResult items f) ≡ true
+  unfolding resultOk declaredResult returnFits
+  declaredResult-ok main f g = go (f .throws) (indirectReturn items f (f .return)) (f .return) (g .returnFits)
+    where
+      go : (throws indirect : Bool) (r : Ret) → returnFits (length items) r ≡ true →
+          resultOk main (pick throws Tree.ptrLen (pick indirect Tree.void (directResultOf items r))) ≡ true
+      go true indirect r h = refl
+      go false true r h = refl
+      go false false none h = refl
+      go false false (gives t) h = directResult-ok main (shaped t) h
+
+  -- ---- parameters
+
+  receiver-ok : (form : Form) → formFits (length items) form ≡ true → every declaredOk (declaredReceiver items form) ≡ true
+  unfolding every declaredOk levels partsOk formFits
+  receiver-ok free h = refl
+  receiver-ok (constMethod i) h = rw (itemPath-ok items kept (itemAt items i) (item-kept items kept i h), self-name)
+  receiver-ok (mutMethod i) h = rw (itemPath-ok items kept (itemAt items i) (item-kept items kept i h), self-name)
+  receiver-ok (associated i) h = refl
+
+  -- one `*` more is level 9 at most
+  star-ok : (b : Bool) (x : CxxType) → typeOk 8 x ≡ true → typeOk 9 (pick b (pointerTo true x) x) ≡ true
+  star-ok true x h = suffix-ok 8 (Cxx.pointer false) x h
+  star-ok false x h = higher-ok 8 x h
+
+  arguments-ok : (xs : List Argument) → every (argumentFits (length items)) xs ≡ true →
+      every declaredOk (map (declaredArgument items) xs) ≡ true
+  unfolding every declaredOk declaredArgument argumentFits
+  arguments-ok [] h = refl
+  arguments-ok (a ∷ xs) h =
+      let q = both (argumentFits (length items) a) _ h in
+      let p = both (isName (a .name)) (typeFits 8 (length items) (a .type)) (q .0) in
+      rw (star-ok (needsIndirectAbi items (a .type)) _ (declaredType-ok (shaped (a .type)) (p .1)), p .0) (arguments-ok xs (q .1))
+
+  slots-ok : (ts : List Ty) → every (typeFits 8 (length items)) ts ≡ true → every declaredOk (map (declaredSlot items) ts) ≡ true
+  unfolding every declaredOk
+  slots-ok [] h = refl
+  slots-ok (t ∷ ts) h =
+      let q = both (typeFits 8 (length items) t) _ h in
+      rw (suffix-ok 8 (Cxx.pointer false) (slotTree items t (shape t)) (slotTree-ok (shaped t) (q .0))) (slots-ok ts (q .1))
+
+  parameters-ok : (f : Function) → FunctionKept items f → every declaredOk (declaredParameters items f) ≡ true
+  unfolding declaredParameters slot
+  parameters-ok f g =
+      every-append declaredOk (declaredReceiver items (f .form) ++ map (declaredArgument items) (f .arguments)) _
+      (every-append declaredOk (declaredReceiver items (f .form)) _ (receiver-ok (f .form) (g .formFits))
+      (arguments-ok (f .arguments) (g .argumentsFit)))
+      (slots-ok (slot items f) (slot-fits (length items) (indirectReturn items f (f .return)) (f .return) (g .returnFits)))
+
+  few-parameters : (f : Function) → FunctionKept items f → leb (declaredArguments (declaredParameters items f)) 31 ≡ true
+  unfolding declaredParameters
+  few-parameters f g =
+      let receiver = declaredReceiver items (f .form) in
+      let arguments = map (declaredArgument items) (f .arguments) in
+      let slots = map (declaredSlot items) (slot items f) in
+      let few : length (f .arguments) ≤ 31 = leb-true (length (f .arguments)) 31 (g .fewArguments) in
+      le-leb (declaredArguments (receiver ++ arguments ++ slots)) 31
+      (omega (
+        arith,
+        arguments-append (receiver ++ arguments) slots,
+        arguments-append receiver arguments,
+        no-argument items (f .form),
+        few-arguments items (f .arguments),
+        no-arguments items (slot items f),
+      ))
+
+  -- ---- declarations and layout definitions
+
+  module _ (x : Item) (k : ItemKept items x) where
+    pub declaration-ok : (depth : ℕ) (f : Function) → FunctionKept items f →
+        declarationOk depth (declarationOf items x f) ≡ true
+    unfolding declarationOk
+    declaration-ok depth f g =
+        rw (
+          externFn-symbol items kept x k f g,
+          declaredResult-ok (isMain depth (Tree.free (externFn items (x .namespace) f))) f g,
+          parameters-ok f g,
+          few-parameters f g,
+        )
+
+    pub layoutDeclaration-ok : (depth : ℕ) (m : Measure) → declarationOk depth (layoutDeclarationOf x (operatorName m)) ≡ true
+    unfolding every declarationOk resultOk levels partsOk declaredArguments
+    layoutDeclaration-ok depth m = rw (operator-symbol items kept x k m)
+
+    pub layoutDefinition-ok : (m : Measure) → layoutOk (layoutDefinitionOf x m) ≡ true
+    unfolding layoutOk
+    layoutDefinition-ok m = rw (k .cxxName, operator-symbol items kept x k m)

@@ -1,0 +1,191 @@
+-- Declarations and layout definitions are spelled as their trees' tokens.
+use mathlib.Core.Path.{_≡_, refl, ap, _∙_, sym}
+use mathlib.Core.List.{List, [], _∷_, _++_, append-assoc, map}
+use mathlib.Core.Bool.{Bool, true, false, _&&_, not}
+use Prim.Native.Nat.{ℕ}
+use lib.Dec.{leb, ltb}
+use lib.ListN.{length}
+use Rattle.lexical.specs.Bytes.{bytes, every}
+use Rattle.lexical.specs.Names.{isName}
+use Rattle.lexical.specs.Decimal.{pickText}
+use Rattle.lexical.proofs.BoolLaws.{both}
+use Rattle.format.specs.Decode.{pick}
+use Rattle.format.specs.declared.Template.the-variants.{RustBox, RustVec, UniquePtr, SharedPtr, WeakPtr, CxxVector}
+use Rattle.format.specs.declared.Pointer.the-variants.{Ref, Ptr, SliceRef}
+use Rattle.format.specs.Types.{Ty, atom, named, template, pointer, str, fn, array, Ret, none, gives}
+use Rattle.format.specs.Sheet.{Name, Form, free, constMethod, mutMethod, associated, Argument, Function, Item}
+use Rattle.syntax.specs.Items.{itemAt, fullName}
+use Rattle.syntax.specs.Mangle.{externFn, operator}
+use Rattle.syntax.specs.Types.{needsIndirectAbi}
+use Rattle.decoded.specs.Fits.{partsFit, typeFits, returnFits, argumentFits, formFits}
+use Rattle.decoded.proofs.Decoded.{fits-parts}
+use Rattle.decoded.proofs.Kept.{All, ItemKept, FunctionKept}
+use Rattle.bridge.specs.WriteType.{constUnless, spaceAfterType, writeType, writeTypeSpace}
+use Rattle.bridge.specs.Write.{commas, indirectReturn, writePointer, Shape, shape, directReturn, directReturnOf}
+use Rattle.bridge.specs.Write.{externReturn, externArgType, externArg, receiver, slotType, slotOf, slot, externParameters}
+use Rattle.bridge.specs.Write.{functionDecl, layoutDecl, layoutDefinition}
+use Rattle.grammar.specs.Token.{Token, word, quoted}
+use Rattle.grammar.specs.Types as Cxx
+use Rattle.grammar.specs.Types.{CxxType}
+use Rattle.grammar.specs.Tree as Tree
+use Rattle.grammar.specs.Tree.{Measure}
+use Rattle.grammar.specs.Tokens.{measureTokens}
+use Rattle.grammar.specs.Tokens.{typeTokens, suffixTokens, resultTokens, parameterTokens, declarationTokens, layoutTokens}
+use Rattle.spelling.specs.TypeTree.{pointerTo, cxxType}
+use Rattle.spelling.specs.DeclarationTree.{directResult, directResultOf, declaredResult, declaredReceiver}
+use Rattle.spelling.specs.DeclarationTree.{declaredType, declaredArgument, slotTree, declaredSlot, declaredParameters}
+use Rattle.spelling.specs.DeclarationTree.{declarationOf, layoutDeclarationOf, measureName, operatorName}
+use Rattle.spelling.specs.DeclarationTree.{layoutDefinitionOf}
+use Rattle.spelling.proofs.Spells.{closed, inside, Spells, _▷_, _▷⟨_⟩_, as-tokens, empty, lit, word-spells}
+use Rattle.spelling.proofs.Spells.{name-spells}
+use Rattle.spelling.proofs.Lists.{SpellsEach, none, more, each-append, list-spells, map-spells}
+use Rattle.spelling.proofs.TypeSpelling.{pointerEnd-spells, suffix-tokens, suffix-spells, item-kept}
+use Rattle.spelling.proofs.TypeSpelling.{fullName-spells, type-spells, typeSpace-spells}
+use Rattle.spelling.proofs.Shapes.{Shaped, isBox, isUniquePtr, isRef, isStr, isSlice, isOther, shaped}
+use Rattle.spelling.proofs.Symbols.{symbol-word, externFn-symbol, operator-symbol}
+
+-- a return's type fits, in a list of none or one
+pub slot-fits : (items : ℕ) (b : Bool) (r : Ret) → returnFits items r ≡ true → every (typeFits 8 items) (slotOf b r) ≡ true
+unfolding every returnFits
+slot-fits items b none h = refl
+slot-fits items true (gives t) h = rw h
+slot-fits items false (gives t) h = refl
+
+-- one more `*` where the test holds
+star-spells : (b : Bool) {s : List ℕ} (x : CxxType) → Spells closed s (typeTokens x) →
+    Spells closed (s ++ pickText b (bytes "*") []) (typeTokens (pick b (pointerTo true x) x))
+unfolding every
+star-spells true x p = suffix-spells (Cxx.pointer false) x p (lit "*" refl)
+star-spells false x p = p ▷ empty
+
+module _ (items : List Item) (kept : All (ItemKept items) items) where
+  pub pointer-spells : (mutable : Bool) (t : Ty) → partsFit (length items) t ≡ true →
+      Spells closed (writePointer items mutable t) (typeTokens (pointerTo mutable (cxxType items t)))
+  pointer-spells mutable t h =
+      rw (append-assoc (writeTypeSpace items t) (constUnless mutable (bytes "const ")) (bytes "*"))
+      (suffix-spells (Cxx.pointer (not mutable)) (cxxType items t) (typeSpace-spells items kept t h) (pointerEnd-spells mutable))
+
+  -- ---- results
+
+  directReturn-spells : {t : Ty} {k : Shape} → Shaped t k → partsFit (length items) t ≡ true →
+      Spells closed (directReturn items t k) (resultTokens (directResult items t k))
+  unfolding every partsFit
+  directReturn-spells (isBox t) h = pointer-spells true t h
+  directReturn-spells (isUniquePtr t) h = pointer-spells true t h
+  directReturn-spells (isRef m t) h = pointer-spells m t h
+  directReturn-spells isStr h = lit "::rust::repr::Fat " refl
+  directReturn-spells (isSlice m t) h = lit "::rust::repr::Fat " refl
+  directReturn-spells (isOther t) h = typeSpace-spells items kept t h
+
+  directReturnOf-spells : (r : Ret) → returnFits (length items) r ≡ true →
+      Spells closed (directReturnOf items r) (resultTokens (directResultOf items r))
+  unfolding every returnFits
+  directReturnOf-spells none h = lit "void " refl
+  directReturnOf-spells (gives t) h = directReturn-spells (shaped t) (fits-parts 8 (length items) t h)
+
+  return-spells : (f : Function) → FunctionKept items f →
+      Spells closed (externReturn items f) (resultTokens (declaredResult items f))
+  unfolding every externReturn declaredResult
+  return-spells f g = go (f .throws) (indirectReturn items f (f .return))
+    where
+      go : (throws indirect : Bool) →
+          Spells closed
+          (pickText throws (bytes "::rust::repr::PtrLen ")
+          (pickText indirect (bytes "void ") (directReturnOf items (f .return))))
+          (resultTokens (pick throws Tree.ptrLen (pick indirect Tree.void (directResultOf items (f .return)))))
+      go true indirect = lit "::rust::repr::PtrLen " refl
+      go false true = lit "void " refl
+      go false false = directReturnOf-spells (f .return) (g .returnFits)
+
+  -- ---- parameters
+
+  receiver-spells : (form : Form) → formFits (length items) form ≡ true →
+      SpellsEach parameterTokens (receiver items form) (declaredReceiver items form)
+  unfolding every formFits
+  receiver-spells free h = none
+  receiver-spells (constMethod i) h =
+      more (fullName-spells items kept (itemAt items i) (item-kept items kept i h) ▷⟨ refl ⟩ lit " const" refl
+      ▷⟨ refl ⟩ lit " &self" refl) none
+  receiver-spells (mutMethod i) h =
+      more (fullName-spells items kept (itemAt items i) (item-kept items kept i h) ▷⟨ refl ⟩ lit " &self" refl) none
+  receiver-spells (associated i) h = none
+
+  externType-spells : {t : Ty} {k : Shape} → Shaped t k → partsFit (length items) t ≡ true →
+      Spells closed (externArgType items t k) (typeTokens (declaredType items t k))
+  unfolding partsFit
+  externType-spells (isBox t) h = pointer-spells true t h
+  externType-spells (isUniquePtr t) h = pointer-spells true t h
+  externType-spells (isRef m t) h = typeSpace-spells items kept (pointer Ref m t) h
+  externType-spells isStr h = typeSpace-spells items kept str h
+  externType-spells (isSlice m t) h = typeSpace-spells items kept (pointer SliceRef m t) h
+  externType-spells (isOther t) h = typeSpace-spells items kept t h
+
+  argument-spells : (a : Argument) → argumentFits (length items) a ≡ true →
+      Spells inside (externArg items a) (parameterTokens (declaredArgument items a))
+  unfolding argumentFits externArg declaredArgument
+  argument-spells a h =
+      let q = both (isName (a .name)) (typeFits 8 (length items) (a .type)) h in
+      let t = a .type in
+      star-spells (needsIndirectAbi items t) (declaredType items t (shape t))
+      (externType-spells (shaped t) (fits-parts 8 (length items) t (q .1)))
+      ▷ name-spells (a .name) (q .0)
+
+  slotSpace-spells : {t : Ty} {k : Shape} → Shaped t k → partsFit (length items) t ≡ true →
+      Spells closed (slotType items t k ++ spaceAfterType t) (typeTokens (slotTree items t k))
+  unfolding partsFit writeTypeSpace
+  slotSpace-spells (isRef m t) h = pointer-spells m t h ▷ empty
+  slotSpace-spells (isBox t) h = typeSpace-spells items kept (template RustBox t) h
+  slotSpace-spells (isUniquePtr t) h = typeSpace-spells items kept (template UniquePtr t) h
+  slotSpace-spells isStr h = typeSpace-spells items kept str h
+  slotSpace-spells (isSlice m t) h = typeSpace-spells items kept (pointer SliceRef m t) h
+  slotSpace-spells (isOther t) h = typeSpace-spells items kept t h
+
+  slot-spells : (t : Ty) → typeFits 8 (length items) t ≡ true →
+      Spells inside (slotType items t (shape t) ++ spaceAfterType t ++ bytes "*return$") (parameterTokens (declaredSlot items t))
+  unfolding every
+  slot-spells t h =
+      as-tokens (λ ts. suffix-tokens (Cxx.pointer false) (slotTree items t (shape t)) (quoted "return$" ts))
+      (slotSpace-spells (shaped t) (fits-parts 8 (length items) t h) ▷ lit "*return$" refl)
+
+  parameters-spell : (f : Function) → FunctionKept items f →
+      SpellsEach parameterTokens (externParameters items f) (declaredParameters items f)
+  unfolding externParameters declaredParameters slot
+  parameters-spell f g =
+      each-append parameterTokens
+      (each-append parameterTokens (receiver-spells (f .form) (g .formFits))
+      (map-spells parameterTokens (argumentFits (length items)) (externArg items) (declaredArgument items) argument-spells
+      (f .arguments) (g .argumentsFit)))
+      (map-spells parameterTokens (typeFits 8 (length items))
+      (λ t. slotType items t (shape t) ++ spaceAfterType t ++ bytes "*return$") (declaredSlot items) slot-spells
+      (slot items f) (slot-fits (length items) (indirectReturn items f (f .return)) (f .return) (g .returnFits)))
+
+  -- ---- declarations and layout definitions
+
+  module _ (x : Item) (k : ItemKept items x) where
+    pub declaration-spells : (f : Function) → FunctionKept items f →
+        Spells closed (functionDecl items x f) (declarationTokens (declarationOf items x f))
+    unfolding every functionDecl
+    declaration-spells f g =
+        return-spells f g ▷ word-spells (externFn items (x .namespace) f) (symbol-word (externFn items (x .namespace) f) (externFn-symbol items kept x k f g))
+        ▷⟨ refl ⟩ lit "(" refl ▷ list-spells parameterTokens (parameters-spell f g) ▷⟨ refl ⟩ lit ") noexcept;\n" refl
+
+    pub layoutDeclaration-spells : (m : Measure) →
+        Spells closed (layoutDecl x (operatorName m)) (declarationTokens (layoutDeclarationOf x (operatorName m)))
+    unfolding every layoutDecl
+    layoutDeclaration-spells m =
+        lit "::std::size_t " refl ▷ word-spells (operator x (operatorName m)) (symbol-word (operator x (operatorName m)) (operator-symbol items kept x k m))
+        ▷⟨ refl ⟩ lit "() noexcept;\n" refl
+
+    measure-spells : (m : Measure) → Spells inside (measureName m) (measureTokens m)
+    unfolding every
+    measure-spells Tree.size = lit "size" refl
+    measure-spells Tree.align = lit "align" refl
+
+    pub layoutDefinition-spells : (m : Measure) →
+        Spells closed (layoutDefinition x (measureName m) (operatorName m)) (layoutTokens (layoutDefinitionOf x m))
+    unfolding every layoutDefinition
+    layoutDefinition-spells m =
+        lit "::std::size_t " refl ▷ name-spells (x .cxx) (k .cxxName) ▷⟨ refl ⟩ lit "::layout::" refl ▷ measure-spells m
+        ▷⟨ refl ⟩ lit "() noexcept {\n" refl ▷ lit "  return " refl
+        ▷ word-spells (operator x (operatorName m)) (symbol-word (operator x (operatorName m)) (operator-symbol items kept x k m))
+        ▷⟨ refl ⟩ lit "();\n" refl ▷ lit "}\n" refl
