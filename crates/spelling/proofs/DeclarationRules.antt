@@ -107,7 +107,7 @@ module _ (items : List Item) (kept : All (ItemKept items) items) where
   declaredType-ok (isRef m t) h = type-ok items kept 8 (pointer Ref m t) h
   declaredType-ok isStr h = type-ok items kept 8 str h
   declaredType-ok (isSlice m t) h = type-ok items kept 8 (pointer SliceRef m t) h
-  declaredType-ok (isOther t) h = type-ok items kept 8 t h
+  declaredType-ok (isOther t plain) h = type-ok items kept 8 t h
 
   pub slotTree-ok : {t : Ty} {k : Shape} → Shaped t k → typeFits 8 (length items) t ≡ true →
       typeOk 8 (slotTree items t k) ≡ true
@@ -116,7 +116,7 @@ module _ (items : List Item) (kept : All (ItemKept items) items) where
   slotTree-ok (isUniquePtr t) h = type-ok items kept 8 (template UniquePtr t) h
   slotTree-ok isStr h = type-ok items kept 8 str h
   slotTree-ok (isSlice m t) h = type-ok items kept 8 (pointer SliceRef m t) h
-  slotTree-ok (isOther t) h = type-ok items kept 8 t h
+  slotTree-ok (isOther t plain) h = type-ok items kept 8 t h
 
   -- ---- results
 
@@ -128,7 +128,7 @@ module _ (items : List Item) (kept : All (ItemKept items) items) where
   directResult-ok main (isRef m t) h = pointer-ok m 7 t (pointer-below Ref m t h)
   directResult-ok main isStr h = refl
   directResult-ok main (isSlice m t) h = refl
-  directResult-ok main (isOther t) h = type-ok items kept 8 t h
+  directResult-ok main (isOther t plain) h = type-ok items kept 8 t h
 
   declaredResult-ok : (main : Bool) (f : Function) → FunctionKept items f → resultOk main (declaredResult items f) ≡ true
   unfolding resultOk declaredResult returnFits

@@ -75,7 +75,7 @@ module _ (items : List Item) (kept : All (ItemKept items) items) where
   directReturn-spells (isRef m t) h = pointer-spells m t h
   directReturn-spells isStr h = lit "::rust::repr::Fat " refl
   directReturn-spells (isSlice m t) h = lit "::rust::repr::Fat " refl
-  directReturn-spells (isOther t) h = typeSpace-spells items kept t h
+  directReturn-spells (isOther t plain) h = typeSpace-spells items kept t h
 
   directReturnOf-spells : (r : Ret) → returnFits (length items) r ≡ true →
       Spells closed (directReturnOf items r) (resultTokens (directResultOf items r))
@@ -118,7 +118,7 @@ module _ (items : List Item) (kept : All (ItemKept items) items) where
   externType-spells (isRef m t) h = typeSpace-spells items kept (pointer Ref m t) h
   externType-spells isStr h = typeSpace-spells items kept str h
   externType-spells (isSlice m t) h = typeSpace-spells items kept (pointer SliceRef m t) h
-  externType-spells (isOther t) h = typeSpace-spells items kept t h
+  externType-spells (isOther t plain) h = typeSpace-spells items kept t h
 
   argument-spells : (a : Argument) → argumentFits (length items) a ≡ true →
       Spells inside (externArg items a) (parameterTokens (declaredArgument items a))
@@ -138,7 +138,7 @@ module _ (items : List Item) (kept : All (ItemKept items) items) where
   slotSpace-spells (isUniquePtr t) h = typeSpace-spells items kept (template UniquePtr t) h
   slotSpace-spells isStr h = typeSpace-spells items kept str h
   slotSpace-spells (isSlice m t) h = typeSpace-spells items kept (pointer SliceRef m t) h
-  slotSpace-spells (isOther t) h = typeSpace-spells items kept t h
+  slotSpace-spells (isOther t plain) h = typeSpace-spells items kept t h
 
   slot-spells : (t : Ty) → typeFits 8 (length items) t ≡ true →
       Spells inside (slotType items t (shape t) ++ spaceAfterType t ++ bytes "*return$") (parameterTokens (declaredSlot items t))

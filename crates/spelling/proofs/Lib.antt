@@ -7,3 +7,5 @@ pub mod Symbols
 pub mod Shapes
 pub mod DeclarationSpelling
 pub mod DeclarationRules
+pub mod Comments
+pub mod ShimSpelling
