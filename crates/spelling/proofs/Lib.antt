@@ -9,3 +9,6 @@ pub mod DeclarationSpelling
 pub mod DeclarationRules
 pub mod Comments
 pub mod ShimSpelling
+pub mod ShimRules
+pub mod Matching
+pub mod Pieces

@@ -1,0 +1,101 @@
+-- The pieces of a text in front of any rest: each is laid out as its tree, which keeps the rules, and none is empty.
+use mathlib.Core.Path.{_≡_, refl}
+use mathlib.Core.List.{List, [], _∷_, _++_}
+use mathlib.Core.Bool.{Bool, true, false, _&&_, not}
+use Prim.Native.Nat.{ℕ}
+use lib.ListN.{length}
+use Rattle.lexical.specs.Bytes.{bytes}
+use Rattle.lexical.specs.Decimal.{pickText}
+use Rattle.format.specs.Sheet.{Function, Item, Sheet}
+use Rattle.syntax.specs.Mangle.{externFn}
+use Rattle.decoded.proofs.Kept.{All, ItemKept, FunctionKept}
+use Rattle.bridge.specs.Out.{some}
+use Rattle.bridge.specs.Write.{commas, externReturn, externParameters, functionDecl, layoutDecl, layoutDefinition}
+use Rattle.bridge.specs.Write.{writeDoc, isFree, shimDecl, shimBody, functionShim}
+use Rattle.grammar.specs.Token.{Token}
+use Rattle.grammar.specs.Layout.{Layout}
+use Rattle.grammar.specs.Tree.{Measure, declares, defines, shim}
+use Rattle.grammar.specs.Tokens.{itemTokens}
+use Rattle.grammar.specs.Rules.{itemOk}
+use Rattle.spelling.specs.DeclarationTree.{declarationOf, layoutDeclarationOf, measureName, operatorName}
+use Rattle.spelling.specs.DeclarationTree.{layoutDefinitionOf}
+use Rattle.spelling.specs.ShimTree.{shimOf}
+use Rattle.spelling.proofs.DeclarationSpelling.{declaration-spells, layoutDeclaration-spells, layoutDefinition-spells}
+use Rattle.spelling.proofs.DeclarationRules.{declaration-ok, layoutDeclaration-ok, layoutDefinition-ok}
+use Rattle.spelling.proofs.ShimSpelling.{shim-spells}
+use Rattle.spelling.proofs.ShimRules.{shim-ok}
+
+-- ---- none is empty
+
+some-behind : (a b : List ℕ) → some b ≡ true → some (a ++ b) ≡ true
+some-behind [] b h = h
+some-behind (c ∷ a) b h = refl
+
+pub declaration-some : (items : List Item) (x : Item) (f : Function) → some (functionDecl items x f) ≡ true
+unfolding functionDecl
+declaration-some items x f =
+    some-behind (externReturn items f ++ externFn items (x .namespace) f ++ bytes "(" ++ commas false (externParameters items f))
+    (bytes ") noexcept;\n") refl
+
+pub layoutDeclaration-some : (x : Item) (name : List ℕ) → some (layoutDecl x name) ≡ true
+unfolding layoutDecl
+layoutDeclaration-some x name = refl
+
+pub layoutDefinition-some : (x : Item) (member name : List ℕ) → some (layoutDefinition x member name) ≡ true
+unfolding layoutDefinition
+layoutDefinition-some x member name = refl
+
+pub shim-some : (s : Sheet) (x : Item) (f : Function) → some (functionShim s x f) ≡ true
+unfolding functionShim shimBody
+shim-some s x f =
+    some-behind (pickText (isFree (f .form)) (writeDoc (s .doxygen) (f .comment)) [] ++ shimDecl (s .items) x f)
+    (pickText (s .header) (bytes ";\n") (shimBody (s .items) x f)) (go (s .header))
+  where
+    go : (header : Bool) → some (pickText header (bytes ";\n") (shimBody (s .items) x f)) ≡ true
+    go true = refl
+    go false = refl
+
+-- ---- pieces of a sheet whose items keep the limits and rules
+
+module _ (s : Sheet) (kept : All (ItemKept (s .items)) (s .items)) (x : Item) (k : ItemKept (s .items) x) where
+  -- ---- declarations
+
+  pub declaration-laid : (f : Function) → FunctionKept (s .items) f → (ts : List Token) (r : List ℕ) → Layout ts r →
+      Layout (itemTokens (declares (declarationOf (s .items) x f)) ts) (functionDecl (s .items) x f ++ r)
+  declaration-laid f g ts r d = declaration-spells (s .items) kept x k f g .laid ts r refl d
+
+  pub declaration-keeps : (f : Function) → FunctionKept (s .items) f → (depth : ℕ) →
+      itemOk depth true (declares (declarationOf (s .items) x f)) ≡ true
+  unfolding itemOk
+  declaration-keeps f g depth = declaration-ok (s .items) kept x k depth f g
+
+  -- ---- layouts
+
+  pub layoutDeclaration-laid : (m : Measure) (ts : List Token) (r : List ℕ) → Layout ts r →
+      Layout (itemTokens (declares (layoutDeclarationOf x (operatorName m))) ts) (layoutDecl x (operatorName m) ++ r)
+  layoutDeclaration-laid m ts r d = layoutDeclaration-spells (s .items) kept x k m .laid ts r refl d
+
+  pub layoutDeclaration-keeps : (m : Measure) (depth : ℕ) →
+      itemOk depth true (declares (layoutDeclarationOf x (operatorName m))) ≡ true
+  unfolding itemOk
+  layoutDeclaration-keeps m depth = layoutDeclaration-ok (s .items) kept x k depth m
+
+  pub layoutDefinition-laid : (m : Measure) (ts : List Token) (r : List ℕ) → Layout ts r →
+      Layout (itemTokens (defines (layoutDefinitionOf x m)) ts) (layoutDefinition x (measureName m) (operatorName m) ++ r)
+  layoutDefinition-laid m ts r d = layoutDefinition-spells (s .items) kept x k m .laid ts r refl d
+
+  pub layoutDefinition-keeps : (m : Measure) (depth : ℕ) → itemOk depth false (defines (layoutDefinitionOf x m)) ≡ true
+  unfolding itemOk
+  layoutDefinition-keeps m depth = layoutDefinition-ok (s .items) kept x k m
+
+  -- ---- shims
+
+  module _ (f : Function) (g : FunctionKept (s .items) f) where
+    pub shim-laid : s .header ≡ false → (ts : List Token) (r : List ℕ) → Layout ts r →
+        Layout (itemTokens (shim (shimOf s x f)) ts) (functionShim s x f ++ r)
+    shim-laid e ts r d = shim-spells s e kept x k f g .laid ts r refl d
+
+    -- at the depth of its namespace
+    pub shim-keeps : itemOk (length (x .namespace)) false (shim (shimOf s x f)) ≡ true
+    unfolding itemOk
+    shim-keeps = shim-ok s kept x k f g
