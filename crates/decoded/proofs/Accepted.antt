@@ -1,23 +1,17 @@
 -- What holds of an accepted sheet, and of each of its items.
-use mathlib.Core.Path.{_≡_, refl, sym, _∙_, ap}
-use mathlib.Core.List.{List, [], _∷_, _++_, map}
-use mathlib.Core.Bool.{Bool, true, false, _&&_, _||_, not, false≢true}
-use Prim.Native.Nat.{ℕ, zero, suc, _<_}
+use mathlib.Core.Path.{_≡_, refl}
+use mathlib.Core.List.{List}
+use mathlib.Core.Bool.{Bool, true, false}
+use Prim.Native.Nat.{ℕ}
 use native.Mathlib.Omega.{arith}
-use lib.Dec.{leb}
-use lib.ListN.{length, getD}
 use Rattle.refusal.specs.declared.Refusal.{Refusal}
 use Rattle.refusal.specs.declared.Refusal.the-variants.{WrongPart, Taken, UnfitArgument, Ring}
-use Rattle.lexical.specs.Bytes.{every, same}
-use Rattle.lexical.specs.Names.{isName}
-use Rattle.lexical.proofs.BoolLaws.{both, neither}
 use Rattle.format.specs.Decode.{Got, fault, got, pick}
-use Rattle.format.specs.Sheet.{Argument, Function, Body, function, Item, Sheet}
+use Rattle.format.specs.Sheet.{Sheet}
 use Rattle.format.specs.Decoding.{decode}
-use Rattle.rules.specs.Rules.{any, twice, gather, functionOf, functions, wrongPart, reservedNamespace, typeName, symbol}
-use Rattle.rules.specs.Rules.{taken, unfit, unfitArgument, ring}
+use Rattle.rules.specs.Rules.{wrongPart, taken, unfitArgument, ring}
 use Rattle.rules.specs.Judge.{Judged, refused, accepted, ruled, judged, judge}
-use Rattle.decoded.specs.Fits.{functionFits, bodyFits, itemFits, sheetFits}
+use Rattle.decoded.specs.Fits.{sheetFits}
 use Rattle.decoded.proofs.Decoded.{decode-fits}
 
 pub record Accepted (s : List ℕ) (x : Sheet) : Type 0 where

@@ -1,8 +1,8 @@
 -- Every value that decodes keeps the limits.
-use mathlib.Core.Path.{_≡_, refl, sym, ap, subst}
+use mathlib.Core.Path.{_≡_, refl, ap}
 use mathlib.Core.List.{List, [], _∷_}
-use mathlib.Core.Bool.{Bool, true, false, _&&_, not, false≢true}
-use Prim.Native.Nat.{ℕ, zero, suc, _+_, _*_, _%_, _-_, _^_, _<_, _≤_, max}
+use mathlib.Core.Bool.{Bool, true, _&&_, not}
+use Prim.Native.Nat.{ℕ, zero, suc, _*_, _%_, _-_, _^_, _<_, _≤_}
 use native.Mathlib.Omega.{arith}
 use borrow.Author.Tests.{ltb-true, leb-true, lt-ltb, le-leb}
 use lib.Dec.{leb, ltb, eqb}
@@ -15,19 +15,18 @@ use Rattle.format.specs.declared.TypeKind.{TypeKind}
 use Rattle.format.specs.declared.TypeKind.the-variants as Kind
 use Rattle.format.specs.declared.ItemKind.{ItemKind}
 use Rattle.format.specs.declared.ItemKind.the-variants as Part
-use Rattle.format.specs.Decode.{Got, fault, got, Dec, pick, after, _>>_, pure, refuse, unless, many}
-use Rattle.format.specs.Bits.{bits, bit, index}
-use Rattle.format.specs.Types.{Ty, atom, named, template, pointer, str, fn, array, Ret, none, gives, Tys, nil, cons, tys}
-use Rattle.format.specs.Sheet.{Name, Form, free, constMethod, mutMethod, associated, Argument, Function, Body, struct, enum}
-use Rattle.format.specs.Sheet.{cxxType, rustType, function, Item, Sheet}
-use Rattle.format.specs.Decoding.{name, nameOf, kindOf, optional, typeBody, tooDeep, typeAt, type, lineOk, line, argument}
+use Rattle.format.specs.Decode.{got, Dec, pure, many}
+use Rattle.format.specs.Bits.{bits, bit}
+use Rattle.format.specs.Types.{Ty, atom, named, template, pointer, str, fn, array, Ret, none, gives, Tys, tys}
+use Rattle.format.specs.Sheet.{Name, Item, Sheet}
+use Rattle.format.specs.Decoding.{name, nameOf, kindOf, optional, typeBody, typeAt, type, lineOk, line, argument}
 use Rattle.format.specs.Decoding.{formOf, form, functionBody, structBody, enumBody, partOf, itemBody, isBad, namespace}
 use Rattle.format.specs.Decoding.{item, tail, itemTable, nameTable, sheet, decode}
 use Rattle.decoded.specs.Fits.{depth, depthRet, depthTys, count, partsFit, partsFitRet, partsFitTys, typeFits}
 use Rattle.decoded.specs.Fits.{returnFits, argumentFits, formFits, commentFits, functionFits, bodyFits, itemFits}
 use Rattle.decoded.specs.Fits.{sheetFits}
 use Rattle.decoded.proofs.Yields.{Yields, then-yields, pure-yields, refuse-yields, pick-yields, unless-yields}
-use Rattle.decoded.proofs.Yields.{weaker, Run, many-yields, bits-yields, Any, any-yields, index-yields}
+use Rattle.decoded.proofs.Yields.{weaker, Run, many-yields, bits-yields, any-yields, index-yields}
 
 -- ---- names
 
@@ -41,7 +40,8 @@ name-passes =
     then-yields (any-yields {d = bits 6})
     (λ n p. then-yields (any-yields {d = many n (bits 7)}) (λ cs q. unless-yields (isName cs) BadName pure-yields))
 
-every-at : {A : Type 0} (test : A → Bool) (xs : List A) (i : ℕ) (d : A) → every test xs ≡ true → ltb i (length xs) ≡ true →
+every-at : {A : Type 0} (test : A → Bool) (xs : List A) (i : ℕ) (d : A) → every test xs ≡ true →
+    ltb i (length xs) ≡ true →
     test (getD xs i d) ≡ true
 unfolding every
 every-at test [] i d h l = absurd (let q : i < 0 = ltb-true i 0 l in omega arith)
@@ -135,7 +135,8 @@ module _ (levels items : ℕ) where
         then-yields inner (λ t h. pure-yields (outer-fits t (template k t) h refl (fits-parts levels items t h)))
     typeBody-passes (Kind.Pointer k) =
         then-yields (any-yields {d = bit})
-        (λ m p. then-yields inner (λ t h. pure-yields (outer-fits t (pointer k m t) h refl (fits-parts levels items t h))))
+        (λ m p. then-yields inner (λ t h. pure-yields (outer-fits t (pointer k m t) h refl
+        (fits-parts levels items t h))))
     typeBody-passes Kind.Str = pure-yields (leaf-fits str refl refl)
     typeBody-passes Kind.Fn =
         then-yields optional-fits
@@ -224,8 +225,9 @@ module _ (names : List Name) (items : ℕ) (named : every isName names ≡ true)
       (λ f g. then-yields (any-yields {d = bit}) (λ t u. then-yields (return-passes items)
       (λ r k. then-yields (bits-yields 5) (λ a l. then-yields (many-yields (argumentFits items) a argument-passes)
       (λ xs q. then-yields (bits-yields 5) (λ c m. then-yields (many-yields commentFits c line-passes)
-      (λ ls p. pure-yields
-      (rw (h, g, k, at-most {limit = 31} (q .0) (omega arith), q .1, at-most {limit = 31} (p .0) (omega arith), p .1))))))))))
+      (λ ls p. let few = at-most {limit = 31} (q .0) (omega arith) in
+      let fewLines = at-most {limit = 31} (p .0) (omega arith) in
+      pure-yields (rw (h, g, k, few, q .1, fewLines, p .1))))))))))
 
   body-passes : (k : ItemKind) → Passes (bodyFits items) (itemBody k names items)
   unfolding bodyFits
@@ -259,7 +261,8 @@ unfolding itemTable
 itemTable-passes names h =
     then-yields (bits-yields 8)
     (λ n l. weaker (many-yields (itemFits n) n (item-passes names n h))
-    (λ xs q. and-of (leb (length xs) 255) (every (itemFits (length xs)) xs) (at-most (q .0) (omega arith)) (rw (q .0) (q .1))))
+    (λ xs q. and-of (leb (length xs) 255) (every (itemFits (length xs)) xs) (at-most (q .0) (omega arith))
+    (rw (q .0) (q .1))))
 
 nameTable-yields : Passes (every isName) nameTable
 unfolding nameTable

@@ -1,7 +1,7 @@
 -- What each item of an accepted sheet keeps, by itself.
-use mathlib.Core.Path.{_≡_, refl, sym, _∙_, ap}
+use mathlib.Core.Path.{_≡_, refl}
 use mathlib.Core.List.{List, [], _∷_, _++_, map}
-use mathlib.Core.Bool.{Bool, true, false, _&&_, _||_, not, false≢true}
+use mathlib.Core.Bool.{Bool, true, false}
 use Prim.Native.Nat.{ℕ, zero, suc, _<_}
 use native.Mathlib.Omega.{arith}
 use lib.Dec.{leb}
@@ -9,12 +9,12 @@ use lib.ListN.{length, getD}
 use Rattle.lexical.specs.Bytes.{every, same}
 use Rattle.lexical.specs.Names.{isName}
 use Rattle.lexical.proofs.BoolLaws.{both, neither}
-use Rattle.format.specs.Sheet.{Name, Argument, Function, Body, struct, enum, cxxType, rustType, function, Item, Sheet}
+use Rattle.format.specs.Sheet.{Name, Argument, Function, function, Item, Sheet}
 use Rattle.rules.specs.Rules.{any, twice, gather, functionOf, functions, reservedNamespace, typeName, symbol, taken}
 use Rattle.rules.specs.Rules.{unfit, unfitArgument}
 use Rattle.decoded.specs.Fits
 use Rattle.decoded.specs.Fits.{returnFits, argumentFits, formFits, commentFits, functionFits, bodyFits, itemFits}
-use Rattle.decoded.specs.Fits.{sheetFits}
+use Rattle.decoded.specs.Fits.{sheetFits, typeFits}
 use Rattle.decoded.proofs.Accepted.{Accepted}
 
 -- each element has the property
@@ -26,6 +26,14 @@ pub all-at : {A : Type 0} (P : A → Type 0) (xs : List A) (i : ℕ) (d : A) →
 all-at P [] i d h l = absurd (omega arith)
 all-at P (x ∷ xs) zero d h l = h .0
 all-at P (x ∷ xs) (suc i) d h l = all-at P xs i d (h .1) (omega arith)
+
+pub argument-name : (items : ℕ) (a : Argument) → argumentFits items a ≡ true → isName (a .name) ≡ true
+unfolding argumentFits
+argument-name items a h = both (isName (a .name)) (typeFits 8 items (a .type)) h .0
+
+pub argument-type : (items : ℕ) (a : Argument) → argumentFits items a ≡ true → typeFits 8 items (a .type) ≡ true
+unfolding argumentFits
+argument-type items a h = both (isName (a .name)) (typeFits 8 items (a .type)) h .1
 
 abbrev pub argumentNames : Function → List Name
 argumentNames f = map (λ a. a .name) (f .arguments)
@@ -96,7 +104,8 @@ function-kept items f h d g =
     }
 
 -- an item whose own facts are at hand, of a sheet of these items
-item-kept : (items : List Item) (x : Item) → itemFits (length items) x ≡ true → reservedNamespace (x .namespace) ≡ false →
+item-kept : (items : List Item) (x : Item) → itemFits (length items) x ≡ true →
+    reservedNamespace (x .namespace) ≡ false →
     any (λ f. twice same (argumentNames f)) (functionOf (x .body)) ≡ false →
     any (λ f. any (unfit items f) (f .arguments)) (functionOf (x .body)) ≡ false → ItemKept items x
 unfolding any itemFits bodyFits
@@ -133,4 +142,5 @@ unfolding sheetFits unfitArgument
 accepted-kept s x h =
     let items = x .items in
     let u = untaken items (h .notTaken) in
-    each-kept items items (both (leb (length items) 255) _ (h .fits) .1) (u .unreserved) (u .arguments) (h .fitArguments)
+    each-kept items items (both (leb (length items) 255) _ (h .fits) .1) (u .unreserved) (u .arguments)
+    (h .fitArguments)

@@ -1,10 +1,9 @@
 -- What holds of every value that a decoder gives, by the decoder's parts.
 use mathlib.Core.Path.{_≡_, refl, ap}
-use mathlib.Core.List.{List, [], _∷_}
-use mathlib.Core.Bool.{Bool, true, false, _&&_}
-use Prim.Native.Nat.{ℕ, zero, suc, _+_, _*_, _/_, _%_, _-_, _^_, _<_, _≤_}
+use mathlib.Core.List.{List, _∷_}
+use mathlib.Core.Bool.{Bool, true, false}
+use Prim.Native.Nat.{ℕ, zero, suc, _+_, _*_, _/_, _%_, _-_, _^_, _<_}
 use native.Mathlib.Omega.{arith}
-use borrow.Author.Tests.{ltb-true}
 use lib.Dec.{leb, ltb}
 use lib.ListN.{length, getD}
 use Rattle.refusal.specs.declared.Refusal.{Refusal}
@@ -12,7 +11,7 @@ use Rattle.refusal.specs.declared.Refusal.the-variants.{CutSheet, LooseIndex}
 use Rattle.lexical.specs.Bytes.{every}
 use Rattle.lexical.proofs.BoolLaws.{and-of}
 use Rattle.format.specs.Decode.{Got, fault, got, Dec, pick, after, _>>_, pure, refuse, unless, many}
-use Rattle.format.specs.Bits.{bitAt, bitsAt, bits, bit, widthOf, index}
+use Rattle.format.specs.Bits.{bitAt, bitsAt, bits, widthOf, index}
 
 -- every value that the decoder gives has the property
 pub record Yields {A : Type 0} (P : A → Type 0) (d : Dec A) : Type 0 where
@@ -69,7 +68,8 @@ module _ {A : Type 0} (test : A → Bool) where
         has =
             λ s at xs m q. after-yields (d s at) (λ x l. after (many n d s l) (λ xs e. got (x ∷ xs) e)) (y .has s at)
             (λ x l p. after-yields (many n d s l) (λ xs e. got (x ∷ xs) e) (many-yields n y .has s l)
-            (λ xs e r zs k q. value-is (Run test (suc n)) q (ap suc (r .0), and-of (test x) (every test xs) p (r .1)))) xs m q;
+            (λ xs e r zs k q. let passed = and-of (test x) (every test xs) p (r .1) in
+            value-is (Run test (suc n)) q (ap suc (r .0), passed))) xs m q;
       }
 
 bit-below : (s : List ℕ) (i : ℕ) → bitAt s i < 2
@@ -99,4 +99,5 @@ any-yields = record { has = λ s at x n q. tt }
 
 pub index-yields : (n : ℕ) → Yields (λ i. ltb i n ≡ true) (index n)
 unfolding index
-index-yields n = then-yields (any-yields {d = bits (widthOf n)}) (λ i p. unless-yields (ltb i n) LooseIndex (λ h. pure-yields h))
+index-yields n =
+    then-yields (any-yields {d = bits (widthOf n)}) (λ i p. unless-yields (ltb i n) LooseIndex (λ h. pure-yields h))

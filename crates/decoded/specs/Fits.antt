@@ -1,6 +1,6 @@
 -- The limits that document 01's format puts on a sheet's value.
 use mathlib.Core.List.{List}
-use mathlib.Core.Bool.{Bool, true, false, _&&_}
+use mathlib.Core.Bool.{Bool, true, _&&_}
 use Prim.Native.Nat.{ℕ, suc, max}
 use lib.Dec.{leb, ltb}
 use lib.ListN.{length}

@@ -1,12 +1,12 @@
 -- The writer's digits of an array length are the grammar's, and a word.
-use mathlib.Core.Path.{_≡_, refl, ap, _∙_, sym}
-use mathlib.Core.List.{List, [], _∷_, _++_}
-use mathlib.Core.Bool.{Bool, true, false, _&&_, _||_, cond}
-use Prim.Native.Nat.{ℕ, zero, suc, _≤_, _<_, _+_, _*_, _/_, _%_, _^_}
+use mathlib.Core.Path.{_≡_, refl}
+use mathlib.Core.List.{[]}
+use mathlib.Core.Bool.{true}
+use Prim.Native.Nat.{ℕ, zero, suc, _<_, _+_, _/_, _%_, _^_}
 use native.Mathlib.Omega.{arith}
-use borrow.Author.Tests.{ltb-true, ltb-false, lt-ltb, le-leb}
+use borrow.Author.Tests.{ltb-true, lt-ltb, le-leb}
 use lib.Dec.{leb, ltb}
-use Rattle.lexical.specs.Bytes.{every, within}
+use Rattle.lexical.specs.Bytes.{every}
 use Rattle.lexical.specs.Names.{nameStart, nameChar, digit}
 use Rattle.lexical.specs.Decimal.{pickText, digits, decimal}
 use Rattle.lexical.proofs.BoolLaws.{by-cases, and-of, or-left, or-right}
@@ -14,6 +14,7 @@ use Rattle.lexical.proofs.ByteLaws.{every-snoc}
 use Rattle.grammar.specs.Token.{word, wordChar}
 use Rattle.grammar.specs.Layout.{nonempty, wellFormed}
 use Rattle.grammar.specs.Tokens as Tokens
+use Rattle.spelling.proofs.Spells.{some-snoc}
 
 digits-same : (more n : ℕ) → n < 10 ^ suc more → digits more n ≡ Tokens.digits (suc more) n
 unfolding digits
@@ -35,10 +36,6 @@ digit-char d l =
     or-left (nameChar (48 + d)) _
     (or-right (nameStart (48 + d)) (digit (48 + d))
     (and-of (leb 48 (48 + d)) (leb (48 + d) 57) (le-leb 48 (48 + d) (omega arith)) (le-leb (48 + d) 57 (omega arith))))
-
-some-snoc : (s : List ℕ) (c : ℕ) → nonempty (s ++ (c ∷ [])) ≡ true
-some-snoc [] c = refl
-some-snoc (d ∷ s) c = refl
 
 digits-some : (more n : ℕ) → nonempty (digits more n) ≡ true
 unfolding digits

@@ -1,5 +1,5 @@
 -- Comment lines are spelled as comments, and keep their line.
-use mathlib.Core.Path.{_≡_, refl, ap, _∙_, sym}
+use mathlib.Core.Path.{_≡_, refl, _∙_}
 use mathlib.Core.List.{List, [], _∷_, _++_, append-assoc, map}
 use mathlib.Core.Bool.{Bool, true, false, _&&_, not, false≢true}
 use Prim.Native.Nat.{ℕ, suc, _-_, _≤_, _+_}
@@ -14,10 +14,9 @@ use Rattle.lexical.proofs.ByteLaws.{byte-eq, every-cons, every-append, every-we
 use Rattle.format.specs.Decode.{pick}
 use Rattle.format.specs.Decoding.{lineOk}
 use Rattle.decoded.specs.Fits.{commentFits}
-use Rattle.rules.specs.Rules.{gather}
 use Rattle.bridge.specs.Write.{writeDoc}
-use Rattle.grammar.specs.Token.{Token, comment}
-use Rattle.grammar.specs.Layout.{endsIn, inLine, wellFormed, Layout, blank, token}
+use Rattle.grammar.specs.Token.{comment}
+use Rattle.grammar.specs.Layout.{endsIn, inLine, wellFormed, blank, token}
 use Rattle.grammar.specs.Tokens.{eachTokens, commentTokens}
 use Rattle.grammar.specs.Rules.{commentsOk}
 use Rattle.spelling.specs.ShimTree.{commentsOf}
@@ -48,7 +47,8 @@ unfolding every
 slash-line [] h = refl
 slash-line (c ∷ cs) h = h
 
-comment-ok : (doxygen : Bool) (cs : List ℕ) → commentFits cs ≡ true → wellFormed (comment (pick doxygen (47 ∷ cs) cs)) ≡ true
+comment-ok : (doxygen : Bool) (cs : List ℕ) → commentFits cs ≡ true →
+    wellFormed (comment (pick doxygen (47 ∷ cs) cs)) ≡ true
 unfolding commentFits lineOk
 comment-ok doxygen cs h = go doxygen
   where
@@ -64,7 +64,8 @@ comment-ok doxygen cs h = go doxygen
     go false = plain
 
 -- a comment takes the rest of its line
-line-spells : (s : List ℕ) → wellFormed (comment s) ≡ true → Spells closed (bytes "//" ++ s ++ bytes "\n") (commentTokens s)
+line-spells : (s : List ℕ) → wellFormed (comment s) ≡ true →
+    Spells closed (bytes "//" ++ s ++ bytes "\n") (commentTokens s)
 line-spells s h =
     record {
       laid =

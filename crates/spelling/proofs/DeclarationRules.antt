@@ -1,16 +1,16 @@
 -- The trees of declarations and layout definitions keep the grammar's rules.
-use mathlib.Core.Path.{_≡_, refl, ap, _∙_, sym}
+use mathlib.Core.Path.{_≡_, refl, _∙_, sym}
 use mathlib.Core.List.{List, [], _∷_, _++_, map}
-use mathlib.Core.Bool.{Bool, true, false, _&&_, _||_, not}
+use mathlib.Core.Bool.{Bool, true, false, not}
 use Prim.Native.Nat.{ℕ, suc, _+_, _≤_}
 use native.Mathlib.Omega.{arith}
-use borrow.Author.Tests.{leb-true, le-leb}
-use lib.Dec.{leb, ltb}
+use borrow.Author.Tests.{leb-true}
+use lib.Dec.{leb}
 use lib.ListN.{length}
 use Rattle.lexical.specs.Bytes.{bytes, every, same, member}
 use Rattle.lexical.specs.Names.{nameShape, nameOk, keywords, alternativeTokens, reserved, isName}
-use Rattle.lexical.proofs.BoolLaws.{both, and-of, by-cases}
-use Rattle.lexical.proofs.ByteLaws.{every-cons, every-append}
+use Rattle.lexical.proofs.BoolLaws.{both, by-cases}
+use Rattle.lexical.proofs.ByteLaws.{every-append}
 use Rattle.format.specs.Decode.{pick}
 use Rattle.format.specs.declared.Template.{Template}
 use Rattle.format.specs.declared.Template.the-variants.{RustBox, UniquePtr}
@@ -19,22 +19,24 @@ use Rattle.format.specs.declared.Pointer.the-variants.{Ref, SliceRef}
 use Rattle.format.specs.Types.{Ty, template, pointer, str, Ret, none, gives}
 use Rattle.format.specs.Sheet.{Form, free, constMethod, mutMethod, associated, Argument, Function, Item}
 use Rattle.syntax.specs.Items.{itemAt}
-use Rattle.syntax.specs.Mangle.{externFn, operator}
+use Rattle.syntax.specs.Mangle.{externFn}
 use Rattle.syntax.specs.Types.{needsIndirectAbi}
 use Rattle.decoded.specs.Fits.{depth, partsFit, typeFits, returnFits, argumentFits, formFits}
 use Rattle.decoded.proofs.Decoded.{fits-depth, fits-parts, fits}
-use Rattle.decoded.proofs.Kept.{All, ItemKept, FunctionKept}
+use Rattle.decoded.proofs.Kept.{All, argument-name, argument-type, ItemKept, FunctionKept}
 use Rattle.bridge.specs.Write.{indirectReturn, Shape, shape, slot}
 use Rattle.grammar.specs.Types as Cxx
-use Rattle.grammar.specs.Types.{CxxType, suffixed}
+use Rattle.grammar.specs.Types.{CxxType}
 use Rattle.grammar.specs.Tree as Tree
 use Rattle.grammar.specs.Tree.{Parameter, Measure}
-use Rattle.grammar.specs.Rules.{isSymbol, fullNameOk, levels, partsOk, typeOk, resultOk, isMain, declaredOk}
-use Rattle.grammar.specs.Rules.{declaredArguments, declarationOk, layoutOk}
-use Rattle.spelling.specs.TypeTree.{itemPath, pointerTo, cxxType}
+use Rattle.grammar.specs.Rules.{levels, partsOk, typeOk, resultOk, isMain, declaredOk, declaredArguments, declarationOk}
+use Rattle.grammar.specs.Rules.{layoutOk}
+use Rattle.spelling.specs.TypeTree.{pointerTo, cxxType}
 use Rattle.spelling.specs.DeclarationTree.{directResult, directResultOf, declaredResult, declaredReceiver}
-use Rattle.spelling.specs.DeclarationTree.{declaredType, declaredArgument, slotTree, declaredSlot, declaredParameters}
-use Rattle.spelling.specs.DeclarationTree.{declarationOf, layoutDeclarationOf, operatorName, layoutDefinitionOf}
+use Rattle.spelling.specs.DeclarationTree.{declaredType, declaredArgument, slotTree, declaredSlot}
+use Rattle.spelling.specs.DeclarationTree.{declaredParameters, declarationOf, layoutDeclarationOf, operatorName}
+use Rattle.spelling.specs.DeclarationTree.{layoutDefinitionOf}
+use Rattle.spelling.proofs.Lists.{count-within}
 use Rattle.spelling.proofs.TypeSpelling.{item-kept}
 use Rattle.spelling.proofs.TypeRules.{itemPath-ok, type-ok, suffix-ok, higher-ok}
 use Rattle.spelling.proofs.Shapes.{Shaped, isBox, isUniquePtr, isRef, isStr, isSlice, isOther, shaped}
@@ -64,7 +66,8 @@ arguments-append (Tree.named x name ∷ ps) qs =
     (λ e. rw (e, declaredArguments) (omega (arith, arguments-append ps qs)))
 arguments-append (Tree.slot x ∷ ps) qs = arguments-append ps qs
 
-few-arguments : (items : List Item) (xs : List Argument) → declaredArguments (map (declaredArgument items) xs) ≤ length xs
+few-arguments : (items : List Item) (xs : List Argument) →
+    declaredArguments (map (declaredArgument items) xs) ≤ length xs
 unfolding declaredArguments declaredArgument
 few-arguments items [] = omega arith
 few-arguments items (a ∷ xs) =
@@ -91,7 +94,8 @@ module _ (items : List Item) (kept : All (ItemKept items) items) where
       typeOk (suc limit) (pointerTo m (cxxType items t)) ≡ true
   pointer-ok m limit t h = suffix-ok limit (Cxx.pointer (not m)) (cxxType items t) (type-ok items kept limit t h)
 
-  template-below : (k : Template) (t : Ty) → typeFits 8 (length items) (template k t) ≡ true → typeFits 7 (length items) t ≡ true
+  template-below : (k : Template) (t : Ty) → typeFits 8 (length items) (template k t) ≡ true →
+      typeFits 7 (length items) t ≡ true
   unfolding depth partsFit
   template-below k t h = below 7 (length items) (template k t) t refl refl h
 
@@ -130,7 +134,8 @@ module _ (items : List Item) (kept : All (ItemKept items) items) where
   directResult-ok main (isSlice m t) h = refl
   directResult-ok main (isOther t plain) h = type-ok items kept 8 t h
 
-  declaredResult-ok : (main : Bool) (f : Function) → FunctionKept items f → resultOk main (declaredResult items f) ≡ true
+  declaredResult-ok : (main : Bool) (f : Function) → FunctionKept items f →
+      resultOk main (declaredResult items f) ≡ true
   unfolding resultOk declaredResult returnFits
   declaredResult-ok main f g = go (f .throws) (indirectReturn items f (f .return)) (f .return) (g .returnFits)
     where
@@ -143,11 +148,12 @@ module _ (items : List Item) (kept : All (ItemKept items) items) where
 
   -- ---- parameters
 
-  receiver-ok : (form : Form) → formFits (length items) form ≡ true → every declaredOk (declaredReceiver items form) ≡ true
+  receiver-ok : (form : Form) → formFits (length items) form ≡ true →
+      every declaredOk (declaredReceiver items form) ≡ true
   unfolding every declaredOk levels partsOk formFits
   receiver-ok free h = refl
-  receiver-ok (constMethod i) h = rw (itemPath-ok items kept (itemAt items i) (item-kept items kept i h), self-name)
-  receiver-ok (mutMethod i) h = rw (itemPath-ok items kept (itemAt items i) (item-kept items kept i h), self-name)
+  receiver-ok (constMethod i) h = rw (itemPath-ok (itemAt items i) (item-kept items kept i h), self-name)
+  receiver-ok (mutMethod i) h = rw (itemPath-ok (itemAt items i) (item-kept items kept i h), self-name)
   receiver-ok (associated i) h = refl
 
   -- one `*` more is level 9 at most
@@ -157,19 +163,22 @@ module _ (items : List Item) (kept : All (ItemKept items) items) where
 
   arguments-ok : (xs : List Argument) → every (argumentFits (length items)) xs ≡ true →
       every declaredOk (map (declaredArgument items) xs) ≡ true
-  unfolding every declaredOk declaredArgument argumentFits
+  unfolding every declaredOk declaredArgument
   arguments-ok [] h = refl
   arguments-ok (a ∷ xs) h =
       let q = both (argumentFits (length items) a) _ h in
-      let p = both (isName (a .name)) (typeFits 8 (length items) (a .type)) (q .0) in
-      rw (star-ok (needsIndirectAbi items (a .type)) _ (declaredType-ok (shaped (a .type)) (p .1)), p .0) (arguments-ok xs (q .1))
+      let t = declaredType-ok (shaped (a .type)) (argument-type (length items) a (q .0)) in
+      rw (star-ok (needsIndirectAbi items (a .type)) _ t, argument-name (length items) a (q .0))
+      (arguments-ok xs (q .1))
 
-  slots-ok : (ts : List Ty) → every (typeFits 8 (length items)) ts ≡ true → every declaredOk (map (declaredSlot items) ts) ≡ true
+  slots-ok : (ts : List Ty) → every (typeFits 8 (length items)) ts ≡ true →
+      every declaredOk (map (declaredSlot items) ts) ≡ true
   unfolding every declaredOk
   slots-ok [] h = refl
   slots-ok (t ∷ ts) h =
       let q = both (typeFits 8 (length items) t) _ h in
-      rw (suffix-ok 8 (Cxx.pointer false) (slotTree items t (shape t)) (slotTree-ok (shaped t) (q .0))) (slots-ok ts (q .1))
+      rw (suffix-ok 8 (Cxx.pointer false) (slotTree items t (shape t)) (slotTree-ok (shaped t) (q .0)))
+      (slots-ok ts (q .1))
 
   parameters-ok : (f : Function) → FunctionKept items f → every declaredOk (declaredParameters items f) ≡ true
   unfolding declaredParameters slot
@@ -177,43 +186,35 @@ module _ (items : List Item) (kept : All (ItemKept items) items) where
       every-append declaredOk (declaredReceiver items (f .form) ++ map (declaredArgument items) (f .arguments)) _
       (every-append declaredOk (declaredReceiver items (f .form)) _ (receiver-ok (f .form) (g .formFits))
       (arguments-ok (f .arguments) (g .argumentsFit)))
-      (slots-ok (slot items f) (slot-fits (length items) (indirectReturn items f (f .return)) (f .return) (g .returnFits)))
+      (slots-ok (slot items f)
+      (slot-fits (length items) (indirectReturn items f (f .return)) (f .return) (g .returnFits)))
 
-  few-parameters : (f : Function) → FunctionKept items f → leb (declaredArguments (declaredParameters items f)) 31 ≡ true
+  few-parameters : (f : Function) → FunctionKept items f →
+      leb (declaredArguments (declaredParameters items f)) 31 ≡ true
   unfolding declaredParameters
   few-parameters f g =
-      let receiver = declaredReceiver items (f .form) in
-      let arguments = map (declaredArgument items) (f .arguments) in
-      let slots = map (declaredSlot items) (slot items f) in
       let few : length (f .arguments) ≤ 31 = leb-true (length (f .arguments)) 31 (g .fewArguments) in
-      le-leb (declaredArguments (receiver ++ arguments ++ slots)) 31
-      (omega (
-        arith,
-        arguments-append (receiver ++ arguments) slots,
-        arguments-append receiver arguments,
-        no-argument items (f .form),
-        few-arguments items (f .arguments),
-        no-arguments items (slot items f),
-      ))
+      count-within declaredArguments arguments-append (declaredReceiver items (f .form))
+      (map (declaredArgument items) (f .arguments)) (map (declaredSlot items) (slot items f)) 31
+      (no-argument items (f .form)) (omega (arith, few-arguments items (f .arguments)))
+      (no-arguments items (slot items f))
 
-  -- ---- declarations and layout definitions
+  -- ---- declarations
 
-  module _ (x : Item) (k : ItemKept items x) where
-    pub declaration-ok : (depth : ℕ) (f : Function) → FunctionKept items f →
-        declarationOk depth (declarationOf items x f) ≡ true
-    unfolding declarationOk
-    declaration-ok depth f g =
-        rw (
-          externFn-symbol items kept x k f g,
-          declaredResult-ok (isMain depth (Tree.free (externFn items (x .namespace) f))) f g,
-          parameters-ok f g,
-          few-parameters f g,
-        )
+  pub declaration-ok : (x : Item) → ItemKept items x → (f : Function) → FunctionKept items f → (depth : ℕ) →
+      declarationOk depth (declarationOf items x f) ≡ true
+  unfolding declarationOk
+  declaration-ok x k f g depth =
+      let main = isMain depth (Tree.free (externFn items (x .namespace) f)) in
+      rw (externFn-symbol items kept x k f g, declaredResult-ok main f g, parameters-ok f g, few-parameters f g)
 
-    pub layoutDeclaration-ok : (depth : ℕ) (m : Measure) → declarationOk depth (layoutDeclarationOf x (operatorName m)) ≡ true
-    unfolding every declarationOk resultOk levels partsOk declaredArguments
-    layoutDeclaration-ok depth m = rw (operator-symbol items kept x k m)
+-- ---- layouts
 
-    pub layoutDefinition-ok : (m : Measure) → layoutOk (layoutDefinitionOf x m) ≡ true
-    unfolding layoutOk
-    layoutDefinition-ok m = rw (k .cxxName, operator-symbol items kept x k m)
+module _ {items : List Item} (x : Item) (k : ItemKept items x) (m : Measure) where
+  pub layoutDeclaration-ok : (depth : ℕ) → declarationOk depth (layoutDeclarationOf x (operatorName m)) ≡ true
+  unfolding every declarationOk resultOk levels partsOk declaredArguments
+  layoutDeclaration-ok depth = rw (operator-symbol x k m)
+
+  pub layoutDefinition-ok : layoutOk (layoutDefinitionOf x m) ≡ true
+  unfolding layoutOk
+  layoutDefinition-ok = rw (k .cxxName, operator-symbol x k m)

@@ -1,51 +1,47 @@
 -- Declarations and layout definitions are spelled as their trees' tokens.
-use mathlib.Core.Path.{_≡_, refl, ap, _∙_, sym}
-use mathlib.Core.List.{List, [], _∷_, _++_, append-assoc, map}
-use mathlib.Core.Bool.{Bool, true, false, _&&_, not}
+use mathlib.Core.Path.{_≡_, refl}
+use mathlib.Core.List.{List, [], _++_, append-assoc}
+use mathlib.Core.Bool.{Bool, true, false, not}
 use Prim.Native.Nat.{ℕ}
-use lib.Dec.{leb, ltb}
 use lib.ListN.{length}
 use Rattle.lexical.specs.Bytes.{bytes, every}
-use Rattle.lexical.specs.Names.{isName}
 use Rattle.lexical.specs.Decimal.{pickText}
-use Rattle.lexical.proofs.BoolLaws.{both}
 use Rattle.format.specs.Decode.{pick}
-use Rattle.format.specs.declared.Template.the-variants.{RustBox, RustVec, UniquePtr, SharedPtr, WeakPtr, CxxVector}
-use Rattle.format.specs.declared.Pointer.the-variants.{Ref, Ptr, SliceRef}
-use Rattle.format.specs.Types.{Ty, atom, named, template, pointer, str, fn, array, Ret, none, gives}
-use Rattle.format.specs.Sheet.{Name, Form, free, constMethod, mutMethod, associated, Argument, Function, Item}
-use Rattle.syntax.specs.Items.{itemAt, fullName}
-use Rattle.syntax.specs.Mangle.{externFn, operator}
+use Rattle.format.specs.declared.Template.the-variants.{RustBox, UniquePtr}
+use Rattle.format.specs.declared.Pointer.the-variants.{Ref, SliceRef}
+use Rattle.format.specs.Types.{Ty, template, pointer, str, Ret, none, gives}
+use Rattle.format.specs.Sheet.{Form, free, constMethod, mutMethod, associated, Argument, Function, Item}
+use Rattle.syntax.specs.Items.{itemAt}
 use Rattle.syntax.specs.Types.{needsIndirectAbi}
 use Rattle.decoded.specs.Fits.{partsFit, typeFits, returnFits, argumentFits, formFits}
 use Rattle.decoded.proofs.Decoded.{fits-parts}
-use Rattle.decoded.proofs.Kept.{All, ItemKept, FunctionKept}
-use Rattle.bridge.specs.WriteType.{constUnless, spaceAfterType, writeType, writeTypeSpace}
-use Rattle.bridge.specs.Write.{commas, indirectReturn, writePointer, Shape, shape, directReturn, directReturnOf}
-use Rattle.bridge.specs.Write.{externReturn, externArgType, externArg, receiver, slotType, slotOf, slot, externParameters}
+use Rattle.decoded.proofs.Kept.{All, argument-name, argument-type, ItemKept, FunctionKept}
+use Rattle.bridge.specs.WriteType.{constUnless, spaceAfterType, writeTypeSpace}
+use Rattle.bridge.specs.Write.{indirectReturn, writePointer, Shape, shape, directReturn, directReturnOf, externReturn}
+use Rattle.bridge.specs.Write.{externArgType, externArg, receiver, slotType, slotOf, slot, externParameters}
 use Rattle.bridge.specs.Write.{functionDecl, layoutDecl, layoutDefinition}
-use Rattle.grammar.specs.Token.{Token, word, quoted}
+use Rattle.grammar.specs.Token.{quoted}
 use Rattle.grammar.specs.Types as Cxx
 use Rattle.grammar.specs.Types.{CxxType}
 use Rattle.grammar.specs.Tree as Tree
 use Rattle.grammar.specs.Tree.{Measure}
-use Rattle.grammar.specs.Tokens.{measureTokens}
-use Rattle.grammar.specs.Tokens.{typeTokens, suffixTokens, resultTokens, parameterTokens, declarationTokens, layoutTokens}
+use Rattle.grammar.specs.Tokens.{measureTokens, typeTokens, resultTokens, parameterTokens, declarationTokens}
+use Rattle.grammar.specs.Tokens.{layoutTokens}
 use Rattle.spelling.specs.TypeTree.{pointerTo, cxxType}
 use Rattle.spelling.specs.DeclarationTree.{directResult, directResultOf, declaredResult, declaredReceiver}
-use Rattle.spelling.specs.DeclarationTree.{declaredType, declaredArgument, slotTree, declaredSlot, declaredParameters}
-use Rattle.spelling.specs.DeclarationTree.{declarationOf, layoutDeclarationOf, measureName, operatorName}
-use Rattle.spelling.specs.DeclarationTree.{layoutDefinitionOf}
-use Rattle.spelling.proofs.Spells.{closed, inside, Spells, _▷_, _▷⟨_⟩_, as-tokens, empty, lit, word-spells}
-use Rattle.spelling.proofs.Spells.{name-spells}
+use Rattle.spelling.specs.DeclarationTree.{declaredType, declaredArgument, slotTree, declaredSlot}
+use Rattle.spelling.specs.DeclarationTree.{declaredParameters, declarationOf, layoutDeclarationOf, measureName}
+use Rattle.spelling.specs.DeclarationTree.{operatorName, layoutDefinitionOf}
+use Rattle.spelling.proofs.Spells.{closed, inside, Spells, _▷_, _▷⟨_⟩_, as-tokens, empty, lit, name-spells}
 use Rattle.spelling.proofs.Lists.{SpellsEach, none, more, each-append, list-spells, map-spells}
 use Rattle.spelling.proofs.TypeSpelling.{pointerEnd-spells, suffix-tokens, suffix-spells, item-kept}
-use Rattle.spelling.proofs.TypeSpelling.{fullName-spells, type-spells, typeSpace-spells}
+use Rattle.spelling.proofs.TypeSpelling.{fullName-spells, typeSpace-spells}
 use Rattle.spelling.proofs.Shapes.{Shaped, isBox, isUniquePtr, isRef, isStr, isSlice, isOther, shaped}
-use Rattle.spelling.proofs.Symbols.{symbol-word, externFn-symbol, operator-symbol}
+use Rattle.spelling.proofs.Symbols.{externFn-spells, operator-spells}
 
 -- a return's type fits, in a list of none or one
-pub slot-fits : (items : ℕ) (b : Bool) (r : Ret) → returnFits items r ≡ true → every (typeFits 8 items) (slotOf b r) ≡ true
+pub slot-fits : (items : ℕ) (b : Bool) (r : Ret) → returnFits items r ≡ true →
+    every (typeFits 8 items) (slotOf b r) ≡ true
 unfolding every returnFits
 slot-fits items b none h = refl
 slot-fits items true (gives t) h = rw h
@@ -63,7 +59,8 @@ module _ (items : List Item) (kept : All (ItemKept items) items) where
       Spells closed (writePointer items mutable t) (typeTokens (pointerTo mutable (cxxType items t)))
   pointer-spells mutable t h =
       rw (append-assoc (writeTypeSpace items t) (constUnless mutable (bytes "const ")) (bytes "*"))
-      (suffix-spells (Cxx.pointer (not mutable)) (cxxType items t) (typeSpace-spells items kept t h) (pointerEnd-spells mutable))
+      (suffix-spells (Cxx.pointer (not mutable)) (cxxType items t) (typeSpace-spells items kept t h)
+      (pointerEnd-spells mutable))
 
   -- ---- results
 
@@ -104,10 +101,10 @@ module _ (items : List Item) (kept : All (ItemKept items) items) where
   unfolding every formFits
   receiver-spells free h = none
   receiver-spells (constMethod i) h =
-      more (fullName-spells items kept (itemAt items i) (item-kept items kept i h) ▷⟨ refl ⟩ lit " const" refl
+      more (fullName-spells (itemAt items i) (item-kept items kept i h) ▷⟨ refl ⟩ lit " const" refl
       ▷⟨ refl ⟩ lit " &self" refl) none
   receiver-spells (mutMethod i) h =
-      more (fullName-spells items kept (itemAt items i) (item-kept items kept i h) ▷⟨ refl ⟩ lit " &self" refl) none
+      more (fullName-spells (itemAt items i) (item-kept items kept i h) ▷⟨ refl ⟩ lit " &self" refl) none
   receiver-spells (associated i) h = none
 
   externType-spells : {t : Ty} {k : Shape} → Shaped t k → partsFit (length items) t ≡ true →
@@ -122,13 +119,13 @@ module _ (items : List Item) (kept : All (ItemKept items) items) where
 
   argument-spells : (a : Argument) → argumentFits (length items) a ≡ true →
       Spells inside (externArg items a) (parameterTokens (declaredArgument items a))
-  unfolding argumentFits externArg declaredArgument
+  unfolding externArg declaredArgument
   argument-spells a h =
-      let q = both (isName (a .name)) (typeFits 8 (length items) (a .type)) h in
+      let n = length items in
       let t = a .type in
       star-spells (needsIndirectAbi items t) (declaredType items t (shape t))
-      (externType-spells (shaped t) (fits-parts 8 (length items) t (q .1)))
-      ▷ name-spells (a .name) (q .0)
+      (externType-spells (shaped t) (fits-parts 8 n t (argument-type n a h)))
+      ▷ name-spells (a .name) (argument-name n a h)
 
   slotSpace-spells : {t : Ty} {k : Shape} → Shaped t k → partsFit (length items) t ≡ true →
       Spells closed (slotType items t k ++ spaceAfterType t) (typeTokens (slotTree items t k))
@@ -141,7 +138,8 @@ module _ (items : List Item) (kept : All (ItemKept items) items) where
   slotSpace-spells (isOther t plain) h = typeSpace-spells items kept t h
 
   slot-spells : (t : Ty) → typeFits 8 (length items) t ≡ true →
-      Spells inside (slotType items t (shape t) ++ spaceAfterType t ++ bytes "*return$") (parameterTokens (declaredSlot items t))
+      Spells inside (slotType items t (shape t) ++ spaceAfterType t ++ bytes "*return$")
+      (parameterTokens (declaredSlot items t))
   unfolding every
   slot-spells t h =
       as-tokens (λ ts. suffix-tokens (Cxx.pointer false) (slotTree items t (shape t)) (quoted "return$" ts))
@@ -153,39 +151,39 @@ module _ (items : List Item) (kept : All (ItemKept items) items) where
   parameters-spell f g =
       each-append parameterTokens
       (each-append parameterTokens (receiver-spells (f .form) (g .formFits))
-      (map-spells parameterTokens (argumentFits (length items)) (externArg items) (declaredArgument items) argument-spells
-      (f .arguments) (g .argumentsFit)))
+      (map-spells parameterTokens (argumentFits (length items)) (externArg items) (declaredArgument items)
+      argument-spells (f .arguments) (g .argumentsFit)))
       (map-spells parameterTokens (typeFits 8 (length items))
       (λ t. slotType items t (shape t) ++ spaceAfterType t ++ bytes "*return$") (declaredSlot items) slot-spells
       (slot items f) (slot-fits (length items) (indirectReturn items f (f .return)) (f .return) (g .returnFits)))
 
-  -- ---- declarations and layout definitions
+  -- ---- declarations
 
-  module _ (x : Item) (k : ItemKept items x) where
-    pub declaration-spells : (f : Function) → FunctionKept items f →
-        Spells closed (functionDecl items x f) (declarationTokens (declarationOf items x f))
-    unfolding every functionDecl
-    declaration-spells f g =
-        return-spells f g ▷ word-spells (externFn items (x .namespace) f) (symbol-word (externFn items (x .namespace) f) (externFn-symbol items kept x k f g))
-        ▷⟨ refl ⟩ lit "(" refl ▷ list-spells parameterTokens (parameters-spell f g) ▷⟨ refl ⟩ lit ") noexcept;\n" refl
+  pub declaration-spells : (x : Item) → ItemKept items x → (f : Function) → FunctionKept items f →
+      Spells closed (functionDecl items x f) (declarationTokens (declarationOf items x f))
+  unfolding every functionDecl
+  declaration-spells x k f g =
+      return-spells f g ▷ externFn-spells items kept x k f g ▷⟨ refl ⟩ lit "(" refl
+      ▷ list-spells parameterTokens (parameters-spell f g) ▷⟨ refl ⟩ lit ") noexcept;\n" refl
 
-    pub layoutDeclaration-spells : (m : Measure) →
-        Spells closed (layoutDecl x (operatorName m)) (declarationTokens (layoutDeclarationOf x (operatorName m)))
-    unfolding every layoutDecl
-    layoutDeclaration-spells m =
-        lit "::std::size_t " refl ▷ word-spells (operator x (operatorName m)) (symbol-word (operator x (operatorName m)) (operator-symbol items kept x k m))
-        ▷⟨ refl ⟩ lit "() noexcept;\n" refl
+-- ---- layouts
 
-    measure-spells : (m : Measure) → Spells inside (measureName m) (measureTokens m)
-    unfolding every
-    measure-spells Tree.size = lit "size" refl
-    measure-spells Tree.align = lit "align" refl
+measure-spells : (m : Measure) → Spells inside (measureName m) (measureTokens m)
+unfolding every
+measure-spells Tree.size = lit "size" refl
+measure-spells Tree.align = lit "align" refl
 
-    pub layoutDefinition-spells : (m : Measure) →
-        Spells closed (layoutDefinition x (measureName m) (operatorName m)) (layoutTokens (layoutDefinitionOf x m))
-    unfolding every layoutDefinition
-    layoutDefinition-spells m =
-        lit "::std::size_t " refl ▷ name-spells (x .cxx) (k .cxxName) ▷⟨ refl ⟩ lit "::layout::" refl ▷ measure-spells m
-        ▷⟨ refl ⟩ lit "() noexcept {\n" refl ▷ lit "  return " refl
-        ▷ word-spells (operator x (operatorName m)) (symbol-word (operator x (operatorName m)) (operator-symbol items kept x k m))
-        ▷⟨ refl ⟩ lit "();\n" refl ▷ lit "}\n" refl
+module _ {items : List Item} (x : Item) (k : ItemKept items x) (m : Measure) where
+  pub layoutDeclaration-spells :
+      Spells closed (layoutDecl x (operatorName m)) (declarationTokens (layoutDeclarationOf x (operatorName m)))
+  unfolding every layoutDecl
+  layoutDeclaration-spells =
+      lit "::std::size_t " refl ▷ operator-spells x k m ▷⟨ refl ⟩ lit "() noexcept;\n" refl
+
+  pub layoutDefinition-spells :
+      Spells closed (layoutDefinition x (measureName m) (operatorName m)) (layoutTokens (layoutDefinitionOf x m))
+  unfolding every layoutDefinition
+  layoutDefinition-spells =
+      lit "::std::size_t " refl ▷ name-spells (x .cxx) (k .cxxName) ▷⟨ refl ⟩ lit "::layout::" refl ▷ measure-spells m
+      ▷⟨ refl ⟩ lit "() noexcept {\n" refl ▷ lit "  return " refl ▷ operator-spells x k m ▷⟨ refl ⟩ lit "();\n" refl
+      ▷ lit "}\n" refl

@@ -1,8 +1,11 @@
 -- Lists of parts: with a comma between each two, or one after the other.
-use mathlib.Core.Path.{_≡_, refl, ap, _∙_, sym}
+use mathlib.Core.Path.{_≡_, refl, ap}
 use mathlib.Core.List.{List, [], _∷_, _++_, map}
-use mathlib.Core.Bool.{Bool, true, false, _&&_}
-use Prim.Native.Nat.{ℕ}
+use mathlib.Core.Bool.{Bool, true, false}
+use Prim.Native.Nat.{ℕ, _+_, _≤_}
+use native.Mathlib.Omega.{arith}
+use borrow.Author.Tests.{le-leb}
+use lib.Dec.{leb}
 use Rattle.lexical.specs.Bytes.{every}
 use Rattle.lexical.proofs.ByteLaws.{every-cons}
 use Rattle.rules.specs.Rules.{gather}
@@ -14,8 +17,8 @@ use Rattle.spelling.proofs.Spells.{closed, inside, Spells, meets, _▷_
 -- each text spells the element at its place
 pub data SpellsEach {B : Type 0} (tokens : B → List Token → List Token) : List (List ℕ) → List B → Type 0 where
   none : SpellsEach tokens [] []
-  more : {s : List ℕ} {x : B} {ss : List (List ℕ)} {xs : List B} → Spells inside s (tokens x) → SpellsEach tokens ss xs →
-      SpellsEach tokens (s ∷ ss) (x ∷ xs)
+  more : {s : List ℕ} {x : B} {ss : List (List ℕ)} {xs : List B} → Spells inside s (tokens x) →
+      SpellsEach tokens ss xs → SpellsEach tokens (s ∷ ss) (x ∷ xs)
 
 pub each-tokens-append : {B : Type 0} (tokens : B → List Token → List Token) (xs ys : List B) (ts : List Token) →
     eachTokens tokens xs (eachTokens tokens ys ts) ≡ eachTokens tokens (xs ++ ys) ts
@@ -71,3 +74,11 @@ module _ {B : Type 0} (tokens : B → List Token → List Token) where
     gather-map-spells text tree each [] h = empty
     gather-map-spells text tree each (x ∷ xs) h =
         let q = every-cons test x xs h in each x (q .0) ▷ gather-map-spells text tree each xs (q .1)
+
+-- only the middle part counts
+pub count-within : {A : Type 0} (count : List A → ℕ) → ((xs ys : List A) → count (xs ++ ys) ≡ count xs + count ys) →
+    (front middle back : List A) (limit : ℕ) → count front ≡ 0 → count middle ≤ limit → count back ≡ 0 →
+    leb (count (front ++ middle ++ back)) limit ≡ true
+count-within count append front middle back limit e l f =
+    le-leb (count (front ++ middle ++ back)) limit
+    (omega (arith, append (front ++ middle) back, append front middle))

@@ -1,11 +1,10 @@
 -- A function's declaration and shim agree with the sheet and with each other.
 use mathlib.Core.Path.{_≡_, refl, ap, ap₂, _∙_, sym}
 use mathlib.Core.List.{List, [], _∷_, _++_, append-assoc, map, map-append}
-use mathlib.Core.Bool.{Bool, true, false, _&&_, _||_, not, false≢true, and-false}
+use mathlib.Core.Bool.{Bool, true, false, _&&_, _||_, not, and-false}
 use Prim.Native.Nat.{ℕ}
-use lib.ListN.{length}
 use Rattle.lexical.specs.Bytes.{bytes, same, member}
-use Rattle.lexical.proofs.BoolLaws.{both, neither, by-cases, or-right, fails-too}
+use Rattle.lexical.proofs.BoolLaws.{neither, or-right, fails-too}
 use Rattle.lexical.proofs.ByteLaws.{same-eq, same-refl}
 use Rattle.format.specs.Decode.{pick}
 use Rattle.format.specs.Types.{Ty, Ret, none, gives}
@@ -17,10 +16,9 @@ use Rattle.decoded.proofs.Kept.{FunctionKept}
 use Rattle.bridge.specs.Write as Write
 use Rattle.bridge.specs.Write.{indirectReturn, slot}
 use Rattle.grammar.specs.Tree as Tree
-use Rattle.grammar.specs.Tree.{Parameter, Operand}
-use Rattle.agreement.specs.Agreement.{RustFunction, slotNames, slotOf, argumentNames, parameterNames, headNames, Declared}
-use Rattle.agreement.specs.Agreement.{Defined, parameterName, headParts, passing, argumentOperand, argumentOperands}
-use Rattle.agreement.specs.Agreement.{fitting, only, Matches}
+use Rattle.grammar.specs.Tree.{Operand}
+use Rattle.agreement.specs.Agreement.{slotNames, slotOf, argumentNames, parameterNames, headNames, parameterName}
+use Rattle.agreement.specs.Agreement.{headParts, argumentOperands, fitting, only, Matches}
 use Rattle.spelling.specs.DeclarationTree.{declaredReceiver, declaredArgument, declaredSlot, declaredParameters}
 use Rattle.spelling.specs.DeclarationTree.{declarationOf}
 use Rattle.spelling.specs.ShimTree.{headOf, argumentOf, operandOf, slotAddressOf, operandsOf, shimOf}
@@ -67,7 +65,8 @@ module _ (items : List Item) where
       (no-operand (a .name) after (neither (any (same (a .name)) (names after)) _ h .0)))
   one-operand (b ∷ before) a after h =
       let q = neither (any (same (b .name)) (names (before ++ (a ∷ after)))) _ h in
-      rw (same-sym (b .name) (a .name) (any-at a after (same (b .name)) before (q .0))) (one-operand before a after (q .1))
+      rw (same-sym (b .name) (a .name) (any-at a after (same (b .name)) before (q .0)))
+      (one-operand before a after (q .1))
 
   -- an argument's name is one of the head's, so that it is no receiver
   argument-fits : (all : List Argument) (heads : List Name) → heads ≡ names all → twice same (names all) ≡ false →
@@ -96,7 +95,8 @@ module _ (items : List Item) where
             rw (same-sym (a .name) (bytes "self") (rw h at p)) (go xs (q .1))
 
     receiver-fits : (form : Form) → (isMethod form ≡ true → member (bytes "self") heads ≡ false) →
-        map (fitting items f heads) (declaredReceiver items form) ≡ map only (pick (isMethod form) (Tree.receiver ∷ []) [])
+        map (fitting items f heads) (declaredReceiver items form) ≡
+        map only (pick (isMethod form) (Tree.receiver ∷ []) [])
     unfolding same fitting
     receiver-fits free h = refl
     receiver-fits (constMethod i) h = rw (h refl)
@@ -112,7 +112,8 @@ module _ (items : List Item) where
         (argument-fits (f .arguments) heads e (g .distinct) before a xs p)
         (arguments-fit (before ++ (a ∷ [])) xs (p ∙ sym (append-assoc before (a ∷ []) xs)))
 
-    slots-fit : (ts : List Ty) → map (fitting items f heads) (map (declaredSlot items) ts) ≡ map only (map slotAddressOf ts)
+    slots-fit : (ts : List Ty) →
+        map (fitting items f heads) (map (declaredSlot items) ts) ≡ map only (map slotAddressOf ts)
     unfolding fitting
     slots-fit [] = refl
     slots-fit (t ∷ ts) = ap (λ (os : List (List Operand)). only Tree.slotAddress ∷ os) (slots-fit ts)
@@ -121,7 +122,8 @@ module _ (items : List Item) where
     unfolding declaredParameters operandsOf
     operands-fit =
         let slots = slot items f in
-        map-parts (fitting items f heads) (declaredReceiver items (f .form)) (map (declaredArgument items) (f .arguments))
+        map-parts (fitting items f heads) (declaredReceiver items (f .form))
+        (map (declaredArgument items) (f .arguments))
         (map (declaredSlot items) slots) (receiver-fits (f .form) no-self) (arguments-fit [] (f .arguments) refl)
         (slots-fit slots)
         ∙ sym (map-parts only (pick (isMethod (f .form)) (Tree.receiver ∷ []) []) (map (operandOf items) (f .arguments))
@@ -151,13 +153,15 @@ module _ (items : List Item) where
   slot-name f = go (f .return)
     where
       one : (throws indirect : Bool) (t : Ty) →
-          map parameterName (map (declaredSlot items) (pick (throws || indirect) (t ∷ []) [])) ≡ slotNames throws indirect
+          map parameterName (map (declaredSlot items) (pick (throws || indirect) (t ∷ []) [])) ≡
+          slotNames throws indirect
       one true indirect t = refl
       one false true t = refl
       one false false t = refl
 
       go : (r : Ret) →
-          map parameterName (map (declaredSlot items) (Write.slotOf (indirectReturn items f r) r)) ≡ slotOf items (f .throws) r
+          map parameterName (map (declaredSlot items) (Write.slotOf (indirectReturn items f r) r)) ≡
+          slotOf items (f .throws) r
       go none = refl
       go (gives t) = one (f .throws) (needsIndirectAbi items t) t
 
@@ -173,7 +177,8 @@ module _ (items : List Item) where
   unfolding headNames
   head-parts x f = go (f .form)
     where
-      go : (form : Form) → headParts (headOf items x form) ≡ map (λ i. itemAt items i .cxx) (selfType form) ++ (x .cxx ∷ [])
+      go : (form : Form) →
+          headParts (headOf items x form) ≡ map (λ i. itemAt items i .cxx) (selfType form) ++ (x .cxx ∷ [])
       go free = refl
       go (constMethod i) = refl
       go (mutMethod i) = refl

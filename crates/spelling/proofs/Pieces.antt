@@ -1,7 +1,7 @@
 -- The pieces of a text in front of any rest: each is laid out as its tree, which keeps the rules, and none is empty.
 use mathlib.Core.Path.{_≡_, refl}
 use mathlib.Core.List.{List, [], _∷_, _++_}
-use mathlib.Core.Bool.{Bool, true, false, _&&_, not}
+use mathlib.Core.Bool.{Bool, true, false}
 use Prim.Native.Nat.{ℕ}
 use lib.ListN.{length}
 use Rattle.lexical.specs.Bytes.{bytes}
@@ -20,7 +20,8 @@ use Rattle.grammar.specs.Rules.{itemOk}
 use Rattle.spelling.specs.DeclarationTree.{declarationOf, layoutDeclarationOf, measureName, operatorName}
 use Rattle.spelling.specs.DeclarationTree.{layoutDefinitionOf}
 use Rattle.spelling.specs.ShimTree.{shimOf}
-use Rattle.spelling.proofs.DeclarationSpelling.{declaration-spells, layoutDeclaration-spells, layoutDefinition-spells}
+use Rattle.spelling.proofs.DeclarationSpelling.{declaration-spells, layoutDeclaration-spells}
+use Rattle.spelling.proofs.DeclarationSpelling.{layoutDefinition-spells}
 use Rattle.spelling.proofs.DeclarationRules.{declaration-ok, layoutDeclaration-ok, layoutDefinition-ok}
 use Rattle.spelling.proofs.ShimSpelling.{shim-spells}
 use Rattle.spelling.proofs.ShimRules.{shim-ok}
@@ -34,7 +35,8 @@ some-behind (c ∷ a) b h = refl
 pub declaration-some : (items : List Item) (x : Item) (f : Function) → some (functionDecl items x f) ≡ true
 unfolding functionDecl
 declaration-some items x f =
-    some-behind (externReturn items f ++ externFn items (x .namespace) f ++ bytes "(" ++ commas false (externParameters items f))
+    some-behind
+    (externReturn items f ++ externFn items (x .namespace) f ++ bytes "(" ++ commas false (externParameters items f))
     (bytes ") noexcept;\n") refl
 
 pub layoutDeclaration-some : (x : Item) (name : List ℕ) → some (layoutDecl x name) ≡ true
@@ -67,26 +69,27 @@ module _ (s : Sheet) (kept : All (ItemKept (s .items)) (s .items)) (x : Item) (k
   pub declaration-keeps : (f : Function) → FunctionKept (s .items) f → (depth : ℕ) →
       itemOk depth true (declares (declarationOf (s .items) x f)) ≡ true
   unfolding itemOk
-  declaration-keeps f g depth = declaration-ok (s .items) kept x k depth f g
+  declaration-keeps f g depth = declaration-ok (s .items) kept x k f g depth
 
   -- ---- layouts
 
   pub layoutDeclaration-laid : (m : Measure) (ts : List Token) (r : List ℕ) → Layout ts r →
       Layout (itemTokens (declares (layoutDeclarationOf x (operatorName m))) ts) (layoutDecl x (operatorName m) ++ r)
-  layoutDeclaration-laid m ts r d = layoutDeclaration-spells (s .items) kept x k m .laid ts r refl d
+  layoutDeclaration-laid m ts r d = layoutDeclaration-spells x k m .laid ts r refl d
 
   pub layoutDeclaration-keeps : (m : Measure) (depth : ℕ) →
       itemOk depth true (declares (layoutDeclarationOf x (operatorName m))) ≡ true
   unfolding itemOk
-  layoutDeclaration-keeps m depth = layoutDeclaration-ok (s .items) kept x k depth m
+  layoutDeclaration-keeps m depth = layoutDeclaration-ok x k m depth
 
   pub layoutDefinition-laid : (m : Measure) (ts : List Token) (r : List ℕ) → Layout ts r →
-      Layout (itemTokens (defines (layoutDefinitionOf x m)) ts) (layoutDefinition x (measureName m) (operatorName m) ++ r)
-  layoutDefinition-laid m ts r d = layoutDefinition-spells (s .items) kept x k m .laid ts r refl d
+      Layout (itemTokens (defines (layoutDefinitionOf x m)) ts)
+      (layoutDefinition x (measureName m) (operatorName m) ++ r)
+  layoutDefinition-laid m ts r d = layoutDefinition-spells x k m .laid ts r refl d
 
   pub layoutDefinition-keeps : (m : Measure) (depth : ℕ) → itemOk depth false (defines (layoutDefinitionOf x m)) ≡ true
   unfolding itemOk
-  layoutDefinition-keeps m depth = layoutDefinition-ok (s .items) kept x k m
+  layoutDefinition-keeps m depth = layoutDefinition-ok x k m
 
   -- ---- shims
 

@@ -1,41 +1,37 @@
 -- The trees of shims keep the grammar's rules.
-use mathlib.Core.Path.{_≡_, refl, ap, _∙_, sym}
+use mathlib.Core.Path.{_≡_, refl, ap, _∙_}
 use mathlib.Core.List.{List, [], _∷_, _++_, map}
-use mathlib.Core.Bool.{Bool, true, false, _&&_, _||_, not, false≢true}
-use Prim.Native.Nat.{ℕ, suc, _+_, _≤_}
+use mathlib.Core.Bool.{Bool, true, false, not, false≢true}
+use Prim.Native.Nat.{suc, _+_, _≤_}
 use native.Mathlib.Omega.{arith}
-use borrow.Author.Tests.{leb-true, le-leb}
-use lib.Dec.{leb, ltb, eqb}
+use borrow.Author.Tests.{leb-true}
+use lib.Dec.{leb}
 use lib.ListN.{length, length-map}
 use Rattle.lexical.specs.Bytes.{bytes, every, same}
 use Rattle.lexical.specs.Names.{isName}
-use Rattle.lexical.proofs.BoolLaws.{both, and-of, by-cases}
+use Rattle.lexical.proofs.BoolLaws.{both, and-of}
 use Rattle.lexical.proofs.ByteLaws.{every-cons, every-append}
 use Rattle.format.specs.Decode.{pick}
 use Rattle.format.specs.declared.Template.the-variants.{RustBox, UniquePtr}
 use Rattle.format.specs.declared.Pointer.the-variants.{SliceRef}
 use Rattle.format.specs.Types.{Ty, template, pointer, Ret, none, gives}
 use Rattle.format.specs.Sheet.{Name, Form, free, constMethod, mutMethod, associated, Argument, Function, Item, Sheet}
-use Rattle.syntax.specs.Items.{itemAt}
-use Rattle.syntax.specs.Mangle.{externFn}
 use Rattle.rules.specs.Rules.{gather, isMethod}
 use Rattle.decoded.specs.Fits.{typeFits, returnFits, argumentFits, formFits}
-use Rattle.decoded.proofs.Kept.{All, ItemKept, FunctionKept}
-use Rattle.bridge.specs.Write as Write
-use Rattle.bridge.specs.Write.{indirectReturn, Shape, shape, slotOf, slot, isRoot, isFree, isMain, isHeld, direct, isNone}
-use Rattle.grammar.specs.Types as Cxx
-use Rattle.grammar.specs.Types.{CxxType, suffixed}
+use Rattle.decoded.proofs.Kept.{All, argument-name, argument-type, ItemKept, FunctionKept}
+use Rattle.bridge.specs.Write.{indirectReturn, Shape, slot, isRoot, isFree, isMain, isHeld, direct}
+use Rattle.grammar.specs.Types.{CxxType}
 use Rattle.grammar.specs.Tree as Tree
 use Rattle.grammar.specs.Tree.{Operand}
 use Rattle.grammar.specs.Rules
-use Rattle.grammar.specs.Rules.{isSymbol, levels, partsOk, typeOk, resultOk, headOk, argumentOk, localOk, operandOk}
+use Rattle.grammar.specs.Rules.{levels, partsOk, typeOk, resultOk, headOk, argumentOk, localOk, operandOk}
 use Rattle.grammar.specs.Rules.{callArguments, formOk, callOk, commentsOk, shimOk}
 use Rattle.agreement.specs.Agreement as Agreement
 use Rattle.agreement.specs.Agreement.{Passing, passing, argumentOperand}
 use Rattle.spelling.specs.TypeTree.{cxxType}
-use Rattle.spelling.specs.DeclarationTree.{slotTree}
-use Rattle.spelling.specs.ShimTree.{commentsOf, resultOf, headOf, argumentOf, heldOf, roomOf, directForm, returnForm}
-use Rattle.spelling.specs.ShimTree.{operandOf, slotAddressOf, operandsOf, shimOf}
+use Rattle.spelling.specs.ShimTree.{commentsOf, resultOf, headOf, argumentOf, heldOf, roomOf, directForm}
+use Rattle.spelling.specs.ShimTree.{returnForm, operandOf, slotAddressOf, operandsOf, shimOf}
+use Rattle.spelling.proofs.Lists.{count-within}
 use Rattle.spelling.proofs.TypeSpelling.{item-kept}
 use Rattle.spelling.proofs.TypeRules.{type-ok}
 use Rattle.spelling.proofs.Shapes.{Shaped, isBox, isUniquePtr, isRef, isStr, isSlice, isOther, shaped}
@@ -54,7 +50,8 @@ operand-ok Agreement.uniquePtr x h = h
 operand-ok Agreement.rustString x h = h
 operand-ok Agreement.otherIndirect x h = h
 
-one-argument : (p : Passing) (x : Name) (os : List Operand) → callArguments (argumentOperand p x ∷ os) ≡ suc (callArguments os)
+one-argument : (p : Passing) (x : Name) (os : List Operand) →
+    callArguments (argumentOperand p x ∷ os) ≡ suc (callArguments os)
 unfolding callArguments
 one-argument Agreement.direct x os = refl
 one-argument Agreement.box x os = refl
@@ -85,9 +82,10 @@ call-append (Tree.slotAddress ∷ os) ps = call-append os ps
 
 module _ (items : List Item) where
   operands-ok : (f : Function) → FunctionKept items f → every operandOk (operandsOf items f) ≡ true
-  unfolding every operandOk argumentFits operandsOf
+  unfolding every operandOk operandsOf
   operands-ok f g =
-      every-append operandOk (pick (isMethod (f .form)) (Tree.receiver ∷ []) [] ++ map (operandOf items) (f .arguments)) _
+      every-append operandOk
+      (pick (isMethod (f .form)) (Tree.receiver ∷ []) [] ++ map (operandOf items) (f .arguments)) _
       (every-append operandOk (pick (isMethod (f .form)) (Tree.receiver ∷ []) []) _ (receiver-ok (isMethod (f .form)))
       (go (f .arguments) (g .argumentsFit)))
       (slots-ok (slot items f))
@@ -96,29 +94,21 @@ module _ (items : List Item) where
       receiver-ok true = refl
       receiver-ok false = refl
 
-      go : (xs : List Argument) → every (argumentFits (length items)) xs ≡ true → every operandOk (map (operandOf items) xs) ≡ true
+      go : (xs : List Argument) → every (argumentFits (length items)) xs ≡ true →
+          every operandOk (map (operandOf items) xs) ≡ true
       go [] h = refl
       go (a ∷ xs) h =
           let q = both (argumentFits (length items) a) _ h in
           and-of (operandOk (operandOf items a)) _
-          (operand-ok (passing items (a .type)) (a .name) (both (isName (a .name)) _ (q .0) .0)) (go xs (q .1))
+          (operand-ok (passing items (a .type)) (a .name) (argument-name (length items) a (q .0))) (go xs (q .1))
 
   few-operands : (f : Function) → FunctionKept items f → leb (callArguments (operandsOf items f)) 31 ≡ true
   unfolding callArguments operandsOf
   few-operands f g =
-      let receiver = pick (isMethod (f .form)) (Tree.receiver ∷ []) [] in
-      let arguments = map (operandOf items) (f .arguments) in
-      let slots = map slotAddressOf (slot items f) in
       let few : length (f .arguments) ≤ 31 = leb-true (length (f .arguments)) 31 (g .fewArguments) in
-      le-leb (callArguments (receiver ++ arguments ++ slots)) 31
-      (omega (
-        arith,
-        call-append (receiver ++ arguments) slots,
-        call-append receiver arguments,
-        none (isMethod (f .form)),
-        all (f .arguments),
-        no-arguments (slot items f),
-      ))
+      count-within callArguments call-append (pick (isMethod (f .form)) (Tree.receiver ∷ []) [])
+      (map (operandOf items) (f .arguments)) (map slotAddressOf (slot items f)) 31 (none (isMethod (f .form)))
+      (omega (arith, all (f .arguments))) (no-arguments (slot items f))
     where
       none : (b : Bool) → callArguments (pick b (Tree.receiver ∷ []) []) ≡ 0
       none true = refl
@@ -131,7 +121,8 @@ module _ (items : List Item) where
 module _ (items : List Item) (kept : All (ItemKept items) items) where
   -- ---- the call
 
-  directForm-ok : {t : Ty} {k : Shape} → Shaped t k → typeFits 8 (length items) t ≡ true → formOk (directForm items t k) ≡ true
+  directForm-ok : {t : Ty} {k : Shape} → Shaped t k → typeFits 8 (length items) t ≡ true →
+      formOk (directForm items t k) ≡ true
   unfolding formOk levels partsOk cxxType
   directForm-ok (isBox t) h = type-ok items kept 8 (template RustBox t) h
   directForm-ok (isUniquePtr t) h = type-ok items kept 8 (template UniquePtr t) h
@@ -155,14 +146,15 @@ module _ (items : List Item) (kept : All (ItemKept items) items) where
 
   -- ---- locals
 
-  held-ok : (xs : List Argument) → every (argumentFits (length items)) xs ≡ true → every localOk (gather (heldOf items) xs) ≡ true
-  unfolding every gather localOk argumentFits
+  held-ok : (xs : List Argument) → every (argumentFits (length items)) xs ≡ true →
+      every localOk (gather (heldOf items) xs) ≡ true
+  unfolding every gather localOk
   held-ok [] h = refl
   held-ok (a ∷ xs) h =
       let q = both (argumentFits (length items) a) _ h in
-      let p = both (isName (a .name)) (typeFits 8 (length items) (a .type)) (q .0) in
       every-append localOk (heldOf items a) _
-      (one (isHeld items (a .type)) (cxxType items (a .type)) (a .name) (type-ok items kept 8 (a .type) (p .1)) (p .0))
+      (one (isHeld items (a .type)) (cxxType items (a .type)) (a .name)
+      (type-ok items kept 8 (a .type) (argument-type (length items) a (q .0))) (argument-name (length items) a (q .0)))
       (held-ok xs (q .1))
     where
       one : (b : Bool) (x : CxxType) (n : Name) → typeOk 8 x ≡ true → isName n ≡ true →
@@ -189,12 +181,12 @@ module _ (items : List Item) (kept : All (ItemKept items) items) where
 
   arguments-ok : (xs : List Argument) → every (argumentFits (length items)) xs ≡ true →
       every argumentOk (map (argumentOf items) xs) ≡ true
-  unfolding every argumentOk argumentFits
+  unfolding every argumentOk
   arguments-ok [] h = refl
   arguments-ok (a ∷ xs) h =
       let q = both (argumentFits (length items) a) _ h in
-      let p = both (isName (a .name)) (typeFits 8 (length items) (a .type)) (q .0) in
-      rw (type-ok items kept 8 (a .type) (p .1), p .0) (arguments-ok xs (q .1))
+      rw (type-ok items kept 8 (a .type) (argument-type (length items) a (q .0)), argument-name (length items) a (q .0))
+      (arguments-ok xs (q .1))
 
   -- `int` is for `main` in the root
   main-root : (x : Item) (f : Function) → isMain x f ≡ true →
@@ -208,7 +200,8 @@ module _ (items : List Item) (kept : All (ItemKept items) items) where
       let e = both _ _ (d .0) in
       go (x .namespace) (f .form) (e .1) (d .1) (e .0)
     where
-      go : (ns : List Name) (form : Form) → isRoot ns ≡ true → isFree form ≡ true → same (x .cxx) (bytes "main") ≡ true →
+      go : (ns : List Name) (form : Form) → isRoot ns ≡ true → isFree form ≡ true →
+          same (x .cxx) (bytes "main") ≡ true →
           Rules.isMain (length ns) (headOf items x form) ≡ true
       go [] free r e h = h
       go [] (constMethod i) r e h = absurd (false≢true e)

@@ -1,18 +1,17 @@
 -- Shims are spelled as their trees' tokens.
-use mathlib.Core.Path.{_≡_, refl, ap, _∙_, sym}
+use mathlib.Core.Path.{_≡_, refl, ap}
 use mathlib.Core.List.{List, [], _∷_, _++_, map}
 use mathlib.Core.Bool.{Bool, true, false, _&&_, _||_, not, false≢true}
 use Prim.Native.Nat.{ℕ}
-use lib.Dec.{leb, ltb, eqb}
+use lib.Dec.{ltb}
 use lib.ListN.{length}
 use Rattle.lexical.specs.Bytes.{bytes, every}
 use Rattle.lexical.specs.Names.{isName}
 use Rattle.lexical.specs.Decimal.{pickText}
-use Rattle.lexical.proofs.BoolLaws.{both}
-use Rattle.lexical.proofs.ByteLaws.{byte-eq, every-cons}
+use Rattle.lexical.proofs.ByteLaws.{byte-eq}
 use Rattle.format.specs.Decode.{pick}
 use Rattle.format.specs.declared.Template.the-variants.{RustBox, UniquePtr}
-use Rattle.format.specs.declared.Pointer.the-variants.{Ref, SliceRef}
+use Rattle.format.specs.declared.Pointer.the-variants.{SliceRef}
 use Rattle.format.specs.Types.{Ty, atom, named, template, pointer, str, fn, array, Ret, none, gives}
 use Rattle.format.specs.Sheet.{Form, free, constMethod, mutMethod, associated, Argument, Function, Item, Sheet}
 use Rattle.syntax.specs.Items.{itemAt, selfType}
@@ -21,33 +20,32 @@ use Rattle.syntax.specs.Types.{atomNumber, needsIndirectAbi, isRustString}
 use Rattle.rules.specs.Rules.{gather, isMethod}
 use Rattle.decoded.specs.Fits.{partsFit, typeFits, returnFits, argumentFits, formFits}
 use Rattle.decoded.proofs.Decoded.{fits-parts}
-use Rattle.decoded.proofs.Kept.{All, ItemKept, FunctionKept}
+use Rattle.decoded.proofs.Kept.{All, argument-name, argument-type, ItemKept, FunctionKept}
 use Rattle.bridge.specs.WriteType.{writeType, writeTypeSpace, writeReturnType}
 use Rattle.bridge.specs.Write as Write
-use Rattle.bridge.specs.Write.{commas, indirectReturn, Shape, shape, slotType, slotOf, slot, isFree, isConst, isMain}
-use Rattle.bridge.specs.Write.{localName, shimDecl, isHeld, heldLocal, callBegin, callEnd, direct, operandEnd, operand}
-use Rattle.bridge.specs.Write.{operands, slotReturn, shimBody, writeDoc, functionShim}
-use Rattle.grammar.specs.Token.{Token, word, quoted}
-use Rattle.grammar.specs.Types as Cxx
-use Rattle.grammar.specs.Types.{CxxType, suffixed}
+use Rattle.bridge.specs.Write.{indirectReturn, Shape, shape, slotType, slotOf, slot, isFree, isConst, isMain, localName}
+use Rattle.bridge.specs.Write.{shimDecl, isHeld, heldLocal, callBegin, callEnd, direct, operandEnd, operand, operands}
+use Rattle.bridge.specs.Write.{slotReturn, shimBody, writeDoc, functionShim}
+use Rattle.grammar.specs.Token.{Token, quoted}
 use Rattle.grammar.specs.Tree as Tree
 use Rattle.grammar.specs.Tree.{CallForm}
-use Rattle.grammar.specs.Tokens.{eachTokens, listTokens, optional, constTokens, typeTokens, resultTokens, parameterTokens}
+use Rattle.grammar.specs.Tokens.{eachTokens, optional, constTokens, typeTokens, resultTokens, parameterTokens}
 use Rattle.grammar.specs.Tokens.{headTokens, signatureTokens, operandTokens, localTokens, formTokens, closeTokens}
 use Rattle.grammar.specs.Tokens.{callTokens, errorTestTokens, endingTokens, commentTokens, shimTokens}
-use Rattle.agreement.specs.Agreement.{Passing, rustString, otherIndirect, passing, ownerPassing, argumentOperand}
+use Rattle.agreement.specs.Agreement.{rustString, otherIndirect, passing, argumentOperand}
 use Rattle.agreement.specs.Agreement as Agreement
 use Rattle.spelling.specs.TypeTree.{cxxType}
 use Rattle.spelling.specs.DeclarationTree.{slotTree}
-use Rattle.spelling.specs.ShimTree.{commentsOf, resultOf, headOf, argumentOf, heldOf, roomOf, directForm, returnForm}
-use Rattle.spelling.specs.ShimTree.{operandOf, slotAddressOf, operandsOf, slotEnding, endingOf, shimOf}
+use Rattle.spelling.specs.ShimTree.{commentsOf, resultOf, headOf, argumentOf, heldOf, roomOf, directForm}
+use Rattle.spelling.specs.ShimTree.{returnForm, operandOf, slotAddressOf, operandsOf, slotEnding, endingOf}
+use Rattle.spelling.specs.ShimTree.{shimOf}
 use Rattle.spelling.proofs.Spells.{closed, inside, Spells, meets, _▷_, _▷⟨_⟩_, weaken, as-tokens, empty, lit}
-use Rattle.spelling.proofs.Spells.{word-spells, name-spells, dollar-behind}
-use Rattle.spelling.proofs.Lists.{SpellsEach, none, more, each-tokens-append, each-append, list-spells, map-spells}
-use Rattle.spelling.proofs.Lists.{gather-spells, gather-map-spells}
+use Rattle.spelling.proofs.Spells.{name-spells, dollar-behind}
+use Rattle.spelling.proofs.Lists.{SpellsEach, none, more, each-tokens-append, each-append, list-spells}
+use Rattle.spelling.proofs.Lists.{map-spells, gather-spells, gather-map-spells}
 use Rattle.spelling.proofs.TypeSpelling.{item-kept, type-spells, typeSpace-spells}
 use Rattle.spelling.proofs.Shapes.{Shaped, isBox, isUniquePtr, isRef, isStr, isSlice, isOther, shaped}
-use Rattle.spelling.proofs.Symbols.{symbol-word, externFn-symbol}
+use Rattle.spelling.proofs.Symbols.{externFn-spells}
 use Rattle.spelling.proofs.DeclarationSpelling.{slot-fits, pointer-spells}
 use Rattle.spelling.proofs.Comments.{doc-spells}
 
@@ -61,14 +59,16 @@ module _ (items : List Item) (kept : All (ItemKept items) items) where
   return-spells (gives t) h = typeSpace-spells items kept t (fits-parts 8 (length items) t h)
 
   result-spells : (main : Bool) (r : Ret) → returnFits (length items) r ≡ true →
-      Spells closed (pickText main (bytes "int ") (writeReturnType items r)) (resultTokens (pick main Tree.int (resultOf items r)))
+      Spells closed (pickText main (bytes "int ") (writeReturnType items r))
+      (resultTokens (pick main Tree.int (resultOf items r)))
   unfolding every
   result-spells true r h = lit "int " refl
   result-spells false r h = return-spells r h
 
   -- a member's head is behind its type's name
   member-spells : (i : ℕ) (x : Item) → ltb i (length items) ≡ true → isName (x .cxx) ≡ true →
-      Spells inside (itemAt items i .cxx ++ bytes "::" ++ [] ++ x .cxx) (headTokens (Tree.method (itemAt items i .cxx) (x .cxx)))
+      Spells inside (itemAt items i .cxx ++ bytes "::" ++ [] ++ x .cxx)
+      (headTokens (Tree.method (itemAt items i .cxx) (x .cxx)))
   unfolding every
   member-spells i x h n =
       name-spells (itemAt items i .cxx) (item-kept items kept i h .cxxName) ▷⟨ refl ⟩ lit "::" refl ▷ empty
@@ -80,7 +80,8 @@ module _ (items : List Item) (kept : All (ItemKept items) items) where
   head-spells x f n = go (f .form)
     where
       go : (form : Form) → formFits (length items) form ≡ true →
-          Spells inside (gather (λ i. itemAt items i .cxx ++ bytes "::") (selfType form) ++ x .cxx) (headTokens (headOf items x form))
+          Spells inside (gather (λ i. itemAt items i .cxx ++ bytes "::") (selfType form) ++ x .cxx)
+          (headTokens (headOf items x form))
       go free h = name-spells (x .cxx) n
       go (constMethod i) h = member-spells i x h n
       go (mutMethod i) h = member-spells i x h n
@@ -88,10 +89,10 @@ module _ (items : List Item) (kept : All (ItemKept items) items) where
 
   argument-spells : (a : Argument) → argumentFits (length items) a ≡ true →
       Spells inside (writeTypeSpace items (a .type) ++ a .name) (parameterTokens (argumentOf items a))
-  unfolding argumentFits
   argument-spells a h =
-      let q = both (isName (a .name)) (typeFits 8 (length items) (a .type)) h in
-      typeSpace-spells items kept (a .type) (fits-parts 8 (length items) (a .type) (q .1)) ▷ name-spells (a .name) (q .0)
+      let n = length items in
+      typeSpace-spells items kept (a .type) (fits-parts 8 n (a .type) (argument-type n a h))
+      ▷ name-spells (a .name) (argument-name n a h)
 
   noexcept-meets : (throws : Bool) → meets inside (pickText throws [] (bytes " noexcept")) inside ≡ true
   noexcept-meets true = refl
@@ -118,31 +119,32 @@ module _ (items : List Item) (kept : All (ItemKept items) items) where
       ▷ list-spells parameterTokens
       (map-spells parameterTokens (argumentFits (length items)) (λ a. writeTypeSpace items (a .type) ++ a .name)
       (argumentOf items) argument-spells (f .arguments) (g .argumentsFit))
-      ▷⟨ refl ⟩ lit ")" refl ▷ const-spells (isConst (f .form)) ▷⟨ noexcept-meets (f .throws) ⟩ noexcept-spells (f .throws)
+      ▷⟨ refl ⟩ lit ")" refl ▷ const-spells (isConst (f .form))
+      ▷⟨ noexcept-meets (f .throws) ⟩ noexcept-spells (f .throws)
 
   -- ---- locals
 
   held-spells : (a : Argument) → argumentFits (length items) a ≡ true →
       Spells closed (heldLocal items a) (eachTokens localTokens (heldOf items a))
-  unfolding every argumentFits heldLocal
+  unfolding every heldLocal
   held-spells a h = go (isHeld items (a .type))
     where
       name : isName (a .name) ≡ true
-      name = both (isName (a .name)) (typeFits 8 (length items) (a .type)) h .0
+      name = argument-name (length items) a h
 
       type : partsFit (length items) (a .type) ≡ true
-      type =
-          fits-parts 8 (length items) (a .type) (both (isName (a .name)) (typeFits 8 (length items) (a .type)) h .1)
+      type = fits-parts 8 (length items) (a .type) (argument-type (length items) a h)
 
       go : (b : Bool) →
           Spells closed
           (pickText b
-          (bytes "  ::rust::ManuallyDrop<" ++ writeType items (a .type) ++ bytes "> " ++ a .name ++ bytes "$(::std::move("
-          ++ a .name ++ bytes "));\n")
+          (bytes "  ::rust::ManuallyDrop<" ++ writeType items (a .type) ++ bytes "> " ++ a .name
+          ++ bytes "$(::std::move(" ++ a .name ++ bytes "));\n")
           [])
           (eachTokens localTokens (pick b (Tree.held (cxxType items (a .type)) (a .name) ∷ []) []))
       go true =
-          dollar-behind (lit "  ::rust::ManuallyDrop<" refl ▷ type-spells items kept (a .type) type ▷⟨ refl ⟩ lit "> " refl)
+          dollar-behind (lit "  ::rust::ManuallyDrop<" refl ▷ type-spells items kept (a .type) type
+          ▷⟨ refl ⟩ lit "> " refl)
           (a .name) name refl (lit "(::std::move(" refl)
           ▷ name-spells (a .name) name ▷⟨ refl ⟩ lit "));\n" refl
       go false = empty
@@ -160,7 +162,8 @@ module _ (items : List Item) (kept : All (ItemKept items) items) where
   abbrev roomText : Ty → List ℕ
   roomText t = bytes "::rust::MaybeUninit<" ++ slotType items t (shape t) ++ bytes "> return$;\n" ++ bytes "  "
 
-  room-spells : (t : Ty) → typeFits 8 (length items) t ≡ true → Spells closed (roomText t) (localTokens (roomOf items t))
+  room-spells : (t : Ty) → typeFits 8 (length items) t ≡ true →
+      Spells closed (roomText t) (localTokens (roomOf items t))
   unfolding every
   room-spells t h =
       lit "::rust::MaybeUninit<" refl ▷ slotType-spells (shaped t) (fits-parts 8 (length items) t h)
@@ -207,19 +210,29 @@ module _ (items : List Item) (kept : All (ItemKept items) items) where
   ends-spell false (gives t) = empty
 
   error-spells : (throws : Bool) →
-      Spells closed (pickText throws (bytes "::rust::repr::PtrLen error$ = ") []) (formTokens (pick throws Tree.error Tree.bare))
+      Spells closed (pickText throws (bytes "::rust::repr::PtrLen error$ = ") [])
+      (formTokens (pick throws Tree.error Tree.bare))
   unfolding every
   error-spells true = lit "::rust::repr::PtrLen error$ = " refl
   error-spells false = empty
 
   -- a throwing function has no direct return
-  no-direct : (f : Function) → f .throws ≡ true → direct items f ≡ []
+  by-direct : (f : Function) (P : Bool → List Ty → Type 0) → P true [] → ((ts : List Ty) → P false ts) →
+      P (f .throws) (direct items f)
   unfolding direct indirectReturn
-  no-direct f e = go (f .return)
+  by-direct f P p q = go (f .return)
     where
-      go : (r : Ret) → slotOf (not (indirectReturn items f r)) r ≡ []
-      go none = refl
-      go (gives t) = rw e
+      nothing : (throws : Bool) → P throws []
+      nothing true = p
+      nothing false = q []
+
+      something : (t : Ty) (throws indirect : Bool) → P throws (pick (not (throws || indirect)) (t ∷ []) [])
+      something t true indirect = p
+      something t false indirect = q (pick (not indirect) (t ∷ []) [])
+
+      go : (r : Ret) → P (f .throws) (slotOf (not (indirectReturn items f r)) r)
+      go none = nothing (f .throws)
+      go (gives t) = something t (f .throws) (needsIndirectAbi items t)
 
   abbrev callForm : Function → CallForm
   callForm f = pick (f .throws) Tree.error (returnForm items (direct items f))
@@ -227,22 +240,19 @@ module _ (items : List Item) (kept : All (ItemKept items) items) where
   form-tokens : (f : Function) (ts : List Token) →
       formTokens (returnForm items (direct items f)) (formTokens (pick (f .throws) Tree.error Tree.bare) ts) ≡
       formTokens (callForm f) ts
-  form-tokens f ts = go (f .throws) (direct items f) (no-direct f)
-    where
-      go : (throws : Bool) (ds : List Ty) → (throws ≡ true → ds ≡ []) →
-          formTokens (returnForm items ds) (formTokens (pick throws Tree.error Tree.bare) ts) ≡
-          formTokens (pick throws Tree.error (returnForm items ds)) ts
-      go true ds h = rw (h refl)
-      go false ds h = refl
+  form-tokens f ts =
+      by-direct f
+      (λ throws ds. formTokens (returnForm items ds) (formTokens (pick throws Tree.error Tree.bare) ts) ≡
+      formTokens (pick throws Tree.error (returnForm items ds)) ts)
+      refl (λ ds. refl)
 
   close-tokens : (f : Function) (ts : List Token) →
       closeTokens (returnForm items (direct items f)) ts ≡ closeTokens (callForm f) ts
-  close-tokens f ts = go (f .throws) (direct items f) (no-direct f)
-    where
-      go : (throws : Bool) (ds : List Ty) → (throws ≡ true → ds ≡ []) →
-          closeTokens (returnForm items ds) ts ≡ closeTokens (pick throws Tree.error (returnForm items ds)) ts
-      go true ds h = rw (h refl)
-      go false ds h = refl
+  close-tokens f ts =
+      by-direct f
+      (λ throws ds. closeTokens (returnForm items ds) ts ≡
+      closeTokens (pick throws Tree.error (returnForm items ds)) ts)
+      refl (λ ds. refl)
 
   -- ---- operands
 
@@ -274,13 +284,13 @@ module _ (items : List Item) (kept : All (ItemKept items) items) where
   shaped-operand x n (isRef m t) = name-spells x n ▷⟨ refl ⟩ empty
   shaped-operand x n isStr = name-spells x n ▷⟨ refl ⟩ empty
   shaped-operand x n (isSlice m t) = name-spells x n ▷⟨ refl ⟩ empty
-  shaped-operand x n (isOther t plain) = rw (plain _) (plain-operand x n (isRustString t) (needsIndirectAbi items t) (rustString-indirect t))
+  shaped-operand x n (isOther t plain) =
+      rw (plain _) (plain-operand x n (isRustString t) (needsIndirectAbi items t) (rustString-indirect t))
 
   operand-spells : (a : Argument) → argumentFits (length items) a ≡ true →
       Spells inside (operand items a) (operandTokens (operandOf items a))
-  unfolding argumentFits operand
-  operand-spells a h =
-      shaped-operand (a .name) (both (isName (a .name)) (typeFits 8 (length items) (a .type)) h .0) (shaped (a .type))
+  unfolding operand
+  operand-spells a h = shaped-operand (a .name) (argument-name (length items) a h) (shaped (a .type))
 
   receiver-spells : (b : Bool) →
       SpellsEach operandTokens (pick b (bytes "*this" ∷ []) []) (pick b (Tree.receiver ∷ []) [])
@@ -288,19 +298,16 @@ module _ (items : List Item) (kept : All (ItemKept items) items) where
   receiver-spells true = more (lit "*this" refl) none
   receiver-spells false = none
 
-  slotAddress-spells : (t : Ty) → true ≡ true → Spells inside (bytes "&return$.value") (operandTokens (slotAddressOf t))
-  unfolding every
-  slotAddress-spells t h = lit "&return$.value" refl
-
-  operands-spell : (f : Function) → FunctionKept items f → SpellsEach operandTokens (operands items f) (operandsOf items f)
-  unfolding operands operandsOf slot
+  operands-spell : (f : Function) → FunctionKept items f →
+      SpellsEach operandTokens (operands items f) (operandsOf items f)
+  unfolding every operands operandsOf slot
   operands-spell f g =
       each-append operandTokens
       (each-append operandTokens (receiver-spells (isMethod (f .form)))
       (map-spells operandTokens (argumentFits (length items)) (operand items) (operandOf items) operand-spells
       (f .arguments) (g .argumentsFit)))
       (map-spells operandTokens (typeFits 8 (length items)) (λ t. bytes "&return$.value") slotAddressOf
-      (λ t h. slotAddress-spells t refl) (slot items f)
+      (λ t h. lit "&return$.value" refl) (slot items f)
       (slot-fits (length items) (indirectReturn items f (f .return)) (f .return) (g .returnFits)))
 
   -- ---- the end
@@ -313,7 +320,8 @@ module _ (items : List Item) (kept : All (ItemKept items) items) where
   errorTest-spells true = lit "  if (error$.ptr) {\n    throw ::rust::impl<::rust::Error>::error(error$);\n  }\n" refl
   errorTest-spells false = empty
 
-  slotReturn-spells : (k : Shape) → Spells closed (bytes "  return " ++ slotReturn k ++ bytes ";\n") (endingTokens (slotEnding k))
+  slotReturn-spells : (k : Shape) →
+      Spells closed (bytes "  return " ++ slotReturn k ++ bytes ";\n") (endingTokens (slotEnding k))
   unfolding every
   slotReturn-spells (Write.ref m t) = lit "  return " refl ▷ lit "*return$.value" refl ▷⟨ refl ⟩ lit ";\n" refl
   slotReturn-spells (Write.rustBox t) = lit "  return " refl ▷ lit "::std::move(return$.value)" refl ▷ lit ";\n" refl
@@ -347,10 +355,11 @@ module _ (items : List Item) (kept : All (ItemKept items) items) where
     locals-spell =
         as-tokens (λ ts. ap (quoted "{") (each-tokens-append localTokens (gather (heldOf items) (f .arguments)) _ ts))
         (lit " {\n" refl
-        ▷ gather-spells localTokens (argumentFits (length items)) (heldLocal items) (heldOf items) held-spells (f .arguments)
-        (g .argumentsFit)
+        ▷ gather-spells localTokens (argumentFits (length items)) (heldLocal items) (heldOf items) held-spells
+        (f .arguments) (g .argumentsFit)
         ▷ lit "  " refl
-        ▷ gather-map-spells localTokens (typeFits 8 (length items)) roomText (roomOf items) room-spells (slot items f) returned)
+        ▷ gather-map-spells localTokens (typeFits 8 (length items)) roomText (roomOf items) room-spells
+        (slot items f) returned)
 
     -- up to the called symbol
     call-begins : Spells closed
@@ -364,23 +373,20 @@ module _ (items : List Item) (kept : All (ItemKept items) items) where
         (locals-spell ▷ begins-spell (not (indirectReturn items f (f .return))) (f .return) (g .returnFits)
         ▷ error-spells (f .throws))
 
-    symbol-spells : Spells inside (externFn items (x .namespace) f) (λ ts. word (externFn items (x .namespace) f) ∷ ts)
-    symbol-spells =
-        word-spells (externFn items (x .namespace) f)
-        (symbol-word (externFn items (x .namespace) f) (externFn-symbol items kept x k f g))
-
     close-spells : Spells closed (gather (λ t. callEnd (shape t)) (direct items f)) (closeTokens (callForm f))
     unfolding direct
     close-spells = as-tokens (close-tokens f) (ends-spell (not (indirectReturn items f (f .return))) (f .return))
 
     body-spells : Spells closed (shimBody items x f)
         (λ ts. quoted "{" (eachTokens localTokens locals
-        (callTokens (record { form = callForm f; symbol = externFn items (x .namespace) f; operands = operandsOf items f })
+        (callTokens
+        (record { form = callForm f; symbol = externFn items (x .namespace) f; operands = operandsOf items f })
         (errorTestTokens (f .throws) (endingTokens (endingOf (slot items f)) (quoted "}" ts))))))
     unfolding every shimBody slot
     body-spells =
-        call-begins ▷ symbol-spells ▷⟨ refl ⟩ lit "(" refl ▷ list-spells operandTokens (operands-spell f g) ▷⟨ refl ⟩ lit ")" refl
-        ▷ close-spells ▷ lit ";\n" refl ▷ errorTest-spells (f .throws)
+        call-begins ▷ externFn-spells items kept x k f g ▷⟨ refl ⟩ lit "(" refl
+        ▷ list-spells operandTokens (operands-spell f g) ▷⟨ refl ⟩ lit ")" refl ▷ close-spells
+        ▷ lit ";\n" refl ▷ errorTest-spells (f .throws)
         ▷ ending-spells (indirectReturn items f (f .return)) (f .return) ▷ lit "}\n" refl
 
 comments-spell : (free doxygen : Bool) (f : Function) (items : List Item) → FunctionKept items f →

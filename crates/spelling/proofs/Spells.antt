@@ -1,17 +1,17 @@
 -- A text that spells tokens, in front of any rest that does not run on into it, and how such texts are joined.
-use mathlib.Core.Path.{_≡_, refl, ap, _∙_, sym}
-use mathlib.Core.List.{List, [], _∷_, _++_, append-assoc, append-nil, map}
-use mathlib.Core.Bool.{Bool, true, false, _&&_, _||_, not, false≢true}
+use mathlib.Core.Path.{_≡_, refl}
+use mathlib.Core.List.{List, [], _∷_, _++_, append-assoc}
+use mathlib.Core.Bool.{Bool, true, false, _&&_, not, false≢true}
 use Prim.Native.Nat.{ℕ}
 use Prim.Native.String.{String}
 use lib.Dec.{eqb}
 use Rattle.lexical.specs.Bytes.{bytes, every}
 use Rattle.lexical.specs.Names.{starts, nameStart, nameChar, isName, reserved}
-use Rattle.lexical.proofs.BoolLaws.{both, and-of, or-left, by-cases, not-true}
+use Rattle.lexical.proofs.BoolLaws.{both, and-of, or-left}
 use Rattle.lexical.proofs.ByteLaws.{every-weaken, every-snoc}
 use Rattle.lexical.proofs.NameLaws.{name-starts, name-chars}
-use Rattle.grammar.specs.Token.{Token, word, mark, scope, comment, wordChar, spelling}
-use Rattle.grammar.specs.Layout.{nonempty, wellFormed, noWordChar, Layout, finished, blank, token}
+use Rattle.grammar.specs.Token.{Token, word, wordChar}
+use Rattle.grammar.specs.Layout.{nonempty, wellFormed, noWordChar, Layout, token}
 use Rattle.grammar.proofs.Lexer.{Mode, between, inWord, afterColon, afterSlash, afterQuote, afterQuoteC, inComment, lex}
 use Rattle.grammar.proofs.LexedLayout.{allWellFormed}
 use Rattle.grammar.proofs.Literal.{final, seam, literal}
@@ -61,7 +61,8 @@ weaken closed p = record { laid = λ ts r k d. p .laid ts r refl d }
 weaken inside p = p
 
 -- the same tokens, told in another way
-pub as-tokens : {e : End} {a : List ℕ} {t u : List Token → List Token} → ((ts : List Token) → t ts ≡ u ts) → Spells e a t → Spells e a u
+pub as-tokens : {e : End} {a : List ℕ} {t u : List Token → List Token} → ((ts : List Token) → t ts ≡ u ts) →
+    Spells e a t → Spells e a u
 as-tokens h p = record { laid = λ ts r k d. rw (h ts) at (p .laid ts r k d) }
 
 pub empty : {e : End} → Spells e [] (λ ts. ts)
@@ -98,7 +99,8 @@ ends-seam (inComment a) r h k = absurd (false≢true h)
 abbrev pub literalOk : List ℕ → Bool
 literalOk a = allWellFormed (lex a) && ends (final between a)
 
-pub lit : (s : String) → literalOk (bytes s) ≡ true → Spells (endOf (final between (bytes s))) (bytes s) (λ ts. lex (bytes s) ++ ts)
+pub lit : (s : String) → literalOk (bytes s) ≡ true →
+    Spells (endOf (final between (bytes s))) (bytes s) (λ ts. lex (bytes s) ++ ts)
 lit s h =
     let a = bytes s in
     let q = both (allWellFormed (lex a)) (ends (final between a)) h in
@@ -106,14 +108,21 @@ lit s h =
 
 -- ---- words
 
-pub name-word : (s : List ℕ) → isName s ≡ true → wellFormed (word s) ≡ true
+pub starts-some : (test : ℕ → Bool) (s : List ℕ) → starts test s ≡ true → nonempty s ≡ true
+starts-some test [] e = absurd (false≢true e)
+starts-some test (c ∷ s) e = refl
+
+pub some-snoc : (s : List ℕ) (c : ℕ) → nonempty (s ++ (c ∷ [])) ≡ true
+some-snoc [] c = refl
+some-snoc (d ∷ s) c = refl
+
+pub name-wordChars : (s : List ℕ) → isName s ≡ true → every wordChar s ≡ true
+name-wordChars s h =
+    every-weaken nameChar wordChar (λ c e. or-left (nameChar c) (eqb c 36) e) s (name-chars reserved s h)
+
+name-word : (s : List ℕ) → isName s ≡ true → wellFormed (word s) ≡ true
 name-word s h =
-    and-of (nonempty s) (every wordChar s) (some s (name-starts reserved s h))
-    (every-weaken nameChar wordChar (λ c e. or-left (nameChar c) (eqb c 36) e) s (name-chars reserved s h))
-  where
-    some : (s : List ℕ) → starts nameStart s ≡ true → nonempty s ≡ true
-    some [] e = absurd (false≢true e)
-    some (c ∷ s) e = refl
+    and-of (nonempty s) (every wordChar s) (starts-some nameStart s (name-starts reserved s h)) (name-wordChars s h)
 
 pub word-spells : (s : List ℕ) → wellFormed (word s) ≡ true → Spells inside s (λ ts. word s ∷ ts)
 word-spells s h = record { laid = λ ts r k d. token {t = word s} h k d }
@@ -123,12 +132,8 @@ name-spells s h = word-spells s (name-word s h)
 
 dollar-word : (s : List ℕ) → isName s ≡ true → wellFormed (word (s ++ (36 ∷ []))) ≡ true
 dollar-word s h =
-    let q = both (nonempty s) (every wordChar s) (name-word s h) in
-    and-of (nonempty (s ++ (36 ∷ []))) (every wordChar (s ++ (36 ∷ []))) (some s) (every-snoc wordChar s 36 (q .1) refl)
-  where
-    some : (s : List ℕ) → nonempty (s ++ (36 ∷ [])) ≡ true
-    some [] = refl
-    some (c ∷ s) = refl
+    and-of (nonempty (s ++ (36 ∷ []))) (every wordChar (s ++ (36 ∷ []))) (some-snoc s 36)
+    (every-snoc wordChar s 36 (name-wordChars s h) refl)
 
 -- a name with a dollar behind it is one word
 pub dollar-behind : {f : End} {a b : List ℕ} {ta tb : List Token → List Token} → Spells closed a ta → (s : List ℕ) →

@@ -1,5 +1,5 @@
 -- A symbol's segments, joined by `$`, make an identifier.
-use mathlib.Core.Path.{_≡_, refl, ap, _∙_, sym}
+use mathlib.Core.Path.{_≡_, refl}
 use mathlib.Core.List.{List, [], _∷_, _++_, append-assoc, map}
 use mathlib.Core.Bool.{Bool, true, false, _&&_, _||_, not, false≢true}
 use Prim.Native.Nat.{ℕ}
@@ -8,20 +8,21 @@ use lib.ListN.{length}
 use Rattle.lexical.specs.Bytes.{bytes, every, same, member}
 use Rattle.lexical.specs.Names.{nameStart, nameChar, starts, keywords, alternativeTokens, reserved, isName}
 use Rattle.lexical.proofs.BoolLaws.{both, and-of, by-cases, or-left, fails-too}
-use Rattle.lexical.proofs.ByteLaws.{same-eq, every-append, every-split, every-weaken}
-use Rattle.lexical.proofs.NameLaws.{name-starts, name-chars}
+use Rattle.lexical.proofs.ByteLaws.{same-eq, every-append, every-weaken}
+use Rattle.lexical.proofs.NameLaws.{name-starts}
 use Rattle.format.specs.Sheet.{Name, Form, free, constMethod, mutMethod, associated, Function, Item}
 use Rattle.syntax.specs.Items.{itemAt, selfType}
 use Rattle.syntax.specs.Symbol.{pushAll, join}
 use Rattle.syntax.specs.Mangle.{version, externFn, operator}
 use Rattle.grammar.specs.Token.{word, wordChar}
-use Rattle.grammar.specs.Layout.{nonempty, wellFormed}
+use Rattle.grammar.specs.Layout.{nonempty}
 use Rattle.grammar.specs.Rules.{isSymbol}
 use Rattle.grammar.specs.Tree as Tree
 use Rattle.grammar.specs.Tree.{Measure}
 use Rattle.decoded.specs.Fits.{formFits}
 use Rattle.decoded.proofs.Kept.{All, ItemKept, FunctionKept}
 use Rattle.spelling.specs.DeclarationTree.{operatorName}
+use Rattle.spelling.proofs.Spells.{inside, Spells, starts-some, name-wordChars, word-spells}
 use Rattle.spelling.proofs.TypeSpelling.{item-kept}
 
 -- ---- words without a dollar
@@ -48,10 +49,6 @@ dollar-inside (c ∷ a) b = by-cases (nameChar c) (λ e. rw e (dollar-inside a b
 abbrev segmentOk : List ℕ → Bool
 segmentOk s = every wordChar s
 
-segment-of : (s : List ℕ) → isName s ≡ true → segmentOk s ≡ true
-segment-of s h =
-    every-weaken nameChar wordChar (λ c e. or-left (nameChar c) (eqb c 36) e) s (name-chars reserved s h)
-
 push-chars : (segments : List (List ℕ)) → every segmentOk segments ≡ true → every wordChar (pushAll segments) ≡ true
 unfolding every pushAll
 push-chars [] h = refl
@@ -60,11 +57,9 @@ push-chars (s ∷ segments) h =
     every-append wordChar s (pushAll segments) (q .0) (push-chars segments (q .1))
 
 join-chars : (segments : List (List ℕ)) → every segmentOk segments ≡ true → every wordChar (join segments) ≡ true
-unfolding every join
+unfolding every pushAll join
 join-chars [] h = refl
-join-chars (s ∷ segments) h =
-    let q = both (segmentOk s) (every segmentOk segments) h in
-    every-append wordChar s (pushAll segments) (q .0) (push-chars segments (q .1))
+join-chars (s ∷ segments) h = push-chars (s ∷ segments) h
 
 abbrev symbolStart : ℕ → Bool
 symbolStart c = nameStart c || eqb c 36
@@ -78,7 +73,8 @@ module _ (rest : List (List ℕ)) where
   unfolding every join
   join-starts [] h = refl
   join-starts (n ∷ ns) h =
-      starts-symbol n (pushAll (ns ++ (version ++ rest))) (name-starts reserved n (both (isName n) (every isName ns) h .0))
+      starts-symbol n (pushAll (ns ++ (version ++ rest)))
+      (name-starts reserved n (both (isName n) (every isName ns) h .0))
 
   join-dollar : (ns : List Name) → every nameChar (join (ns ++ (version ++ rest))) ≡ false
   unfolding join pushAll
@@ -91,51 +87,57 @@ module _ (rest : List (List ℕ)) where
       isSymbol (join (ns ++ version ++ rest)) ≡ true
   unfolding every isSymbol
   join-symbol ns h g =
-      let s = join (ns ++ (version ++ rest)) in
-      let segments : every segmentOk (ns ++ (version ++ rest)) ≡ true =
-      every-append segmentOk ns (version ++ rest) (every-weaken isName segmentOk segment-of ns h) g in
-      rw (
-        append-assoc ns version rest,
-        join-starts ns h,
-        join-chars (ns ++ (version ++ rest)) segments,
-        fails-too (member s reserved) (every nameChar s) (member-passes (every nameChar) reserved reserved-chars s) (join-dollar ns),
-      )
+      let all = ns ++ (version ++ rest) in
+      let segments : every segmentOk all ≡ true =
+      every-append segmentOk ns (version ++ rest) (every-weaken isName segmentOk name-wordChars ns h) g in
+      let free : member (join all) reserved ≡ false =
+      fails-too (member (join all) reserved) (every nameChar (join all))
+      (member-passes (every nameChar) reserved reserved-chars (join all)) (join-dollar ns) in
+      rw (append-assoc ns version rest, join-starts ns h, join-chars all segments, free)
 
-pub symbol-word : (s : List ℕ) → isSymbol s ≡ true → wellFormed (word s) ≡ true
+symbol-spells : (s : List ℕ) → isSymbol s ≡ true → Spells inside s (λ ts. word s ∷ ts)
 unfolding isSymbol
-symbol-word s h =
+symbol-spells s h =
     let p = both (starts symbolStart s) (every wordChar s && not (member s reserved)) h in
-    and-of (nonempty s) (every wordChar s) (some s (p .0)) (both (every wordChar s) (not (member s reserved)) (p .1) .0)
-  where
-    some : (s : List ℕ) → starts symbolStart s ≡ true → nonempty s ≡ true
-    some [] e = absurd (false≢true e)
-    some (c ∷ s) e = refl
+    word-spells s
+    (and-of (nonempty s) (every wordChar s) (starts-some symbolStart s (p .0))
+    (both (every wordChar s) (not (member s reserved)) (p .1) .0))
 
 -- ---- the symbols of a sheet
 
-module _ (items : List Item) (kept : All (ItemKept items) items) (x : Item) (k : ItemKept items x) where
+module _ (items : List Item) (kept : All (ItemKept items) items) where
   self-names : (form : Form) → formFits (length items) form ≡ true →
       every segmentOk (map (λ i. itemAt items i .cxx) (selfType form)) ≡ true
   unfolding every formFits
   self-names free h = refl
-  self-names (constMethod i) h = rw (segment-of (itemAt items i .cxx) (item-kept items kept i h .cxxName))
-  self-names (mutMethod i) h = rw (segment-of (itemAt items i .cxx) (item-kept items kept i h .cxxName))
-  self-names (associated i) h = rw (segment-of (itemAt items i .cxx) (item-kept items kept i h .cxxName))
+  self-names (constMethod i) h = rw (name-wordChars (itemAt items i .cxx) (item-kept items kept i h .cxxName))
+  self-names (mutMethod i) h = rw (name-wordChars (itemAt items i .cxx) (item-kept items kept i h .cxxName))
+  self-names (associated i) h = rw (name-wordChars (itemAt items i .cxx) (item-kept items kept i h .cxxName))
 
-  pub externFn-symbol : (f : Function) → FunctionKept items f → isSymbol (externFn items (x .namespace) f) ≡ true
-  unfolding every externFn
-  externFn-symbol f g =
-      let self = map (λ i. itemAt items i .cxx) (selfType (f .form)) in
-      rw (append-assoc (x .namespace ++ version) self (f .rust ∷ []))
-      (join-symbol (self ++ (f .rust ∷ [])) (x .namespace) (k .namespaceNames)
-      (every-append segmentOk self (f .rust ∷ []) (self-names (f .form) (g .formFits)) (rw (segment-of (f .rust) (g .rustName)))))
+  module _ (x : Item) (k : ItemKept items x) (f : Function) (g : FunctionKept items f) where
+    pub externFn-symbol : isSymbol (externFn items (x .namespace) f) ≡ true
+    unfolding every externFn
+    externFn-symbol =
+        let self = map (λ i. itemAt items i .cxx) (selfType (f .form)) in
+        rw (append-assoc (x .namespace ++ version) self (f .rust ∷ []))
+        (join-symbol (self ++ (f .rust ∷ [])) (x .namespace) (k .namespaceNames)
+        (every-append segmentOk self (f .rust ∷ []) (self-names (f .form) (g .formFits))
+        (rw (name-wordChars (f .rust) (g .rustName)))))
 
-  pub operator-symbol : (m : Measure) → isSymbol (operator x (operatorName m)) ≡ true
+    pub externFn-spells :
+        Spells inside (externFn items (x .namespace) f) (λ ts. word (externFn items (x .namespace) f) ∷ ts)
+    externFn-spells = symbol-spells (externFn items (x .namespace) f) externFn-symbol
+
+module _ {items : List Item} (x : Item) (k : ItemKept items x) (m : Measure) where
+  pub operator-symbol : isSymbol (operator x (operatorName m)) ≡ true
   unfolding every operator
-  operator-symbol m =
+  operator-symbol =
       join-symbol (x .cxx ∷ bytes "operator" ∷ operatorName m ∷ []) (x .namespace) (k .namespaceNames)
-      (rw (segment-of (x .cxx) (k .cxxName)) (go m))
+      (rw (name-wordChars (x .cxx) (k .cxxName)) (go m))
     where
       go : (m : Measure) → every segmentOk (bytes "operator" ∷ operatorName m ∷ []) ≡ true
       go Tree.size = refl
       go Tree.align = refl
+
+  pub operator-spells : Spells inside (operator x (operatorName m)) (λ ts. word (operator x (operatorName m)) ∷ ts)
+  operator-spells = symbol-spells (operator x (operatorName m)) operator-symbol

@@ -1,14 +1,12 @@
 -- The trees of a sheet's types keep the grammar's rules.
-use mathlib.Core.Path.{_≡_, refl, ap, ap₂, _∙_, sym}
+use mathlib.Core.Path.{_≡_, refl, ap, ap₂, _∙_}
 use mathlib.Core.List.{List, [], _∷_, _++_}
-use mathlib.Core.Bool.{Bool, true, false, _&&_, _||_, not}
-use Prim.Native.Nat.{ℕ, suc, _+_, _≤_, max}
+use mathlib.Core.Bool.{Bool, true, false, _&&_, not}
+use Prim.Native.Nat.{ℕ, suc, _≤_, max}
 use native.Mathlib.Omega.{arith}
 use borrow.Author.Tests.{leb-true, le-leb}
 use lib.Dec.{leb, ltb}
 use lib.ListN.{length, length-append}
-use Rattle.lexical.specs.Bytes.{bytes, within, every, same}
-use Rattle.lexical.specs.Names.{isName}
 use Rattle.lexical.proofs.BoolLaws.{both, and-of}
 use Rattle.format.specs.declared.Pointer.{Pointer}
 use Rattle.format.specs.declared.Pointer.the-variants.{Ref, Ptr, SliceRef}
@@ -19,10 +17,11 @@ use Rattle.rules.specs.Rules.{reservedNamespace}
 use Rattle.decoded.specs.Fits.{depth, depthRet, depthTys, count, partsFit, partsFitRet, partsFitTys, typeFits}
 use Rattle.decoded.proofs.Kept.{All, ItemKept}
 use Rattle.grammar.specs.Types as Cxx
-use Rattle.grammar.specs.Types.{CxxType, suffixed, Suffix, Base, CxxTypes}
+use Rattle.grammar.specs.Types.{CxxType, suffixed, Suffix, CxxTypes}
 use Rattle.grammar.specs.Rules
-use Rattle.grammar.specs.Rules.{ofStdOrRust, fullNameOk, levels, baseLevels, deepest, partsOk, baseOk, allPartsOk, typeOk}
-use Rattle.spelling.specs.TypeTree.{itemPath, withSuffix, pointerTo, pointerTree, cxxType, fnTree, cxxTypes}
+use Rattle.grammar.specs.Rules.{ofStdOrRust, fullNameOk, levels, baseLevels, deepest, partsOk, baseOk, allPartsOk}
+use Rattle.grammar.specs.Rules.{typeOk}
+use Rattle.spelling.specs.TypeTree.{itemPath, withSuffix, pointerTree, cxxType, fnTree, cxxTypes}
 use Rattle.spelling.proofs.TypeSpelling.{item-kept, itemPath-names}
 
 -- ---- levels
@@ -31,13 +30,13 @@ pub suffix-levels : (s : Suffix) (x : CxxType) → levels (withSuffix s x) ≡ s
 unfolding levels
 suffix-levels s (suffixed base suffixes) = omega (arith, length-append suffixes (s ∷ []))
 
-module _ (items : List Item) where
-  pointer-levels : (k : Pointer) (m : Bool) (x : CxxType) → levels (pointerTree k m x) ≡ suc (levels x)
-  unfolding levels
-  pointer-levels Ref m x = suffix-levels (Cxx.reference (not m)) x
-  pointer-levels Ptr m x = suffix-levels (Cxx.pointer (not m)) x
-  pointer-levels SliceRef m x = omega arith
+pointer-levels : (k : Pointer) (m : Bool) (x : CxxType) → levels (pointerTree k m x) ≡ suc (levels x)
+unfolding levels
+pointer-levels Ref m x = suffix-levels (Cxx.reference (not m)) x
+pointer-levels Ptr m x = suffix-levels (Cxx.pointer (not m)) x
+pointer-levels SliceRef m x = omega arith
 
+module _ (items : List Item) where
   mutual
     unfolding levels depth cxxType
 
@@ -75,26 +74,22 @@ pub suffix-parts : (s : Suffix) (x : CxxType) → partsOk (withSuffix s x) ≡ p
 unfolding partsOk
 suffix-parts s (suffixed base suffixes) = refl
 
+pub itemPath-ok : {items : List Item} (x : Item) → ItemKept items x → fullNameOk (itemPath x) ≡ true
+unfolding fullNameOk
+itemPath-ok x k =
+    let l : length (x .namespace) ≤ 7 = leb-true (length (x .namespace)) 7 (k .shallow) in
+    let e = length-append (x .namespace) (x .cxx ∷ []) in
+    let n = length (itemPath x) in
+    let free = not-reserved (x .namespace) (x .cxx) (k .unreserved) in
+    rw (le-leb 1 n (omega arith), le-leb n 8 (omega arith), itemPath-names x k, free)
+
+pointer-parts : (k : Pointer) (m : Bool) (x : CxxType) → partsOk (pointerTree k m x) ≡ partsOk x
+unfolding partsOk
+pointer-parts Ref m x = suffix-parts (Cxx.reference (not m)) x
+pointer-parts Ptr m x = suffix-parts (Cxx.pointer (not m)) x
+pointer-parts SliceRef m x = refl
+
 module _ (items : List Item) (kept : All (ItemKept items) items) where
-  pub itemPath-ok : (x : Item) → ItemKept items x → fullNameOk (itemPath x) ≡ true
-  unfolding fullNameOk
-  itemPath-ok x k =
-      let l : length (x .namespace) ≤ 7 = leb-true (length (x .namespace)) 7 (k .shallow) in
-      let e = length-append (x .namespace) (x .cxx ∷ []) in
-      let n = length (itemPath x) in
-      rw (
-        le-leb 1 n (omega arith),
-        le-leb n 8 (omega arith),
-        itemPath-names items kept x k,
-        not-reserved (x .namespace) (x .cxx) (k .unreserved),
-      )
-
-  pointer-parts : (k : Pointer) (m : Bool) (x : CxxType) → partsOk (pointerTree k m x) ≡ partsOk x
-  unfolding partsOk
-  pointer-parts Ref m x = suffix-parts (Cxx.reference (not m)) x
-  pointer-parts Ptr m x = suffix-parts (Cxx.pointer (not m)) x
-  pointer-parts SliceRef m x = refl
-
   mutual
     unfolding partsOk partsFit cxxType
 
@@ -132,7 +127,8 @@ module _ (items : List Item) (kept : All (ItemKept items) items) where
 
 -- ---- one more level
 
-pub suffix-ok : (limit : ℕ) (s : Suffix) (x : CxxType) → typeOk limit x ≡ true → typeOk (suc limit) (withSuffix s x) ≡ true
+pub suffix-ok : (limit : ℕ) (s : Suffix) (x : CxxType) → typeOk limit x ≡ true →
+    typeOk (suc limit) (withSuffix s x) ≡ true
 suffix-ok limit s x h =
     let q = both (leb (levels x) limit) (partsOk x) h in
     let l : levels x ≤ limit = leb-true (levels x) limit (q .0) in

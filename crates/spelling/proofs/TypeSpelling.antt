@@ -1,6 +1,6 @@
 -- A type is spelled as its tree's tokens.
-use mathlib.Core.Path.{_≡_, refl, ap, _∙_, sym}
-use mathlib.Core.List.{List, [], _∷_, _++_, append-assoc}
+use mathlib.Core.Path.{_≡_, refl, ap}
+use mathlib.Core.List.{List, [], _∷_, _++_}
 use mathlib.Core.Bool.{Bool, true, false, _&&_, not}
 use Prim.Native.Nat.{ℕ}
 use borrow.Author.Tests.{ltb-true}
@@ -8,30 +8,28 @@ use lib.Dec.{leb, ltb}
 use lib.ListN.{length}
 use Rattle.lexical.specs.Bytes.{bytes, every}
 use Rattle.lexical.specs.Names.{isName}
-use Rattle.lexical.specs.Decimal.{pickText, decimal}
+use Rattle.lexical.specs.Decimal.{decimal}
 use Rattle.lexical.proofs.BoolLaws.{both}
 use Rattle.lexical.proofs.ByteLaws.{every-cons, every-snoc}
 use Rattle.format.specs.declared.Atom.{Atom}
 use Rattle.format.specs.declared.Atom.the-variants as Atom
 use Rattle.format.specs.declared.Template.{Template}
 use Rattle.format.specs.declared.Template.the-variants.{RustBox, RustVec, UniquePtr, SharedPtr, WeakPtr, CxxVector}
-use Rattle.format.specs.declared.Pointer.{Pointer}
 use Rattle.format.specs.declared.Pointer.the-variants.{Ref, Ptr, SliceRef}
 use Rattle.format.specs.Types.{Ty, atom, named, template, pointer, str, fn, array, Ret, none, gives, Tys, nil, cons}
 use Rattle.format.specs.Sheet.{Name, Item}
 use Rattle.syntax.specs.Items.{itemAt, path, fullName}
 use Rattle.decoded.specs.Fits.{partsFit, partsFitRet, partsFitTys, count}
 use Rattle.decoded.proofs.Kept.{All, all-at, ItemKept}
-use Rattle.bridge.specs.WriteType.{writeAtom, templateName, constUnless, pointerEnd, spaceAfterType, writeType, writeRet}
-use Rattle.bridge.specs.WriteType.{writeTypes, writeTypeSpace}
+use Rattle.bridge.specs.WriteType.{writeAtom, templateName, constUnless, pointerEnd, spaceAfterType, writeType}
+use Rattle.bridge.specs.WriteType.{writeRet, writeTypes, writeTypeSpace}
 use Rattle.grammar.specs.Token.{Token, word, quoted}
 use Rattle.grammar.specs.Types as Cxx
 use Rattle.grammar.specs.Types.{CxxType, suffixed, Suffix, CxxTypes}
 use Rattle.grammar.specs.Tokens
-use Rattle.grammar.specs.Tokens.{eachTokens, pathTokens, atomTokens, templateTokens, constTokens, suffixTokens, typeTokens}
-use Rattle.grammar.specs.Tokens.{baseTokens, typesTokens, moreTypesTokens}
-use Rattle.spelling.specs.TypeTree.{atomTree, templateTree, itemPath, withSuffix, pointerTo, pointerTree, cxxType}
-use Rattle.spelling.specs.TypeTree.{fnTree, cxxTypes}
+use Rattle.grammar.specs.Tokens.{eachTokens, pathTokens, atomTokens, templateTokens, constTokens, suffixTokens}
+use Rattle.grammar.specs.Tokens.{typeTokens, baseTokens, typesTokens, moreTypesTokens}
+use Rattle.spelling.specs.TypeTree.{atomTree, templateTree, itemPath, withSuffix, cxxType, fnTree, cxxTypes}
 use Rattle.spelling.proofs.Spells.{End, closed, inside, Spells, meets, _▷_, _▷⟨_⟩_, weaken, as-tokens, empty}
 use Rattle.spelling.proofs.Spells.{lit, word-spells, name-spells}
 use Rattle.spelling.proofs.ArrayLength.{decimal-same, decimal-word}
@@ -85,7 +83,8 @@ unfolding every
 const-spells true = empty
 const-spells false = lit "const " refl
 
-pub pointerEnd-spells : (mutable : Bool) → Spells closed (pointerEnd Ptr mutable) (suffixTokens (Cxx.pointer (not mutable)))
+pub pointerEnd-spells : (mutable : Bool) →
+    Spells closed (pointerEnd Ptr mutable) (suffixTokens (Cxx.pointer (not mutable)))
 pointerEnd-spells mutable = const-spells mutable ▷ lit "*" refl
 
 referenceEnd-spells : (mutable : Bool) →
@@ -98,7 +97,7 @@ unfolding every
 sliceEnd-spells true = lit ">" refl
 sliceEnd-spells false = lit "const" refl ▷⟨ refl ⟩ lit ">" refl
 
--- ---- types
+-- ---- the end of a type
 
 -- a type ends in a word, unless a mark closes it
 unfoldable pub typeEnd : Ty → End
@@ -138,26 +137,31 @@ pub suffix-spells : {a b : List ℕ} (s : Suffix) (x : CxxType) → Spells close
     Spells closed b (suffixTokens s) → Spells closed (a ++ b) (typeTokens (withSuffix s x))
 suffix-spells s x p q = as-tokens (suffix-tokens s x) (p ▷ q)
 
+-- ---- items
+
+pub itemPath-names : {items : List Item} (x : Item) → ItemKept items x → every isName (itemPath x) ≡ true
+itemPath-names x k = every-snoc isName (x .namespace) (x .cxx) (k .namespaceNames) (k .cxxName)
+
+pub fullName-spells : {items : List Item} (x : Item) → ItemKept items x →
+    Spells inside (fullName x) (pathTokens (itemPath x))
+unfolding fullName
+fullName-spells x k = path-spells (itemPath x) (itemPath-names x k)
+
+length-spells : (n : ℕ) → ltb n 4294967296 ≡ true → Spells inside (decimal n) (λ ts. word (Tokens.decimal n) ∷ ts)
+length-spells n h =
+    as-tokens (λ ts. ap (λ (s : List ℕ). word s ∷ ts) (decimal-same n h)) (word-spells (decimal n) (decimal-word n))
+
+more-meets : (items : List Item) (ts : Tys) → meets inside (writeTypes items true ts) inside ≡ true
+unfolding writeTypes
+more-meets items nil = refl
+more-meets items (cons t ts) = refl
+
+-- ---- types, where every item index has its item
+
 module _ (items : List Item) (kept : All (ItemKept items) items) where
   pub item-kept : (i : ℕ) → ltb i (length items) ≡ true → ItemKept items (itemAt items i)
   unfolding itemAt
   item-kept i h = all-at (ItemKept items) items i _ kept (ltb-true i (length items) h)
-
-  pub itemPath-names : (x : Item) → ItemKept items x → every isName (itemPath x) ≡ true
-  itemPath-names x k = every-snoc isName (x .namespace) (x .cxx) (k .namespaceNames) (k .cxxName)
-
-  pub fullName-spells : (x : Item) → ItemKept items x → Spells inside (fullName x) (pathTokens (itemPath x))
-  unfolding fullName
-  fullName-spells x k = path-spells (itemPath x) (itemPath-names x k)
-
-  more-meets : (ts : Tys) → meets inside (writeTypes items true ts) inside ≡ true
-  unfolding writeTypes
-  more-meets nil = refl
-  more-meets (cons t ts) = refl
-
-  array-spells : (n : ℕ) → ltb n 4294967296 ≡ true → Spells inside (decimal n) (λ ts. word (Tokens.decimal n) ∷ ts)
-  array-spells n h =
-      as-tokens (λ ts. ap (λ (s : List ℕ). word s ∷ ts) (decimal-same n h)) (word-spells (decimal n) (decimal-word n))
 
   mutual
     unfolding every writeType cxxType partsFit typeEnd
@@ -181,13 +185,15 @@ module _ (items : List Item) (kept : All (ItemKept items) items) where
         fn-ends r (cxxTypes items ts) (g .0) (types-spell ts (g .1))
     type-ends (array t n) h =
         let q = both (ltb n 4294967296) (partsFit (length items) t) h in
-        lit "::std::array<" refl ▷ weaken (typeEnd t) (type-ends t (q .1)) ▷⟨ refl ⟩ lit ", " refl ▷ array-spells n (q .0)
+        lit "::std::array<" refl ▷ weaken (typeEnd t) (type-ends t (q .1)) ▷⟨ refl ⟩ lit ", " refl ▷ length-spells n
+        (q .0)
         ▷⟨ refl ⟩ lit ">" refl
 
     -- the types of the arguments are spelled so
     fn-ends : (r : Ret) {s : List ℕ} (xs : CxxTypes) → partsFitRet (length items) r ≡ true →
         Spells inside s (typesTokens xs) →
-        Spells closed (bytes "::rust::Fn<" ++ writeRet items r ++ bytes "(" ++ s ++ bytes ")>") (baseTokens (fnTree items r xs))
+        Spells closed (bytes "::rust::Fn<" ++ writeRet items r ++ bytes "(" ++ s ++ bytes ")>")
+        (baseTokens (fnTree items r xs))
     fn-ends none xs h p =
         lit "::rust::Fn<" refl ▷ lit "void" refl ▷⟨ refl ⟩ lit "(" refl ▷ p ▷⟨ refl ⟩ lit ")>" refl
     fn-ends (gives t) xs h p =
@@ -198,14 +204,14 @@ module _ (items : List Item) (kept : All (ItemKept items) items) where
     types-spell nil h = empty
     types-spell (cons t ts) h =
         let q = both (partsFit (length items) t) (partsFitTys (length items) ts) h in
-        weaken (typeEnd t) (type-ends t (q .0)) ▷⟨ more-meets ts ⟩ more-spell ts (q .1)
+        weaken (typeEnd t) (type-ends t (q .0)) ▷⟨ more-meets items ts ⟩ more-spell ts (q .1)
 
     more-spell : (ts : Tys) → partsFitTys (length items) ts ≡ true →
         Spells inside (writeTypes items true ts) (moreTypesTokens (cxxTypes items ts))
     more-spell nil h = empty
     more-spell (cons t ts) h =
         let q = both (partsFit (length items) t) (partsFitTys (length items) ts) h in
-        lit ", " refl ▷ weaken (typeEnd t) (type-ends t (q .0)) ▷⟨ more-meets ts ⟩ more-spell ts (q .1)
+        lit ", " refl ▷ weaken (typeEnd t) (type-ends t (q .0)) ▷⟨ more-meets items ts ⟩ more-spell ts (q .1)
 
   pub type-spells : (t : Ty) → partsFit (length items) t ≡ true →
       Spells inside (writeType items t) (typeTokens (cxxType items t))

@@ -1,7 +1,6 @@
 -- The trees of a sheet's declarations and layout definitions.
 use mathlib.Core.List.{List, [], _∷_, _++_, map}
-use mathlib.Core.Bool.{Bool, true, false}
-use Prim.Native.Nat.{ℕ}
+use mathlib.Core.Bool.{true, false}
 use Rattle.lexical.specs.Bytes.{bytes}
 use Rattle.format.specs.Decode.{pick}
 use Rattle.format.specs.Types.{Ty, Ret, none, gives}

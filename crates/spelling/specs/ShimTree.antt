@@ -1,13 +1,13 @@
 -- The trees of a sheet's shims.
 use mathlib.Core.List.{List, [], _∷_, _++_, map}
-use mathlib.Core.Bool.{Bool, true, false, not, _&&_}
+use mathlib.Core.Bool.{Bool, not, _&&_}
 use Prim.Native.Nat.{ℕ}
 use lib.Dec.{eqb}
 use lib.ListN.{length}
 use Rattle.lexical.specs.Bytes.{bytes}
 use Rattle.format.specs.Decode.{pick}
 use Rattle.format.specs.Types.{Ty, Ret, none, gives}
-use Rattle.format.specs.Sheet.{Name, Form, free, constMethod, mutMethod, associated, Argument, Function, Item, Sheet}
+use Rattle.format.specs.Sheet.{Form, free, constMethod, mutMethod, associated, Argument, Function, Item, Sheet}
 use Rattle.syntax.specs.Items.{itemAt}
 use Rattle.syntax.specs.Mangle.{externFn}
 use Rattle.rules.specs.Rules.{gather, isMethod}
