@@ -35,18 +35,18 @@ pub fn make(seed: u64) -> Result<Vec<u8>, String> {
     }
     for one in Refusal::ALL {
         for two in Refusal::ALL {
-            for _ in 0..3 {
+            for _ in 0..2 {
                 small(&mut file, || faulty(&mut rng, &[one, two]))?;
             }
         }
     }
-    for _ in 0..160 {
+    for _ in 0..120 {
         small(&mut file, || damaged(&mut rng))?;
     }
-    for _ in 0..60 {
+    for _ in 0..40 {
         small(&mut file, || encode(&graph(&mut rng)))?;
     }
-    for _ in 0..200 {
+    for _ in 0..180 {
         small(&mut file, || encode(&good(&mut rng)))?;
     }
     Ok(file)
@@ -56,7 +56,7 @@ pub fn make(seed: u64) -> Result<Vec<u8>, String> {
 fn small(file: &mut Vec<u8>, mut sheet: impl FnMut() -> Vec<u8>) -> Result<(), String> {
     loop {
         let sheet = sheet();
-        if sheet.len() <= 600 && compare(&sheet)?.text.len() <= 2_500 {
+        if sheet.len() <= 600 && compare(&sheet)?.text.len() <= 2_000 {
             return push(file, &sheet);
         }
     }

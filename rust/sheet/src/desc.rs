@@ -431,3 +431,22 @@ fn print_type(ty: &Type) -> String {
         Type::Unknown(kind) => format!("kind{kind}"),
     }
 }
+
+/// Bytes as hex digits, 32 bytes on a line.
+pub fn hex(bytes: &[u8]) -> String {
+    let line = |line: &[u8]| -> String {
+        let digits: String = line.iter().map(|byte| format!("{byte:02x}")).collect();
+        digits + "\n"
+    };
+    bytes.chunks(32).map(line).collect()
+}
+
+/// The bytes of hex digits; blanks and line ends are skipped.
+pub fn unhex(text: &str) -> Option<Vec<u8>> {
+    let digit = |c: char| Some(c.to_digit(16)? as u8);
+    let digits = text.chars().filter(|c| !c.is_ascii_whitespace());
+    let digits: Vec<u8> = digits.map(digit).collect::<Option<_>>()?;
+    let (pairs, rest) = digits.as_chunks::<2>();
+    let bytes = pairs.iter().map(|[high, low]| high << 4 | low).collect();
+    rest.is_empty().then_some(bytes)
+}

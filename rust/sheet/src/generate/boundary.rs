@@ -240,7 +240,7 @@ fn wrap(kind: usize, ty: Type) -> Type {
         },
         _ => Type::Fn {
             ret: None,
-            args: vec![Type::Str, *inner],
+            args: vec![*inner, Type::Str],
         },
     }
 }

@@ -11,7 +11,10 @@ use crate::{
 /// the check's answer; with two, document 01's priorities decide.
 pub fn faulty(rng: &mut Rng, faults: &[Refusal]) -> Vec<u8> {
     let mut sheet = good(rng);
-    for fault in faults {
+    // The lowest number comes last, so that nothing put in later undoes it.
+    let mut faults = faults.to_vec();
+    faults.sort_by(|one, two| two.cmp(one));
+    for fault in &faults {
         let mut draft = Draft {
             rng,
             sheet: &mut sheet,
@@ -31,6 +34,7 @@ pub fn faulty(rng: &mut Rng, faults: &[Refusal]) -> Vec<u8> {
         }
     }
     let (mut bytes, bits) = encode_bits(&sheet);
+    let whole = bytes.len();
     if faults.contains(&Refusal::Tail) {
         tail(rng, &mut bytes, bits);
     }
@@ -38,7 +42,7 @@ pub fn faulty(rng: &mut Rng, faults: &[Refusal]) -> Vec<u8> {
         if rng.one_in(50) {
             bytes.resize(limit::SHEET_BYTES + 1, 0);
         } else {
-            bytes.truncate(rng.below(bytes.len()));
+            bytes.truncate(rng.below(whole));
         }
     }
     bytes
