@@ -24,12 +24,12 @@ pub fn make(seed: u64) -> Result<Vec<u8>, String> {
     let mut file = Vec::new();
     let mut rng = Rng::new(seed);
     for (label, sheet) in boundaries() {
-        if label != "32,768 bytes of edition 0" {
+        if !label.ends_with("bytes of edition 0") && label != "amplified" {
             push(&mut file, &sheet).map_err(|error| format!("{label}: {error}"))?;
         }
     }
     for refusal in Refusal::ALL {
-        for _ in 0..16 {
+        for _ in 0..24 {
             small(&mut file, || faulty(&mut rng, &[refusal]))?;
         }
     }
@@ -46,7 +46,7 @@ pub fn make(seed: u64) -> Result<Vec<u8>, String> {
     for _ in 0..40 {
         small(&mut file, || encode(&graph(&mut rng)))?;
     }
-    for _ in 0..180 {
+    for _ in 0..140 {
         small(&mut file, || encode(&good(&mut rng)))?;
     }
     Ok(file)

@@ -27,8 +27,22 @@ use crate::value::*;
 use std::fmt::Write;
 
 const ATOMS: [&str; 16] = [
-    "bool", "c_char", "u8", "u16", "u32", "u64", "usize", "i8", "i16", "i32", "i64", "isize", "f32",
-    "f64", "CxxString", "String",
+    "bool",
+    "c_char",
+    "u8",
+    "u16",
+    "u32",
+    "u64",
+    "usize",
+    "i8",
+    "i16",
+    "i32",
+    "i64",
+    "isize",
+    "f32",
+    "f64",
+    "CxxString",
+    "String",
 ];
 
 type Result<T> = std::result::Result<T, String>;
@@ -156,7 +170,11 @@ impl<'p> Parser<'p> {
             }
             return self.end();
         };
-        let path: Vec<NameIndex> = self.path()?.into_iter().map(|name| self.name(name)).collect();
+        let path: Vec<NameIndex> = self
+            .path()?
+            .into_iter()
+            .map(|name| self.name(name))
+            .collect();
         let (name, namespace) = path.split_last().expect("a path has a name");
         let (name, namespace) = (*name, namespace.to_vec());
         let kind = match word {
@@ -220,7 +238,11 @@ impl<'p> Parser<'p> {
             let ty = parser.ty()?;
             Ok(Arg { name, ty })
         })?;
-        let ret = if self.skip("->") { Some(self.ty()?) } else { None };
+        let ret = if self.skip("->") {
+            Some(self.ty()?)
+        } else {
+            None
+        };
         Ok(Function {
             rust_name,
             form,
@@ -294,7 +316,11 @@ impl<'p> Parser<'p> {
         if word == "fn" {
             self.expect("(")?;
             let args = self.list(")", Self::ty)?;
-            let ret = if self.skip("->") { Some(self.boxed()?) } else { None };
+            let ret = if self.skip("->") {
+                Some(self.boxed()?)
+            } else {
+                None
+            };
             return Ok(Type::Fn { ret, args });
         }
         self.expect("<")?;

@@ -4,9 +4,14 @@ use sheet::{check, decode, index_width, read};
 
 /// Bytes from binary digits; blanks are skipped, zero bits fill the last byte.
 fn bits(digits: &str) -> Vec<u8> {
-    let digits: Vec<u8> = digits.bytes().filter(|c| *c == b'0' || *c == b'1').collect();
+    let digits: Vec<u8> = digits
+        .bytes()
+        .filter(|c| *c == b'0' || *c == b'1')
+        .collect();
     let byte = |chunk: &[u8]| {
-        let value = chunk.iter().fold(0, |value, digit| value << 1 | (digit & 1));
+        let value = chunk
+            .iter()
+            .fold(0, |value, digit| value << 1 | (digit & 1));
         value << (8 - chunk.len())
     };
     digits.chunks(8).map(byte).collect()
@@ -16,7 +21,10 @@ fn bits(digits: &str) -> Vec<u8> {
 fn expect(answer: u8, digits: &str) {
     let sheet = bits(digits);
     assert_eq!(check(&sheet), answer);
-    assert_eq!(read(&sheet).err().map_or(0, |refusal| refusal.number()), answer);
+    assert_eq!(
+        read(&sheet).err().map_or(0, |refusal| refusal.number()),
+        answer
+    );
 }
 
 /// Edition 1, both bits clear, no name.
@@ -76,13 +84,25 @@ fn indexes() {
     // As a namespace it comes before the name.
     expect(4, &format!("{NAMES_ABC} 00000001 011 001 11 00 0"));
     // A free function `a` that returns a named type: item 0 is the function.
-    expect(9, &format!("{NAME_A} 00000001 100 000 00 0 1 0001 00000 00000"));
+    expect(
+        9,
+        &format!("{NAME_A} 00000001 100 000 00 0 1 0001 00000 00000"),
+    );
     // Three items, and item 3 is loose.
     let types = "011 000 00 0  011 000 01 0";
     let function = "100 000 10 10 00 0 1 0001";
-    expect(0, &format!("{NAMES_ABC} 00000011 {types} {function} 01 00000 00000"));
-    expect(9, &format!("{NAMES_ABC} 00000011 {types} {function} 10 00000 00000"));
-    expect(4, &format!("{NAMES_ABC} 00000011 {types} {function} 11 00000 00000"));
+    expect(
+        0,
+        &format!("{NAMES_ABC} 00000011 {types} {function} 01 00000 00000"),
+    );
+    expect(
+        9,
+        &format!("{NAMES_ABC} 00000011 {types} {function} 10 00000 00000"),
+    );
+    expect(
+        4,
+        &format!("{NAMES_ABC} 00000011 {types} {function} 11 00000 00000"),
+    );
 }
 
 #[test]
@@ -209,12 +229,18 @@ fn taken() {
     expect(10, &functions(&[&two(["01", "01"])]));
     // The name table may repeat a name, and names are compared by characters.
     let names = "0001 0 0 0000000010 000001 1100001 000001 1100001";
-    expect(10, &format!("{names} 00000001 100 000 0 0 00 0 0 00010 0 1001 1 1001 00000"));
+    expect(
+        10,
+        &format!("{names} 00000001 100 000 0 0 00 0 0 00010 0 1001 1 1001 00000"),
+    );
     expect(10, &format!("{names} 00000010 011 000 0 0 011 000 1 0"));
     // `std` as the first and as the second namespace, of a type and a function.
     let names = "0001 0 0 0000000010 000001 1100001 000011 1110011 1110100 1100100";
     expect(10, &format!("{names} 00000001 011 001 1 0 0"));
-    expect(10, &format!("{names} 00000001 100 001 1 0 0 00 0 0 00000 00000"));
+    expect(
+        10,
+        &format!("{names} 00000001 100 001 1 0 0 00 0 0 00000 00000"),
+    );
     expect(0, &format!("{names} 00000001 011 010 0 1 0 0"));
     expect(0, &format!("{names} 00000001 011 000 1 0"));
 }

@@ -1,7 +1,8 @@
 //! The two readers, the encoder and the generator against one another.
 
 use sheet::generate::{any, boundaries, damaged, faulty, good, graph};
-use sheet::{Refusal, Rng, check, decode, desc, encode, limit, read};
+use sheet::{Kind, Refusal, Rng, Type, check, decode, desc, encode, limit, read};
+use std::collections::HashSet;
 
 /// The answer, on which both readers agree.
 #[track_caller]
@@ -14,7 +15,7 @@ fn answer(bytes: &[u8]) -> u8 {
 #[test]
 fn good_sheets_are_accepted_and_come_back() {
     let mut rng = Rng::new(1);
-    for _ in 0..20_000 {
+    for _ in 0..8_000 {
         let sheet = good(&mut rng);
         let bytes = encode(&sheet);
         assert_eq!(answer(&bytes), 0);
@@ -26,7 +27,7 @@ fn good_sheets_are_accepted_and_come_back() {
 fn a_single_fault_is_the_answer() {
     let mut rng = Rng::new(2);
     for refusal in Refusal::ALL {
-        for _ in 0..2_000 {
+        for _ in 0..1_000 {
             let bytes = faulty(&mut rng, &[refusal]);
             assert_eq!(answer(&bytes), refusal.number(), "{}", desc::hex(&bytes));
         }
@@ -38,7 +39,7 @@ fn two_faults_follow_the_priorities() {
     let mut rng = Rng::new(3);
     for one in Refusal::ALL {
         for two in Refusal::ALL {
-            for _ in 0..150 {
+            for _ in 0..60 {
                 let bytes = faulty(&mut rng, &[one, two]);
                 let given = answer(&bytes);
                 let lower = one.min(two).number();
@@ -57,7 +58,7 @@ fn two_faults_follow_the_priorities() {
 #[test]
 fn both_readers_agree_on_damage_and_graphs() {
     let mut rng = Rng::new(4);
-    for _ in 0..20_000 {
+    for _ in 0..8_000 {
         answer(&damaged(&mut rng));
         answer(&any(&mut rng));
     }
@@ -130,7 +131,11 @@ fn limits() {
         assert_eq!(answer(find(label)), 0, "{label}");
     }
     assert_eq!(find("32,768 bytes").len(), limit::SHEET_BYTES);
-    for label in ["32,768 bytes and one more", "32,769 bytes", "32,769 bytes of edition 0"] {
+    for label in [
+        "32,768 bytes and one more",
+        "32,769 bytes",
+        "32,769 bytes of edition 0",
+    ] {
         assert_eq!(find(label).len(), limit::SHEET_BYTES + 1);
         assert_eq!(answer(find(label)), 1, "{label}");
     }
@@ -156,4 +161,77 @@ fn descriptions_come_back() {
         }
     }
     assert!(compared > 100);
+}
+
+/// Every type kind stands at every place: as a field, argument or return, at
+/// every depth, and inside every other kind.
+#[test]
+fn good_sheets_have_every_type_everywhere() {
+    let mut seen = Seen::default();
+    let mut rng = Rng::new(7);
+    for _ in 0..8_000 {
+        let sheet = good(&mut rng);
+        for item in &sheet.items {
+            match &item.kind {
+                Kind::Struct { fields, .. } => fields.iter().for_each(|ty| seen.top("field", ty)),
+                Kind::Function(function) => {
+                    function.ret.iter().for_each(|ty| seen.top("return", ty));
+                    function
+                        .args
+                        .iter()
+                        .for_each(|arg| seen.top("argument", &arg.ty));
+                }
+                _ => {}
+            }
+        }
+    }
+    let kinds = (0..15).filter(|kind| *kind != 12);
+    let places = [("field", 14), ("return", 14), ("argument", 13)];
+    for (place, count) in places {
+        assert_eq!(
+            kinds
+                .clone()
+                .filter(|kind| seen.places.contains(&(place, *kind)))
+                .count(),
+            count
+        );
+    }
+    let leaves = [0, 1, 9];
+    for kind in kinds.clone() {
+        for depth in 1..=limit::TYPE_DEPTH {
+            let fits = depth < limit::TYPE_DEPTH || leaves.contains(&kind) || kind == 11;
+            assert_eq!(
+                seen.depths.contains(&(depth, kind)),
+                fits,
+                "{kind} at {depth}"
+            );
+        }
+        if !leaves.contains(&kind) {
+            for inner in kinds.clone() {
+                assert!(seen.inside.contains(&(kind, inner)), "{inner} in {kind}");
+            }
+        }
+    }
+}
+
+#[derive(Default)]
+struct Seen {
+    places: HashSet<(&'static str, u8)>,
+    depths: HashSet<(usize, u8)>,
+    inside: HashSet<(u8, u8)>,
+}
+
+impl Seen {
+    fn top(&mut self, place: &'static str, ty: &Type) {
+        self.places.insert((place, ty.number()));
+        self.visit(1, ty);
+    }
+
+    fn visit(&mut self, depth: usize, ty: &Type) {
+        self.depths.insert((depth, ty.number()));
+        ty.each_inner(&mut |inner| {
+            self.inside.insert((ty.number(), inner.number()));
+            self.visit(depth + 1, inner);
+        });
+    }
 }

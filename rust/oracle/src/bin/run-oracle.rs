@@ -27,7 +27,7 @@ fn main() -> ExitCode {
     let mut totals = Totals::default();
     let limits = generate::boundaries().into_iter().map(|(_, sheet)| sheet);
     let generated = (0..count).map(|number| {
-        let mut rng = Rng::new(Rng::new(seed).next().wrapping_add(number));
+        let mut rng = Rng::new(Rng::new(seed).next_u64().wrapping_add(number));
         generate::any(&mut rng)
     });
     for sheet in limits.chain(generated) {
