@@ -1,0 +1,42 @@
+-- Laws of the name rule.
+use mathlib.Core.Path.{_≡_, refl, sym}
+use mathlib.Core.List.{List, [], _∷_, _++_}
+use mathlib.Core.Bool.{Bool, true, false, _&&_, _||_, not, false≢true}
+use Prim.Native.Nat.{ℕ}
+use lib.ListN.{length}
+use Rattle.lexical.specs.Bytes.{bytes, every, same, member}
+use Rattle.lexical.specs.Names.{nameStart, nameChar, starts, nameShape, nameOk, keywords, alternativeTokens, reserved}
+use Rattle.lexical.proofs.BoolLaws.{both, and-of, not-true, fails-too}
+use Rattle.lexical.proofs.ByteLaws.{member-append-left}
+
+-- the standard's tables have 73 and 11 words
+pub keyword-count : length keywords ≡ 73
+unfolding keywords
+keyword-count = refl
+
+pub alternative-count : length alternativeTokens ≡ 11
+unfolding alternativeTokens
+alternative-count = refl
+
+pub name-shape : (table : List (List ℕ)) (s : List ℕ) → nameOk table s ≡ true → nameShape s ≡ true
+unfolding nameOk
+name-shape table s h = both (nameShape s) (not (member s table)) h .0
+
+pub name-free : (table : List (List ℕ)) (s : List ℕ) → nameOk table s ≡ true → member s table ≡ false
+unfolding nameOk
+name-free table s h = not-true (member s table) (both (nameShape s) (not (member s table)) h .1)
+
+pub name-starts : (table : List (List ℕ)) (s : List ℕ) → nameOk table s ≡ true → starts nameStart s ≡ true
+unfolding nameShape
+name-starts table s h = both (starts nameStart s) (every nameChar s) (name-shape table s h) .0
+
+pub name-chars : (table : List (List ℕ)) (s : List ℕ) → nameOk table s ≡ true → every nameChar s ≡ true
+unfolding nameShape
+name-chars table s h = both (starts nameStart s) (every nameChar s) (name-shape table s h) .1
+
+-- a larger table only forbids more
+pub name-smaller : (table more : List (List ℕ)) (s : List ℕ) → nameOk (table ++ more) s ≡ true → nameOk table s ≡ true
+unfolding nameOk
+name-smaller table more s h =
+    and-of (nameShape s) (not (member s table)) (name-shape (table ++ more) s h)
+    (rw (fails-too (member s table) (member s (table ++ more)) (member-append-left s table more) (name-free (table ++ more) s h)))

@@ -1,0 +1,39 @@
+-- Lists of bytes, quoted texts, and tests on both.
+use mathlib.Core.List.{List, [], _∷_}
+use mathlib.Core.Bool.{Bool, true, false, _&&_, _||_}
+use Prim.Native.Nat.{ℕ}
+use Prim.Native.Char.{code}
+use Prim.Native.String as S
+use Prim.Native.String.{String}
+use lib.Dec.{leb, eqb}
+
+-- the bytes of a quoted text
+abbrev pub bytes : String → List ℕ
+bytes S.[] = []
+bytes (S._∷_ c s) = code c ∷ bytes s
+
+-- low ≤ c ≤ high
+abbrev pub within : ℕ → ℕ → ℕ → Bool
+within low high c = leb low c && leb c high
+
+-- c is one of the bytes s
+abbrev pub elem : ℕ → List ℕ → Bool
+elem c [] = false
+elem c (d ∷ s) = eqb c d || elem c s
+
+-- each byte passes the test
+unfoldable pub every : (ℕ → Bool) → List ℕ → Bool
+every test [] = true
+every test (c ∷ s) = test c && every test s
+
+-- two lists of bytes are equal
+unfoldable pub same : List ℕ → List ℕ → Bool
+same [] [] = true
+same [] (d ∷ t) = false
+same (c ∷ s) [] = false
+same (c ∷ s) (d ∷ t) = eqb c d && same s t
+
+-- s is one of the words
+unfoldable pub member : List ℕ → List (List ℕ) → Bool
+member s [] = false
+member s (word ∷ words) = same s word || member s words

@@ -1,0 +1,62 @@
+-- Characters and the name rule (document 01, "The sheet", rule 2).
+use mathlib.Core.List.{List, [], _∷_, _++_}
+use mathlib.Core.Bool.{Bool, true, false, _&&_, _||_, not}
+use Prim.Native.Nat.{ℕ}
+use lib.Dec.{eqb}
+use Rattle.lexical.specs.Bytes.{bytes, within, every, member}
+
+abbrev pub letter : ℕ → Bool
+letter c = within 97 122 c || within 65 90 c
+
+abbrev pub digit : ℕ → Bool
+digit c = within 48 57 c
+
+-- a letter or underscore
+abbrev pub nameStart : ℕ → Bool
+nameStart c = letter c || eqb c 95
+
+-- a letter, digit or underscore
+abbrev pub nameChar : ℕ → Bool
+nameChar c = nameStart c || digit c
+
+abbrev pub starts : (ℕ → Bool) → List ℕ → Bool
+starts test [] = false
+starts test (c ∷ s) = test c
+
+-- "A name is a letter or underscore, then letters, digits or underscores"
+unfoldable pub nameShape : List ℕ → Bool
+nameShape s = starts nameStart s && every nameChar s
+
+-- and no word of the table
+unfoldable pub nameOk : List (List ℕ) → List ℕ → Bool
+nameOk table s = nameShape s && not (member s table)
+
+-- ISO C++17 [lex.key], table 5: 73 keywords
+unfoldable pub keywords : List (List ℕ)
+keywords =
+    bytes "alignas" ∷ bytes "alignof" ∷ bytes "asm" ∷ bytes "auto" ∷ bytes "bool" ∷ bytes "break" ∷ bytes "case" ∷
+    bytes "catch" ∷ bytes "char" ∷ bytes "char16_t" ∷ bytes "char32_t" ∷ bytes "class" ∷ bytes "const" ∷
+    bytes "constexpr" ∷ bytes "const_cast" ∷ bytes "continue" ∷ bytes "decltype" ∷ bytes "default" ∷
+    bytes "delete" ∷ bytes "do" ∷ bytes "double" ∷ bytes "dynamic_cast" ∷ bytes "else" ∷ bytes "enum" ∷
+    bytes "explicit" ∷ bytes "export" ∷ bytes "extern" ∷ bytes "false" ∷ bytes "float" ∷ bytes "for" ∷
+    bytes "friend" ∷ bytes "goto" ∷ bytes "if" ∷ bytes "inline" ∷ bytes "int" ∷ bytes "long" ∷ bytes "mutable" ∷
+    bytes "namespace" ∷ bytes "new" ∷ bytes "noexcept" ∷ bytes "nullptr" ∷ bytes "operator" ∷ bytes "private" ∷
+    bytes "protected" ∷ bytes "public" ∷ bytes "register" ∷ bytes "reinterpret_cast" ∷ bytes "return" ∷
+    bytes "short" ∷ bytes "signed" ∷ bytes "sizeof" ∷ bytes "static" ∷ bytes "static_assert" ∷
+    bytes "static_cast" ∷ bytes "struct" ∷ bytes "switch" ∷ bytes "template" ∷ bytes "this" ∷
+    bytes "thread_local" ∷ bytes "throw" ∷ bytes "true" ∷ bytes "try" ∷ bytes "typedef" ∷ bytes "typeid" ∷
+    bytes "typename" ∷ bytes "union" ∷ bytes "unsigned" ∷ bytes "using" ∷ bytes "virtual" ∷ bytes "void" ∷
+    bytes "volatile" ∷ bytes "wchar_t" ∷ bytes "while" ∷ []
+
+-- ISO C++17 [lex.digraph], table 1: the 11 alternative tokens that are words
+unfoldable pub alternativeTokens : List (List ℕ)
+alternativeTokens =
+    bytes "and" ∷ bytes "and_eq" ∷ bytes "bitand" ∷ bytes "bitor" ∷ bytes "compl" ∷ bytes "not" ∷ bytes "not_eq" ∷
+    bytes "or" ∷ bytes "or_eq" ∷ bytes "xor" ∷ bytes "xor_eq" ∷ []
+
+unfoldable pub reserved : List (List ℕ)
+reserved = keywords ++ alternativeTokens
+
+-- the name rule of edition 1
+abbrev pub isName : List ℕ → Bool
+isName s = nameOk reserved s

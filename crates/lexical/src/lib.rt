@@ -1,0 +1,1 @@
+// Definitions alone: bytes, characters and the name rule. See specs/.
