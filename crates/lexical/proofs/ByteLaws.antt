@@ -49,39 +49,36 @@ every-each test (d ∷ s) h c e =
     let q = both (test d) (every test s) h in
     by-cases (eqb c d) (λ f. rw (byte-eq c d f) (q .0)) (λ f. every-each test s (q .1) c (rw f at e))
 
-pub every-cons : (test : ℕ → Bool) (c : ℕ) (s : List ℕ) → every test (c ∷ s) ≡ true →
-    (test c ≡ true) × (every test s ≡ true)
-unfolding every
-every-cons test c s h = both (test c) (every test s) h
+module _ {A : Type 0} (test : A → Bool) where
+  pub every-cons : (x : A) (xs : List A) → every test (x ∷ xs) ≡ true → (test x ≡ true) × (every test xs ≡ true)
+  unfolding every
+  every-cons x xs h = both (test x) (every test xs) h
 
-pub every-append : (test : ℕ → Bool) (s t : List ℕ) → every test s ≡ true → every test t ≡ true →
-    every test (s ++ t) ≡ true
-unfolding every
-every-append test [] t h e = e
-every-append test (c ∷ s) t h e =
-    let q = both (test c) (every test s) h in rw (q .0) (every-append test s t (q .1) e)
+  pub every-append : (xs ys : List A) → every test xs ≡ true → every test ys ≡ true → every test (xs ++ ys) ≡ true
+  unfolding every
+  every-append [] ys h e = e
+  every-append (x ∷ xs) ys h e =
+      let q = both (test x) (every test xs) h in rw (q .0) (every-append xs ys (q .1) e)
 
-pub every-snoc : (test : ℕ → Bool) (s : List ℕ) (c : ℕ) → every test s ≡ true → test c ≡ true →
-    every test (s ++ (c ∷ [])) ≡ true
-unfolding every
-every-snoc test s c h e = every-append test s (c ∷ []) h (rw e)
+  pub every-snoc : (xs : List A) (x : A) → every test xs ≡ true → test x ≡ true → every test (xs ++ (x ∷ [])) ≡ true
+  unfolding every
+  every-snoc xs x h e = every-append xs (x ∷ []) h (rw e)
 
-pub every-split : (test : ℕ → Bool) (s t : List ℕ) → every test (s ++ t) ≡ true →
-    (every test s ≡ true) × (every test t ≡ true)
-unfolding every
-every-split test [] t h = (refl, h)
-every-split test (c ∷ s) t h =
-    let q = both (test c) (every test (s ++ t)) h in
-    let p = every-split test s t (q .1) in
-    (and-of (test c) (every test s) (q .0) (p .0), p .1)
+  pub every-split : (xs ys : List A) → every test (xs ++ ys) ≡ true → (every test xs ≡ true) × (every test ys ≡ true)
+  unfolding every
+  every-split [] ys h = (refl, h)
+  every-split (x ∷ xs) ys h =
+      let q = both (test x) (every test (xs ++ ys)) h in
+      let p = every-split xs ys (q .1) in
+      (and-of (test x) (every test xs) (q .0) (p .0), p .1)
 
--- a weaker test passes too
-pub every-weaken : (test weak : ℕ → Bool) → ((c : ℕ) → test c ≡ true → weak c ≡ true) → (s : List ℕ) →
-    every test s ≡ true → every weak s ≡ true
-unfolding every
-every-weaken test weak f [] h = refl
-every-weaken test weak f (c ∷ s) h =
-    let q = both (test c) (every test s) h in rw (f c (q .0)) (every-weaken test weak f s (q .1))
+  -- a weaker test passes too
+  pub every-weaken : (weak : A → Bool) → ((x : A) → test x ≡ true → weak x ≡ true) → (xs : List A) →
+      every test xs ≡ true → every weak xs ≡ true
+  unfolding every
+  every-weaken weak f [] h = refl
+  every-weaken weak f (x ∷ xs) h =
+      let q = both (test x) (every test xs) h in rw (f x (q .0)) (every-weaken weak f xs (q .1))
 
 pub member-append-left : (s : List ℕ) (a b : List (List ℕ)) → member s a ≡ true → member s (a ++ b) ≡ true
 unfolding member

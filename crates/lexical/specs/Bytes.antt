@@ -21,10 +21,10 @@ abbrev pub elem : ℕ → List ℕ → Bool
 elem c [] = false
 elem c (d ∷ s) = eqb c d || elem c s
 
--- each byte passes the test
-unfoldable pub every : (ℕ → Bool) → List ℕ → Bool
+-- each element passes the test
+unfoldable pub every : {A : Type 0} → (A → Bool) → List A → Bool
 every test [] = true
-every test (c ∷ s) = test c && every test s
+every test (x ∷ xs) = test x && every test xs
 
 -- two lists of bytes are equal
 unfoldable pub same : List ℕ → List ℕ → Bool
