@@ -104,14 +104,15 @@ unfoldable mutual
 abbrev pub typeOk : ℕ → CxxType → Bool
 typeOk limit x = leb (levels x) limit && partsOk x
 
--- heads; `isMain` where `main` is declared in the root
+-- heads
 
+-- "and `int` for `main` in the root"
 unfoldable pub resultOk : Bool → Result → Bool
-resultOk isMain void = true
-resultOk isMain ptrLen = true
-resultOk isMain fat = true
-resultOk isMain int = isMain                    -- "`int` for `main` in the root"
-resultOk isMain (value x) = typeOk maxLevels x
+resultOk main void = true
+resultOk main ptrLen = true
+resultOk main fat = true
+resultOk main int = main
+resultOk main (value x) = typeOk maxLevels x
 
 abbrev pub isMain : ℕ → Head → Bool
 isMain depth (free f) = eqb depth 0 && same f (bytes "main")

@@ -45,7 +45,7 @@ abbrev pub pathTokens : List Name → List Token → List Token
 pathTokens [] rest = rest
 pathTokens (s ∷ path) rest = scope ∷ word s ∷ pathTokens path rest
 
--- atoms and templates are spelled as the crate's header declares them
+-- the sixteen atoms of the sheet, as C++ types
 abbrev pub atomTokens : Atom → List Token → List Token
 atomTokens bool rest = quoted "bool" rest
 atomTokens char rest = quoted "char" rest

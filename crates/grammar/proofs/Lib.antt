@@ -1,0 +1,4 @@
+pub mod Lexer
+pub mod LexedLayout
+pub mod Literal
+pub mod Worked

@@ -1,0 +1,70 @@
+-- A literal in front of a text that is laid out: what the lexer finds in it, and then the text's tokens.
+use mathlib.Core.Path.{_≡_, refl, ap, _∙_, sym}
+use mathlib.Core.List.{List, [], _∷_, _++_}
+use mathlib.Core.Bool.{Bool, true, false, _&&_, _||_, not, cond, false≢true}
+use Prim.Native.Nat.{ℕ}
+use lib.Dec.{eqb}
+use Rattle.lexical.proofs.BoolLaws.{both, not-true}
+use Rattle.lexical.proofs.ByteLaws.{byte-eq}
+use Rattle.grammar.specs.Token.{Token, word, mark, scope, colon, linkage, comment, wordChar}
+use Rattle.grammar.specs.Layout.{blankChar, wellFormed, noWordChar, noColon, lineEnd, Layout, finished, blank, token}
+use Rattle.grammar.proofs.Lexer.{Mode, between, inWord, afterColon, afterSlash, afterQuote, afterQuoteC, inComment}
+use Rattle.grammar.proofs.Lexer.{emitFirst, next, emit, flush, run, lex, lexed, word-end, colon-end}
+use Rattle.grammar.proofs.LexedLayout.{allWellFormed, laid}
+
+abbrev pub final : Mode → List ℕ → Mode
+final mode [] = mode
+final mode (c ∷ a) = final (next mode c) a
+
+-- what may stand behind a text that ends in a mode
+abbrev pub seam : Mode → List ℕ → Bool
+seam between r = true
+seam (inWord a) r = noWordChar r
+seam afterColon r = noColon r
+seam afterSlash r = false
+seam afterQuote r = false
+seam afterQuoteC r = false
+seam (inComment a) r = lineEnd r
+
+cond-append : (b : Bool) (x y z : List Token) → cond b x y ++ z ≡ cond b (x ++ z) (y ++ z)
+cond-append true x y z = refl
+cond-append false x y z = refl
+
+begin-append : (c : ℕ) (x y : List Token) → emitFirst c x ++ y ≡ emitFirst c (x ++ y)
+begin-append c x y = cond-append (wordChar c || eqb c 58 || eqb c 47 || eqb c 34 || blankChar c) x (mark c ∷ x) y
+
+emit-append : (mode : Mode) (c : ℕ) (x y : List Token) → emit mode c x ++ y ≡ emit mode c (x ++ y)
+emit-append between c x y = begin-append c x y
+emit-append (inWord a) c x y = cond-append (wordChar c) x (word a ∷ emitFirst c x) y ∙ ap (λ (z : List Token). cond (wordChar c) (x ++ y) (word a ∷ z)) (begin-append c x y)
+emit-append afterColon c x y = cond-append (eqb c 58) (scope ∷ x) (colon ∷ emitFirst c x) y ∙ ap (λ (z : List Token). cond (eqb c 58) (scope ∷ (x ++ y)) (colon ∷ z)) (begin-append c x y)
+emit-append afterSlash c x y = cond-append (eqb c 47) x (mark 47 ∷ emitFirst c x) y ∙ ap (λ (z : List Token). cond (eqb c 47) (x ++ y) (mark 47 ∷ z)) (begin-append c x y)
+emit-append afterQuote c x y = cond-append (eqb c 67) x (mark 34 ∷ emitFirst c x) y ∙ ap (λ (z : List Token). cond (eqb c 67) (x ++ y) (mark 34 ∷ z)) (begin-append c x y)
+emit-append afterQuoteC c x y = cond-append (eqb c 34) (linkage ∷ x) (mark 34 ∷ mark 67 ∷ emitFirst c x) y ∙ ap (λ (z : List Token). cond (eqb c 34) (linkage ∷ (x ++ y)) (mark 34 ∷ mark 67 ∷ z)) (begin-append c x y)
+emit-append (inComment a) c x y = cond-append (eqb c 10) (comment a ∷ x) x y
+
+line-end : (a r : List ℕ) → lineEnd r ≡ true → run (inComment a) r ≡ comment a ∷ lex r
+line-end a [] h = refl
+line-end a (c ∷ r) h = rw (byte-eq c 10 h)
+
+run-append : (a : List ℕ) (mode : Mode) (r : List ℕ) → seam (final mode a) r ≡ true → run mode (a ++ r) ≡ run mode a ++ lex r
+run-append [] between r h = refl
+run-append [] (inWord a) r h = word-end a r h
+run-append [] afterColon r h = colon-end r h
+run-append [] afterSlash r h = absurd (false≢true h)
+run-append [] afterQuote r h = absurd (false≢true h)
+run-append [] afterQuoteC r h = absurd (false≢true h)
+run-append [] (inComment a) r h = line-end a r h
+run-append (c ∷ a) mode r h = ap (emit mode c) (run-append a (next mode c) r h) ∙ sym (emit-append mode c (run (next mode c) a) (lex r))
+
+propers-append : (x y : List Token) → allWellFormed x ≡ true → allWellFormed y ≡ true → allWellFormed (x ++ y) ≡ true
+propers-append [] y h e = e
+propers-append (t ∷ x) y h e = let q = both (wellFormed t) (allWellFormed x) h in rw (q .0) (propers-append x y (q .1) e)
+
+pub laid-proper : {ts : List Token} {s : List ℕ} → Layout ts s → allWellFormed ts ≡ true
+laid-proper finished = refl
+laid-proper (blank h d) = laid-proper d
+laid-proper (token h e d) = rw h (laid-proper d)
+
+pub literal : (a : List ℕ) {ts : List Token} {r : List ℕ} → allWellFormed (lex a) ≡ true → seam (final between a) r ≡ true → Layout ts r → Layout (lex a ++ ts) (a ++ r)
+literal a {ts} {r} h e d =
+    laid (a ++ r) (lex a ++ ts) (propers-append (lex a) ts h (laid-proper d)) (run-append a between r e ∙ ap (λ (x : List Token). lex a ++ x) (lexed d))
