@@ -4,4 +4,7 @@ pub mod Literal
 pub mod Parser
 pub mod Decimal
 pub mod TypeBack
+pub mod RuleFacts
+pub mod ListBack
+pub mod ItemBack
 pub mod Worked
