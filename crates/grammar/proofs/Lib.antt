@@ -7,4 +7,7 @@ pub mod TypeBack
 pub mod RuleFacts
 pub mod ListBack
 pub mod ItemBack
+pub mod TextBack
+pub mod Unique
+pub mod Ambiguous
 pub mod Worked

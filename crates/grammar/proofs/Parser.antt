@@ -452,5 +452,5 @@ module _ {A : Type 0} where
         forwardP n r (λ after r. k (bareNamespace x inside after) r))))))
         (λ r. lineP r (λ l r. forwardP n r (λ after r. k (line l after) r))) ]
 
-pub textP : ℕ → List Token → Option Text
+unfoldable pub textP : ℕ → List Token → Option Text
 textP n r = forwardP n r (λ f r. bodyP n r (λ b r. some (text f b)))
