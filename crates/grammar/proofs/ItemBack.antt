@@ -260,9 +260,9 @@ module _ {A : Type 0} where
   unfolding same callP callOk
   call-back c n l o r k =
       let a = both (formOk (c .form))
-          (isSymbol (c .symbol) && (every operandOk (c .operands) && leb (callArguments (c .operands)) maxArguments)) o in
+      (isSymbol (c .symbol) && (every operandOk (c .operands) && leb (callArguments (c .operands)) maxArguments)) o in
       let b = both (isSymbol (c .symbol))
-          (every operandOk (c .operands) && leb (callArguments (c .operands)) maxArguments) (a .1) in
+      (every operandOk (c .operands) && leb (callArguments (c .operands)) maxArguments) (a .1) in
       let d = both (every operandOk (c .operands)) (leb (callArguments (c .operands)) maxArguments) (b .1) in
       form-back (c .form) n (omega arith) (a .0) (c .symbol) (symbol-no-return (c .symbol) (b .0)) _ _
       ∙ operands-back (c .operands) n (omega arith) (d .0) _ _
@@ -349,9 +349,9 @@ module _ {A : Type 0} where
   unfolding same tailP declarationOk
   declaration-back d n depth l o r k =
       let a = both (isSymbol (d .symbol)) (resultOk (isMain depth (free (d .symbol))) (d .result) &&
-          (every declaredOk (d .parameters) && leb (declaredArguments (d .parameters)) maxArguments)) o in
+      (every declaredOk (d .parameters) && leb (declaredArguments (d .parameters)) maxArguments)) o in
       let b = both (resultOk (isMain depth (free (d .symbol))) (d .result))
-          (every declaredOk (d .parameters) && leb (declaredArguments (d .parameters)) maxArguments) (a .1) in
+      (every declaredOk (d .parameters) && leb (declaredArguments (d .parameters)) maxArguments) (a .1) in
       let c = both (every declaredOk (d .parameters)) (leb (declaredArguments (d .parameters)) maxArguments) (b .1) in
       signature-back [] (d .result) (free (d .symbol)) (d .parameters) false (d .noexcept) n (omega arith) (omega arith)
       (omega arith) (result-readable (isMain depth (free (d .symbol))) (d .result) (b .0))

@@ -9,5 +9,4 @@ pub mod ListBack
 pub mod ItemBack
 pub mod TextBack
 pub mod Unique
-pub mod Ambiguous
-pub mod Worked
+pub mod Examples

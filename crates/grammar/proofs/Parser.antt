@@ -181,14 +181,16 @@ module _ {A : Type 0} where
   abbrev pub suffixesP : List Token → Parser A (List Suffix)
   suffixesP waits [] k = k [] waits
   suffixesP waits (t ∷ r) k =
-      elim (sameToken t (mark 38))
-      [ true ↦ suffixesP [] r (λ ss q. k (reference (isSome waits) ∷ ss) q)
-      | false ↦
-        elim (sameToken t (mark 42))
-        [ true ↦ suffixesP [] r (λ ss q. k (pointer (isSome waits) ∷ ss) q)
+      elim (sameToken t (mark 38)) [
+        | true ↦ suffixesP [] r (λ ss q. k (reference (isSome waits) ∷ ss) q)
         | false ↦
-          elim (not (isSome waits) && sameToken t (word (bytes "const")))
-          [ true ↦ suffixesP (t ∷ []) r k | false ↦ k [] (waits ++ (t ∷ r)) ] ] ]
+            elim (sameToken t (mark 42)) [
+              | true ↦ suffixesP [] r (λ ss q. k (pointer (isSome waits) ∷ ss) q)
+              | false ↦
+                  elim (not (isSome waits) && sameToken t (word (bytes "const")))
+                  [ true ↦ suffixesP (t ∷ []) r k | false ↦ k [] (waits ++ (t ∷ r)) ]
+            ]
+      ]
 
   abbrev pub wordAtomP : Parser A Start
   wordAtomP r k =
@@ -349,8 +351,17 @@ module _ {A : Type 0} where
       fork ";" r (k (declares (record { result = t; symbol = nameOf h; parameters = ps; noexcept = e })))
       (λ r. need "{" r (λ r. manyP n isLocal localP r (λ ls r. callP n r (λ call r. errorTestP r (λ b r. endingP r (λ f r.
       need "}" r (k (shim (record {
-        comments = cs; result = t; head = h; parameters = ps; isConst = c; noexcept = e; locals = ls; call = call;
-        errorTest = b; ending = f })))))))))
+        comments = cs;
+        result = t;
+        head = h;
+        parameters = ps;
+        isConst = c;
+        noexcept = e;
+        locals = ls;
+        call = call;
+        errorTest = b;
+        ending = f;
+      })))))))))
 
   -- behind a head's name
   unfoldable pub parametersP : ℕ → List (List ℕ) → Result → Head → Parser A Item
@@ -382,10 +393,11 @@ pub data Next : Type 0 where
 abbrev pub next : List Token → Next
 next [] = nextEnd
 next (t ∷ r) =
-    elim (sameToken t (mark 125))
-    [ true ↦ nextEnd
-    | false ↦
-      elim (sameToken t (word (bytes "namespace")) || sameToken t (word (bytes "extern"))) [ true ↦ nextBlock | false ↦ nextItem ] ]
+    elim (sameToken t (mark 125)) [
+      | true ↦ nextEnd
+      | false ↦
+          elim (sameToken t (word (bytes "namespace")) || sameToken t (word (bytes "extern"))) [ true ↦ nextBlock | false ↦ nextItem ]
+    ]
 
 module _ {A : Type 0} where
   abbrev pub onNext : Next → List Token → (List Token → Option A) → (List Token → Option A) → (List Token → Option A) → Option A
@@ -444,13 +456,14 @@ module _ {A : Type 0} where
   abbrev pub forwardP : ℕ → Parser A Forward
   forwardP zero r k = none
   forwardP (suc n) r k =
-      elim (isForward atHead r)
-      [ false ↦ k forwardEnd r
-      | true ↦
-        fork "namespace" r
-        (λ r. wordP r (λ x r. need "{" r (λ r. forwardP n r (λ inside r. need "}" r (λ r.
-        forwardP n r (λ after r. k (bareNamespace x inside after) r))))))
-        (λ r. lineP r (λ l r. forwardP n r (λ after r. k (line l after) r))) ]
+      elim (isForward atHead r) [
+        | false ↦ k forwardEnd r
+        | true ↦
+            fork "namespace" r
+            (λ r. wordP r (λ x r. need "{" r (λ r. forwardP n r (λ inside r. need "}" r (λ r.
+            forwardP n r (λ after r. k (bareNamespace x inside after) r))))))
+            (λ r. lineP r (λ l r. forwardP n r (λ after r. k (line l after) r)))
+      ]
 
 unfoldable pub textP : ℕ → List Token → Option Text
 textP n r = forwardP n r (λ f r. bodyP n r (λ b r. some (text f b)))

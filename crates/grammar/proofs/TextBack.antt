@@ -51,7 +51,7 @@ module _ {A : Type 0} where
   block-back : (b : Block) (n : ℕ) (r : List Token) (k : Body → List Token → Option A) →
       bodyP (suc n) (blockTokens b (quoted "{" r)) k
       ≡ bodyP n r (λ inside r. need "}" r (λ r. commentP r (λ s r.
-        bodyP n r (λ after r. k (block b inside after) r))))
+      bodyP n r (λ after r. k (block b inside after) r))))
   unfolding same
   block-back (namespace x) n r k = refl
   block-back externC n r k = refl

@@ -77,9 +77,11 @@ unfolding same
 forward-filled forwardEnd r h = tt
 forward-filled (line l after) r h = forward-filled after r (line-rest l (forwardTokens after r) h)
 forward-filled (bareNamespace x inside after) r h =
-    let e = brace-rest (forwardTokens inside (quoted "}" (forwardTokens after r))) h in
-    (filled-line inside (forwardTokens after r) h, forward-filled inside (quoted "}" (forwardTokens after r)) e,
-    forward-filled after r (forward-rest inside (quoted "}" (forwardTokens after r)) e))
+    let e = brace-rest (forwardTokens inside (quoted "}" (forwardTokens after r))) h in (
+      filled-line inside (forwardTokens after r) h,
+      forward-filled inside (quoted "}" (forwardTokens after r)) e,
+      forward-filled after r (forward-rest inside (quoted "}" (forwardTokens after r)) e),
+    )
 
 text-filled : (t : Text) → noEmptyBraces (textTokens t) ≡ true → TextFilled t
 text-filled (text f b) h = forward-filled f (bodyTokens b []) h

@@ -15,12 +15,12 @@ abbrev pub markChar : ℕ → Bool
 markChar c = elem c (bytes "(){}<>,;&*=.")
 
 pub data Token : Type 0 where
-  word : List ℕ → Token       -- a run of word characters
-  mark : ℕ → Token            -- one character; "`&&` is two `&`"
-  scope : Token               -- ::
-  colon : Token               -- :
-  linkage : Token             -- "C"
-  comment : List ℕ → Token    -- "two slashes and the rest of its line"
+  word : List ℕ → Token  -- a run of word characters
+  mark : ℕ → Token  -- one character; "`&&` is two `&`"
+  scope : Token  -- ::
+  colon : Token  -- :
+  linkage : Token  -- "C"
+  comment : List ℕ → Token  -- "two slashes and the rest of its line"
 
 abbrev pub spelling : Token → List ℕ
 spelling (word s) = s

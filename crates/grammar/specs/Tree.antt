@@ -11,7 +11,7 @@ pub data Result : Type 0 where
 
 pub data Parameter : Type 0 where
   named : CxxType → Name → Parameter
-  slot : CxxType → Parameter                -- return$
+  slot : CxxType → Parameter  -- return$
 
 pub record Declaration : Type 0 where
   pub result : Result
@@ -29,22 +29,22 @@ pub record LayoutDefinition : Type 0 where
   pub symbol : Name
 
 pub data Head : Type 0 where
-  free : Name → Head                        -- f
-  method : Name → Name → Head               -- T::f
+  free : Name → Head  -- f
+  method : Name → Name → Head  -- T::f
 
 -- "held locals"
 pub data Local : Type 0 where
-  held : CxxType → Name → Local             -- ::rust::ManuallyDrop<T> x$(::std::move(x));
-  room : CxxType → Local                    -- ::rust::MaybeUninit<T> return$;
+  held : CxxType → Name → Local  -- ::rust::ManuallyDrop<T> x$(::std::move(x));
+  room : CxxType → Local  -- ::rust::MaybeUninit<T> return$;
 
 pub data Operand : Type 0 where
-  receiver : Operand                        -- *this
-  direct : Name → Operand                   -- x
-  intoRaw : Name → Operand                  -- x.into_raw()
-  release : Name → Operand                  -- x.release()
-  address : Name → Operand                  -- &x
-  heldAddress : Name → Operand              -- &x$.value
-  slotAddress : Operand                     -- &return$.value
+  receiver : Operand  -- *this
+  direct : Name → Operand  -- x
+  intoRaw : Name → Operand  -- x.into_raw()
+  release : Name → Operand  -- x.release()
+  address : Name → Operand  -- &x
+  heldAddress : Name → Operand  -- &x$.value
+  slotAddress : Operand  -- &return$.value
 
 -- "The call stands bare, after `error$ =` or after `return`, there also behind `*` or inside `from_raw`,
 -- a unique_ptr, `new_unchecked` or `slice`, of any type."
@@ -59,8 +59,8 @@ pub record Call : Type 0 where
 
 pub data Ending : Type 0 where
   noReturn : Ending
-  returnSlot : Ending                       -- return *return$.value;
-  moveSlot : Ending                         -- return ::std::move(return$.value);
+  returnSlot : Ending  -- return *return$.value;
+  moveSlot : Ending  -- return ::std::move(return$.value);
 
 -- "A shim is a head, comment lines before it, held locals, the call, the error test and the return."
 pub record Shim : Type 0 where
@@ -88,18 +88,18 @@ pub data Block : Type 0 where
 pub data Body : Type 0 where
   bodyEnd : Body
   item : Item → Body → Body
-  block : Block → Body → Body → Body        -- the body inside, and what follows
+  block : Block → Body → Body → Body  -- the body inside, and what follows
 
 pub data Line : Type 0 where
-  structLine : Name → Line                  -- struct X;
-  enumLine : Name → Atom → Line             -- enum class X : A;
-  usingLine : Name → List Name → Line       -- using X = ::a::b;
+  structLine : Name → Line  -- struct X;
+  enumLine : Name → Atom → Line  -- enum class X : A;
+  usingLine : Name → List Name → Line  -- using X = ::a::b;
 
 -- "a forward part (struct, enum class and using lines; namespaces closed by a bare `}`)"
 pub data Forward : Type 0 where
   forwardEnd : Forward
   line : Line → Forward → Forward
-  bareNamespace : Name → Forward → Forward → Forward   -- the part inside, and what follows
+  bareNamespace : Name → Forward → Forward → Forward  -- the part inside, and what follows
 
 pub data Text : Type 0 where
   text : Forward → Body → Text

@@ -20,15 +20,17 @@ pub data Suffix : Type 0 where
 mutual
   pub data CxxType : Type 0 where
     suffixed : Base → List Suffix → CxxType
+
   pub data Base : Type 0 where
     atom : Atom → Base
     str : Base
-    full : List Name → Base             -- `::` before each part
+    full : List Name → Base  -- `::` before each part
     template : Template → CxxType → Base
-    slice : CxxType → Bool → Base       -- "may end in one more `const`"
+    slice : CxxType → Bool → Base  -- "may end in one more `const`"
     array : CxxType → ℕ → Base
-    voidFn : CxxTypes → Base            -- ::rust::Fn<void(A, ...)>
-    fn : CxxType → CxxTypes → Base      -- ::rust::Fn<R(A, ...)>
+    voidFn : CxxTypes → Base  -- ::rust::Fn<void(A, ...)>
+    fn : CxxType → CxxTypes → Base  -- ::rust::Fn<R(A, ...)>
+
   pub data CxxTypes : Type 0 where
     nil : CxxTypes
     cons : CxxType → CxxTypes → CxxTypes
