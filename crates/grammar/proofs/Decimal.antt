@@ -36,7 +36,7 @@ number-digits (suc more) n l =
     (λ e. let h : n < 10 = small n e in rw e (omega arith))
     (λ e. let h : 10 ≤ n = large n e in
     let ih : number 0 (digits more (n / 10)) ≡ n / 10 = number-digits more (n / 10) (omega arith) in
-    rw (e, number-snoc (digits more (n / 10)) 0 (48 + n % 10), ih) (omega arith))
+    rw (e, number-snoc, ih) (omega arith))
 
 pub number-decimal : (n : ℕ) → ltb n arrayLengths ≡ true → number 0 (decimal n) ≡ n
 number-decimal n h =
@@ -63,10 +63,10 @@ digits-word (suc more) n =
     by-cases (ltb n 10)
     (λ e. rw (e, digit-char n (small n e)))
     (λ e. rw e
-    (every-snoc wordChar (digits more (n / 10)) (48 + n % 10) (digits-word more (n / 10)) (digit-char (n % 10) (omega arith))))
+    (every-snoc wordChar (digits more (n / 10)) _ (digits-word more (n / 10)) (digit-char (n % 10) (omega arith))))
 
 digits-some : (more n : ℕ) → nonempty (digits (suc more) n) ≡ true
-digits-some more n = by-cases (ltb n 10) (λ e. rw e) (λ e. rw e (some-snoc (digits more (n / 10)) (48 + n % 10)))
+digits-some more n = by-cases (ltb n 10) (λ e. rw e) (λ e. rw e (some-snoc (digits more (n / 10)) _))
   where
     some-snoc : (s : List ℕ) (c : ℕ) → nonempty (s ++ (c ∷ [])) ≡ true
     some-snoc [] c = refl

@@ -99,7 +99,8 @@ abbrev mutual
   baseTokens (full path) rest = pathTokens path rest
   baseTokens (template t x) rest = templateTokens t (typeTokens x (quoted ">" rest))
   baseTokens (slice x isConst) rest = quoted ":: rust :: Slice <" (typeTokens x (constTokens isConst (quoted ">" rest)))
-  baseTokens (array x n) rest = quoted ":: std :: array <" (typeTokens x (quoted "," (word (decimal n) ∷ quoted ">" rest)))
+  baseTokens (array x n) rest =
+      quoted ":: std :: array <" (typeTokens x (quoted "," (word (decimal n) ∷ quoted ">" rest)))
   baseTokens (voidFn xs) rest = quoted ":: rust :: Fn < void (" (typesTokens xs (quoted ") >" rest))
   baseTokens (fn x xs) rest = quoted ":: rust :: Fn <" (typeTokens x (quoted "(" (typesTokens xs (quoted ") >" rest))))
 
@@ -171,7 +172,8 @@ formTokens returned rest = quoted "return" rest
 formTokens dereferenced rest = quoted "return *" rest
 formTokens (inFromRaw x) rest = quoted "return :: rust :: Box <" (typeTokens x (quoted "> :: from_raw (" rest))
 formTokens (inUniquePtr x) rest = quoted "return :: std :: unique_ptr <" (typeTokens x (quoted "> (" rest))
-formTokens (inNewUnchecked x) rest = quoted "return :: rust :: impl <" (typeTokens x (quoted "> :: new_unchecked (" rest))
+formTokens (inNewUnchecked x) rest =
+    quoted "return :: rust :: impl <" (typeTokens x (quoted "> :: new_unchecked (" rest))
 formTokens (inSlice x) rest = quoted "return :: rust :: impl <" (typeTokens x (quoted "> :: slice (" rest))
 
 -- and behind the call
