@@ -12,6 +12,7 @@ use Rattle.grammar.specs.Token.{word, wordChar}
 use Rattle.grammar.specs.Layout.{nonempty, wellFormed}
 use Rattle.grammar.specs.Tokens.{digits, decimal}
 use Rattle.grammar.specs.Rules.{arrayLengths}
+use Rattle.grammar.proofs.LexedLayout.{some-snoc}
 use Rattle.grammar.proofs.Parser.{number}
 
 -- the numbers below have at most so many digits
@@ -67,10 +68,6 @@ digits-word (suc more) n =
 
 digits-some : (more n : ℕ) → nonempty (digits (suc more) n) ≡ true
 digits-some more n = by-cases (ltb n 10) (λ e. rw e) (λ e. rw e (some-snoc (digits more (n / 10)) _))
-  where
-    some-snoc : (s : List ℕ) (c : ℕ) → nonempty (s ++ (c ∷ [])) ≡ true
-    some-snoc [] c = refl
-    some-snoc (d ∷ s) c = refl
 
 pub decimal-word : (n : ℕ) → wellFormed (word (decimal n)) ≡ true
 decimal-word n = rw (digits-some 9 n) (digits-word 10 n)
