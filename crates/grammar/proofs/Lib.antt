@@ -8,5 +8,6 @@ pub mod RuleFacts
 pub mod ListBack
 pub mod ItemBack
 pub mod TextBack
+pub mod Pieces
 pub mod Unique
 pub mod Examples
