@@ -6,11 +6,11 @@ use Prim.Native.Nat.{ℕ, zero, suc, _≤_, _<_, _+_, _*_, _-_, _/_, _%_}
 use native.Mathlib.Omega.{arith}
 use lib.Dec.{ltb, ltb→lt, nltb→le, T}
 use Rattle.lexical.specs.Bytes.{every}
+use Rattle.lexical.specs.Decimal.{pickText, digits, decimal}
 use Rattle.lexical.proofs.BoolLaws.{by-cases}
 use Rattle.lexical.proofs.ByteLaws.{every-snoc}
 use Rattle.grammar.specs.Token.{word, wordChar}
 use Rattle.grammar.specs.Layout.{nonempty, wellFormed}
-use Rattle.grammar.specs.Tokens.{digits, decimal}
 use Rattle.grammar.specs.Rules.{arrayLengths}
 use Rattle.grammar.proofs.LexedLayout.{some-snoc}
 use Rattle.grammar.proofs.Parser.{number}
@@ -30,7 +30,8 @@ small n e = ltb→lt n 10 (rw e tt)
 large : (n : ℕ) → ltb n 10 ≡ false → 10 ≤ n
 large n e = nltb→le n 10 (rw e tt)
 
-number-digits : (more n : ℕ) → n < bound more → number 0 (digits more n) ≡ n
+number-digits : (more n : ℕ) → n < bound (suc more) → number 0 (digits more n) ≡ n
+unfolding digits
 number-digits zero n l = omega arith
 number-digits (suc more) n l =
     by-cases (ltb n 10)
@@ -40,9 +41,10 @@ number-digits (suc more) n l =
     rw (e, number-snoc, ih) (omega arith))
 
 pub number-decimal : (n : ℕ) → ltb n arrayLengths ≡ true → number 0 (decimal n) ≡ n
+unfolding decimal
 number-decimal n h =
-    let l : n < 4294967296 = ltb→lt n 4294967296 (rw h tt) in
-    number-digits 10 n (omega arith)
+    let l : n < arrayLengths = ltb→lt n arrayLengths (rw h tt) in
+    number-digits 9 n (omega arith)
 
 digit-char : (n : ℕ) → n < 10 → wordChar (48 + n) ≡ true
 digit-char zero l = refl
@@ -58,16 +60,17 @@ digit-char (suc (suc (suc (suc (suc (suc (suc (suc (suc zero))))))))) l = refl
 digit-char (suc (suc (suc (suc (suc (suc (suc (suc (suc (suc n)))))))))) l = absurd (omega arith)
 
 digits-word : (more n : ℕ) → every wordChar (digits more n) ≡ true
-unfolding every
-digits-word zero n = refl
+unfolding every digits
+digits-word zero n = rw (digit-char (n % 10) (omega arith))
 digits-word (suc more) n =
-    by-cases (ltb n 10)
-    (λ e. rw (e, digit-char n (small n e)))
-    (λ e. rw e
-    (every-snoc wordChar (digits more (n / 10)) _ (digits-word more (n / 10)) (digit-char (n % 10) (omega arith))))
+    every-snoc wordChar (pickText (ltb n 10) [] (digits more (n / 10))) _
+    (by-cases (ltb n 10) (λ e. rw e) (λ e. rw e (digits-word more (n / 10)))) (digit-char (n % 10) (omega arith))
 
-digits-some : (more n : ℕ) → nonempty (digits (suc more) n) ≡ true
-digits-some more n = by-cases (ltb n 10) (λ e. rw e) (λ e. rw e (some-snoc (digits more (n / 10)) _))
+digits-some : (more n : ℕ) → nonempty (digits more n) ≡ true
+unfolding digits
+digits-some zero n = refl
+digits-some (suc more) n = some-snoc (pickText (ltb n 10) [] (digits more (n / 10))) _
 
 pub decimal-word : (n : ℕ) → wellFormed (word (decimal n)) ≡ true
-decimal-word n = rw (digits-some 9 n) (digits-word 10 n)
+unfolding decimal
+decimal-word n = rw (digits-some 9 n) (digits-word 9 n)

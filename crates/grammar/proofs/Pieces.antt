@@ -6,6 +6,7 @@ use mathlib.Core.Bool.{Bool, true, false, _&&_, _||_, not, false≢true}
 use Prim.Native.Nat.{ℕ}
 use lib.Dec.{eqb}
 use Rattle.lexical.specs.Bytes.{bytes, every, member}
+use Rattle.lexical.specs.Decimal.{decimal}
 use Rattle.lexical.specs.Names.{nameStart, nameChar, starts, reserved, isName}
 use Rattle.lexical.proofs.BoolLaws.{both, and-of, or-left, not-true, by-cases}
 use Rattle.lexical.proofs.ByteLaws.{byte-eq, every-cons, every-snoc, every-weaken}
@@ -18,7 +19,7 @@ use Rattle.grammar.specs.Types.{weakPtr, vector, Suffix, reference, poin
 use Rattle.grammar.specs.Tree.{Operand, receiver, direct, intoRaw, release, address, heldAddress, slotAddress}
 use Rattle.grammar.specs.Tree.{Block, namespace, externC}
 use Rattle.grammar.specs.Tokens.{eachTokens, commaTokens, listTokens, pathTokens, atomTokens, templateTokens}
-use Rattle.grammar.specs.Tokens.{constTokens, suffixTokens, decimal, typeTokens, operandTokens, blockTokens}
+use Rattle.grammar.specs.Tokens.{constTokens, suffixTokens, typeTokens, operandTokens, blockTokens}
 use Rattle.grammar.specs.Tokens.{closingComment}
 use Rattle.grammar.specs.Rules.{isSymbol, operandOk}
 use Rattle.grammar.proofs.LexedLayout.{some-snoc}

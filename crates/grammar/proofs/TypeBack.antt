@@ -8,6 +8,7 @@ use native.Mathlib.Omega.{arith}
 use lib.Dec.{leb, ltb}
 use lib.ListN.{length}
 use Rattle.lexical.specs.Bytes.{bytes, within, every, same}
+use Rattle.lexical.specs.Decimal.{decimal}
 use Rattle.lexical.specs.Names.{isName}
 use Rattle.lexical.proofs.BoolLaws.{both, not-true, neither, not-both, by-cases}
 use Rattle.grammar.specs.Token.{Token, word, mark, scope, colon, linkage, comment, quoted}
@@ -16,7 +17,7 @@ use Rattle.grammar.specs.Types.{f32, f64, cxxString, rustString, Templat
 use Rattle.grammar.specs.Types.{weakPtr, vector, Suffix, reference, pointer, CxxType, suffixed, Base, atom, str}
 use Rattle.grammar.specs.Types.{full, template, slice, array, voidFn, fn, CxxTypes, nil, cons}
 use Rattle.grammar.specs.Tokens.{eachTokens, pathTokens, atomTokens, templateTokens, constTokens, suffixTokens}
-use Rattle.grammar.specs.Tokens.{decimal, typeTokens, baseTokens, typesTokens, moreTypesTokens}
+use Rattle.grammar.specs.Tokens.{typeTokens, baseTokens, typesTokens, moreTypesTokens}
 use Rattle.grammar.specs.Rules.{maxNamespaces, maxFnArguments, arrayLengths, ofStdOrRust, fullNameOk, count, partsOk}
 use Rattle.grammar.specs.Rules.{baseOk, allPartsOk}
 use Rattle.grammar.proofs.Parser.{sameToken, begins, Parser, fork, need, pathP, isSuffix, suffixesP, opening}
