@@ -6,11 +6,19 @@
 //! text and an empty order.
 
 use crate::compare::{Outcome, compare};
-use sheet::generate::{boundaries, damaged, faulty, good, graph};
+use sheet::generate::{boundaries, damaged, faulty, good, graph, signatures};
 use sheet::{Refusal, Rng, encode};
 
 /// The seed of the stored file.
 pub const SEED: u64 = 205;
+
+/// Sheets at the limits that would make the file much longer.
+const TOO_LONG: [&str; 4] = [
+    "amplified",
+    "32,768 bytes and one more",
+    "32,768 bytes of edition 0",
+    "32,769 bytes of edition 0",
+];
 
 pub struct Record {
     pub sheet: Vec<u8>,
@@ -23,10 +31,10 @@ pub struct Record {
 pub fn make(seed: u64) -> Result<Vec<u8>, String> {
     let mut file = Vec::new();
     let mut rng = Rng::new(seed);
-    for (label, sheet) in boundaries() {
-        if !label.ends_with("bytes of edition 0") && label != "amplified" {
-            push(&mut file, &sheet).map_err(|error| format!("{label}: {error}"))?;
-        }
+    let mut fixed = boundaries();
+    fixed.retain(|(label, _)| !TOO_LONG.contains(&label.as_str()));
+    for (label, sheet) in fixed.into_iter().chain(signatures()) {
+        push(&mut file, &sheet).map_err(|error| format!("{label}: {error}"))?;
     }
     for refusal in Refusal::ALL {
         for _ in 0..24 {
@@ -46,7 +54,7 @@ pub fn make(seed: u64) -> Result<Vec<u8>, String> {
     for _ in 0..40 {
         small(&mut file, || encode(&graph(&mut rng)))?;
     }
-    for _ in 0..140 {
+    for _ in 0..100 {
         small(&mut file, || encode(&good(&mut rng)))?;
     }
     Ok(file)

@@ -4,11 +4,12 @@ use oracle::compare::compare;
 use sheet::{Rng, desc, generate};
 
 #[test]
-fn limits() {
+fn limits_and_signatures() {
     if oracle::skipped() {
         return;
     }
-    for (label, sheet) in generate::boundaries() {
+    let fixed = generate::boundaries().into_iter();
+    for (label, sheet) in fixed.chain(generate::signatures()) {
         if let Err(error) = compare(&sheet) {
             panic!("{label}: {error}");
         }

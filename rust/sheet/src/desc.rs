@@ -26,23 +26,10 @@
 use crate::value::*;
 use std::fmt::Write;
 
+#[rustfmt::skip]
 const ATOMS: [&str; 16] = [
-    "bool",
-    "c_char",
-    "u8",
-    "u16",
-    "u32",
-    "u64",
-    "usize",
-    "i8",
-    "i16",
-    "i32",
-    "i64",
-    "isize",
-    "f32",
-    "f64",
-    "CxxString",
-    "String",
+    "bool", "c_char", "u8", "u16", "u32", "u64", "usize", "i8", "i16", "i32", "i64", "isize",
+    "f32", "f64", "CxxString", "String",
 ];
 
 type Result<T> = std::result::Result<T, String>;

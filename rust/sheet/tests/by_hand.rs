@@ -217,6 +217,16 @@ fn taken() {
     let inside = "100 001 10 00 01 00 0 0 00000 00000";
     expect(0, &functions(&[inside, &free("01")]));
     expect(10, &functions(&[inside, inside]));
+    // So is the self type's C++ name, which a free function has not.
+    let on = ["0", "1"].map(|item| format!("100 000 00 00 11 0{item} 0 0 00000 00000"));
+    let types = ["011 000 01 0", "010 000 10 0"];
+    expect(0, &functions(&[types[0], types[1], &on[0], &on[1]]));
+    expect(0, &functions(&[types[0], types[1], &on[0], &free("00")]));
+    expect(10, &functions(&[types[0], types[1], &on[1], &on[1]]));
+    // Types `b` and `c::b` have one C++ name; the form does not count.
+    let method = "100 000 00 00 01 01 0 0 00000 00000";
+    let inner = "011 001 10 01 0";
+    expect(10, &functions(&[types[0], inner, &on[0], method]));
     // Two types `a`; a type and a function `a`.
     expect(10, &functions(&["011 000 00 0", "001 000 00 0 0010 1"]));
     expect(0, &functions(&["011 000 00 0", &free("00")]));

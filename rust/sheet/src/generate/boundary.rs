@@ -144,6 +144,76 @@ pub fn boundaries() -> Vec<(String, Vec<u8>)> {
     out
 }
 
+/// For each sort of type one sheet: a function of each form, throwing and not,
+/// that takes and returns it.
+pub fn signatures() -> Vec<(String, Vec<u8>)> {
+    let named = || Box::new(Type::Named(0));
+    let mut types: Vec<Type> = [0, 14, 15].map(Type::Atom).to_vec();
+    types.extend((0..WRAPPERS).map(|kind| wrap(kind, Type::Named(0))));
+    types.extend([
+        Type::Named(0),
+        Type::Str,
+        Type::Ref {
+            mutable: true,
+            inner: named(),
+        },
+        Type::Ptr {
+            mutable: true,
+            inner: named(),
+        },
+        Type::SliceRef {
+            mutable: true,
+            inner: named(),
+        },
+    ]);
+    let mut out = Vec::new();
+    for ty in types {
+        let pointers: &[bool] = match ty {
+            Type::Named(_) => &[false, true],
+            _ => &[false],
+        };
+        for pointer in pointers {
+            let sheet = signatures_of(&ty, *pointer);
+            out.push((format!("signatures with {ty:?}"), encode(&sheet)));
+        }
+    }
+    out
+}
+
+fn signatures_of(ty: &Type, pointer: bool) -> Sheet {
+    let forms = [
+        Form::Free,
+        Form::ConstMethod(0),
+        Form::MutMethod(0),
+        Form::Associated(0),
+    ];
+    let mut sheet = names(9, 1);
+    sheet.items[0].namespace = vec![8];
+    sheet.items[0].kind = Kind::CxxType { pointer };
+    for number in 0..8 {
+        let mut args = vec![ty.clone(), Type::Atom(2)];
+        args.retain(|arg| !matches!(arg, Type::CxxVector(_)));
+        let args = args.into_iter().enumerate().map(|(name, ty)| Arg {
+            name: name as NameIndex,
+            ty,
+        });
+        let kind = Kind::Function(Function {
+            rust_name: number as NameIndex,
+            form: forms[number / 2],
+            throws: number % 2 == 1,
+            ret: Some(ty.clone()),
+            args: args.collect(),
+            comment: Vec::new(),
+        });
+        sheet.items.push(Item {
+            namespace: Vec::new(),
+            name: 1,
+            kind,
+        });
+    }
+    sheet
+}
+
 /// Names `a0`, `a1` and so on, and an opaque type for the first and last used.
 fn names(count: usize, used: usize) -> Sheet {
     let mut sheet = Sheet::empty();

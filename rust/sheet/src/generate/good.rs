@@ -6,47 +6,12 @@ use crate::{
 };
 
 /// Words that the rules, the crate or the grammar could trip over.
+#[rustfmt::skip]
 const WORDS: [&str; 40] = [
-    "a",
-    "b",
-    "c",
-    "x",
-    "_",
-    "_x",
-    "mill",
-    "Job",
-    "count",
-    "main",
-    "main",
-    "self",
-    "self",
-    "error",
-    "error",
-    "std",
-    "rust",
-    "u8",
-    "String",
-    "CxxString",
-    "bool_",
-    "T0",
-    "T1",
-    "Self",
-    "return_",
-    "cxxbridge1",
-    "operator_",
-    "size",
-    "layout",
-    "namespace_",
-    "f64",
-    "f",
-    "g",
-    "value",
-    "ptr",
-    "Vec",
-    "Box",
-    "Result",
-    "void_",
-    "concept",
+    "a", "b", "c", "x", "_", "_x", "mill", "Job", "count", "main", "main", "self", "self",
+    "error", "error", "std", "rust", "u8", "String", "CxxString", "bool_", "T0", "T1", "Self",
+    "return_", "cxxbridge1", "operator_", "size", "layout", "namespace_", "f64", "f", "g",
+    "value", "ptr", "Vec", "Box", "Result", "void_", "concept",
 ];
 
 /// A sheet that a check accepts.
@@ -180,12 +145,11 @@ impl Draft<'_> {
         for _ in 0..self.rng.below(6) {
             let mut path = self.rng.pick(&self.paths).clone();
             path.truncate(self.rng.below(path.len() + 1));
-            let deeper = if self.rng.one_in(8) {
-                7
-            } else {
-                self.rng.between(1, 2)
+            let depth = match self.rng.one_in(8) {
+                true => limit::NAMESPACES,
+                false => limit::NAMESPACES.min(path.len() + self.rng.between(1, 2)),
             };
-            while path.len() < limit::NAMESPACES && deeper > path.len() {
+            while path.len() < depth {
                 let name = self.name();
                 path.push(name);
             }

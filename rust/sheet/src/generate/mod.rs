@@ -6,7 +6,7 @@ mod fault;
 mod good;
 mod graph;
 
-pub use boundary::boundaries;
+pub use boundary::{boundaries, signatures};
 pub use fault::faulty;
 pub use good::{good, large};
 pub use graph::graph;
