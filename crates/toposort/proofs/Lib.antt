@@ -1,2 +1,5 @@
 pub mod Marks
 pub mod Visits
+pub mod Orders
+pub mod Soundness
+pub mod Theorems
