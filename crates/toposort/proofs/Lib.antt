@@ -3,3 +3,5 @@ pub mod Visits
 pub mod Orders
 pub mod Soundness
 pub mod Theorems
+pub mod CrateLaws
+pub mod Levels
