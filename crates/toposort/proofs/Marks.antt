@@ -40,6 +40,15 @@ unmarked-again (suc b ∷ m) zero v h e = refl
 unmarked-again (zero ∷ m) (suc i) v h e = omega (arith, unmarked-again m i v (omega arith) e)
 unmarked-again (suc b ∷ m) (suc i) v h e = unmarked-again m i v (omega arith) e
 
+-- no mark adds to it
+pub unmarked-set : (m : List ℕ) (i v : ℕ) → unmarked (set m i (suc v)) ≤ unmarked m
+unfolding unmarked
+unmarked-set [] i v = omega arith
+unmarked-set (zero ∷ m) zero v = omega arith
+unmarked-set (suc b ∷ m) zero v = omega arith
+unmarked-set (zero ∷ m) (suc i) v = omega (arith, unmarked-set m i v)
+unmarked-set (suc b ∷ m) (suc i) v = unmarked-set m i v
+
 pub unmarked-some : (m : List ℕ) (i : ℕ) → i < length m → getD m i 0 ≡ 0 → 0 < unmarked m
 unmarked-some m i h e = omega (arith, unmarked-first m i 0 h e)
 
