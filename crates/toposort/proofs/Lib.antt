@@ -5,3 +5,4 @@ pub mod Soundness
 pub mod Theorems
 pub mod CrateLaws
 pub mod Levels
+pub mod TableLaws
