@@ -1,19 +1,19 @@
 -- Laws by which the code's visits are those of `visit` and `visitAll`.
--- Here m are marks, o is the order's array, and the order so far ends at `at`; e and x are later ends.
+-- Here m are marks and o is the order's array; the order so far ends at `at`, and later at e or x.
 use mathlib.Core.Path.{_≡_, refl, sym, ap, _∙_}
-use mathlib.Core.List.{List, [], _∷_, _++_, List·Memᴰ·head, List·Memᴰ·tail}
+use mathlib.Core.List.{List, [], _∷_, _++_}
 use Prim.Native.Nat.{ℕ, zero, suc, _+_, _-_, _<_, _≤_}
 use native.Mathlib.Omega.{arith}
 use native.Mathlib.Numerals.{add-one}
-use lib.ListN.{length, getD, set, take, drop, replicate, length-set}
+use lib.ListN.{length, getD, set, take, drop, replicate, length-set, length-replicate}
 use lib.Seq.{length-take-le, take-suc-set, drop-cons, drop-length}
 use Rattle.toposort.specs.declared.Step.{Step}
 use Rattle.toposort.specs.declared.Step.the-variants.{Done, Ring}
-use Rattle.toposort.specs.Graph.{Graph, _∈_, Within}
+use Rattle.toposort.specs.Graph.{Graph, Within}
 use Rattle.toposort.specs.Sort.{Walk, ring, done, andThen, finish, byMark, visitAll, visit, sort, unmarked}
-use Rattle.toposort.specs.Table.{graphOf, Table, Room, walkOf, endOf, Visited, VisitedAll, Unsorted, Sorted}
+use Rattle.toposort.specs.Table.{graphOf, Table, Room, walkOf, Visited, VisitedAll, Sorted}
 use Rattle.toposort.proofs.Marks.{unmarked-first, unmarked-blank}
-use Rattle.toposort.proofs.Visits.{Moves, visit-moves, visits-move}
+use Rattle.toposort.proofs.Visits.{Moved, Moves, visit-moves, visits-move}
 
 -- ---- the answer is known
 
@@ -27,38 +27,48 @@ all-as {g} {levels} {at} {js} {m} {o} {m₁} {o₁} {r} {s} e a = rw e at a
 
 -- ---- room in the order
 
--- what a visit adds to the order it takes from the items without a mark
-adds : (m o : List ℕ) (at : ℕ) (m₁ o₁ : List ℕ) (x : ℕ) (w : Walk) → done m₁ (take x o₁) ≡ w →
-    Moves m (take at o) w → at ≤ length o → x ≤ length o₁ → x + unmarked m₁ ≡ at + unmarked m
-adds m o at m₁ o₁ x w p s h l =
-    let t : Moves m (take at o) (done m₁ (take x o₁)) = rw (sym p) at s in
-    omega (arith, t .count, length-take-le at o h, length-take-le x o₁ l)
+-- the room after a walk from m and the order o up to `at`
+room-after : {at x : ℕ} {m o m₁ o₁ : List ℕ} (w : Walk) → Room m o at → done m₁ (take x o₁) ≡ w →
+    Moves m (take at o) w → x ≤ length o₁ → length o₁ ≡ length o → Room m₁ o₁ x × (x + unmarked m₁ ≡ at + unmarked m)
+room-after {at} {x} {m} {o} {m₁} {o₁} w r e moves l same =
+    let t : Moved m (take at o) m₁ (take x o₁) = rw (sym e) at moves in
+    let h : at ≤ length o = omega (arith, r .order, r .places) in
+    let count : x + unmarked m₁ ≡ at + unmarked m =
+    omega (arith, t .count, length-take-le at o h, length-take-le x o₁ l) in
+    (record { marks = t .size ∙ r .marks; order = same ∙ r .order; places = omega (arith, r .places) }, count)
 
 pub no-mark : (b : ℕ) → b ≤ 1 → (b ≡ 1 → ⊥) → b ≡ 0
 no-mark zero h e = refl
 no-mark (suc zero) h e = absurd (e refl)
 no-mark (suc (suc b)) h e = absurd (omega arith)
 
--- with the first mark of a struct there is a place for it, and room for the others
-pub room-inner : {i at : ℕ} {m o : List ℕ} → Room m o at → i < length m → getD m i 0 ≡ 0 → Room (set m i 1) o (at + 1)
-room-inner {i} {at} {m} {o} r h e = record {
-  small = omega (arith, r .small, length-set m i 1);
-  places = omega (arith, r .places, unmarked-first m i 0 h e);
-}
+-- with its first mark a struct gets a place, behind which there is room for the others
+room-inner : {i at : ℕ} {m o : List ℕ} → Room m o at → i < 256 → getD m i 0 ≡ 0 →
+    Room (set m i 1) o at × (at + unmarked (set m i 1) < 256)
+room-inner {i} {at} {m} {o} r h e =
+    let fewer = unmarked-first m i 0 (omega (arith, r .marks)) e in (
+      record {
+        marks = length-set m i 1 ∙ r .marks;
+        order = r .order;
+        places = omega (arith, r .places);
+      },
+      omega (arith, r .places),
+    )
 
-pub room-less : {at : ℕ} {m o : List ℕ} → Room m o (at + 1) → Room m o at
-room-less r = record { small = r .small; places = omega (arith, r .places) }
+pub room-marked : {i at : ℕ} {m o : List ℕ} → Room m o at → i < 256 → getD m i 0 ≡ 0 → Room (set m i 1) o at
+room-marked r h e = room-inner r h e .0
 
-pub room-left : {g : Graph} {n levels at x : ℕ} {js m o m₁ o₁ : List ℕ} → Within g n →
-    ((c : ℕ) → c ∈ js → c < n) → length m ≡ n → Room m o (at + 1) → VisitedAll g levels js m o at (Done x) m₁ o₁ →
-    length o₁ ≡ length o → x < length o₁
-room-left {g} {n} {levels} {at} {x} {js} {m} {o} {m₁} {o₁} within below size r a l =
-    let q =
-    adds m o at m₁ o₁ x (visitAll (visit g levels) js m (take at o)) (a .same)
-    (visits-move g n within levels js below m (take at o) size) (omega (arith, r .places)) (a .inside) in
-    omega (arith, r .places)
+-- the place is free when those that the struct holds are visited
+pub place-free : {g : Graph} {levels i at x : ℕ} {m o m₁ o₁ : List ℕ} → Within g 256 → Room m o at → i < 256 →
+    getD m i 0 ≡ 0 → VisitedAll g levels (g i) (set m i 1) o at (Done x) m₁ o₁ → x < 256
+place-free {g} {levels} {i} {at} {x} {m} {o} {m₁} {o₁} within r h e a =
+    let inner = room-inner r h e in
+    let after =
+    room-after (visitAll (visit g levels) (g i) (set m i 1) (take at o)) (inner .0) (a .same)
+    (visits-move g 256 within levels (g i) (within i) (set m i 1) (take at o) (inner .0 .marks)) (a .inside) (a .kept) in
+    omega (arith, inner .1, after .1)
 
--- ---- a loop over structs: js are left of those of the whole walk w
+-- ---- a loop over structs: js are left of the whole walk w
 
 pub record Going (g : Graph) (levels : ℕ) (w : Walk) (js m o : List ℕ) (e : ℕ) : Type 0 where
   pub left : visitAll (visit g levels) js m (take e o) ≡ w
@@ -68,10 +78,6 @@ pub going-as : {g : Graph} {levels : ℕ} {w : Walk} {js ks m o : List ℕ} {e :
     Going g levels w js m o e → Going g levels w ks m o e
 going-as {g} {levels} {w} {js} {ks} {m} {o} {e} p a = rw (sym p) a
 
--- the element k is next
-pub left-next : {j : ℕ} (js : List ℕ) (k : ℕ) → k < length js → j ≡ getD js k 0 → drop k js ≡ j ∷ drop (k + 1) js
-left-next js k h e = rw (add-one, e) (drop-cons js k 0 h)
-
 then-done : {w : Walk} (v : Walk) (next : List ℕ → List ℕ → Walk) {m o : List ℕ} → done m o ≡ v → andThen v next ≡ w →
     next m o ≡ w
 then-done {w} v next e h = rw (sym e) at h
@@ -79,33 +85,55 @@ then-done {w} v next e h = rw (sym e) at h
 then-ring : {w : Walk} (v : Walk) (next : List ℕ → List ℕ → Walk) → ring ≡ v → andThen v next ≡ w → ring ≡ w
 then-ring {w} v next e h = rw (sym e) at h
 
-pub going-next : {g : Graph} {n levels : ℕ} {w : Walk} {js m o m₁ o₁ : List ℕ} {j e x : ℕ} → Within g n → j < n →
-    length m ≡ n → Going g levels w (j ∷ js) m o e → Visited g levels j m o e (Done x) m₁ o₁ → length m₁ ≡ length m →
-    length o₁ ≡ length o → Going g levels w js m₁ o₁ x
+pub going-next : {g : Graph} {levels : ℕ} {w : Walk} {js m o m₁ o₁ : List ℕ} {j e x : ℕ} → Within g 256 → j < 256 →
+    Going g levels w (j ∷ js) m o e → Visited g levels j m o e (Done x) m₁ o₁ → Going g levels w js m₁ o₁ x
 unfolding visitAll
-going-next {g} {n} {levels} {w} {js} {m} {o} {m₁} {o₁} {j} {e} {x} within h size a b lm lo =
-    let r = a .room in
-    let q =
-    adds m o e m₁ o₁ x (visit g levels j m (take e o)) (b .same)
-    (visit-moves g n within levels j m (take e o) h size) (omega arith) (b .inside) in
-    record {
-      left = then-done (visit g levels j m (take e o)) (λ m₂ o₂. visitAll (visit g levels) js m₂ o₂) (b .same) (a .left);
-      room = record { small = omega arith; places = omega arith };
-    }
-
-pub going-ring : {g : Graph} {levels : ℕ} {ks js m o m₀ o₀ m₁ o₁ : List ℕ} {j e at : ℕ} →
-    Going g levels (visitAll (visit g levels) ks m₀ (take at o₀)) (j ∷ js) m o e →
-    Visited g levels j m o e Ring m₁ o₁ → VisitedAll g levels ks m₀ o₀ at Ring m₁ o₁
-unfolding visitAll
-going-ring {g} {levels} {ks} {js} {m} {o} {m₀} {o₀} {m₁} {o₁} {j} {e} a b = record {
-  same = then-ring (visit g levels j m (take e o)) (λ m₂ o₂. visitAll (visit g levels) js m₂ o₂) (b .same) (a .left);
-  inside = omega arith;
+going-next {g} {levels} {w} {js} {m} {o} {m₁} {o₁} {j} {e} {x} within h a b = record {
+  left = then-done (visit g levels j m (take e o)) (λ m₂ o₂. visitAll (visit g levels) js m₂ o₂) (b .same) (a .left);
+  room =
+      room-after (visit g levels j m (take e o)) (a .room) (b .same)
+      (visit-moves g 256 within levels j m (take e o) h (a .room .marks)) (b .inside) (b .kept) .0;
 }
 
-pub going-end : {g : Graph} {levels : ℕ} {ks m o m₀ o₀ : List ℕ} {e at : ℕ} →
-    Going g levels (visitAll (visit g levels) ks m₀ (take at o₀)) [] m o e → VisitedAll g levels ks m₀ o₀ at (Done e) m o
+at-ring : {g : Graph} {levels : ℕ} {w : Walk} {js m o m₁ o₁ : List ℕ} {j e : ℕ} → Going g levels w (j ∷ js) m o e →
+    Visited g levels j m o e Ring m₁ o₁ → ring ≡ w
 unfolding visitAll
-going-end a = let r = a .room in record { same = a .left; inside = omega arith }
+at-ring {g} {levels} {w} {js} {m} {o} {m₁} {o₁} {j} {e} a b =
+    then-ring (visit g levels j m (take e o)) (λ m₂ o₂. visitAll (visit g levels) js m₂ o₂) (b .same) (a .left)
+
+at-end : {g : Graph} {levels : ℕ} {w : Walk} {m o : List ℕ} {e : ℕ} → Going g levels w [] m o e → done m (take e o) ≡ w
+unfolding visitAll
+at-end a = a .left
+
+module _ {g : Graph} {levels at : ℕ} {ks m₀ o₀ : List ℕ} (size : length o₀ ≡ 256) where
+  pub all-ring : {js m o m₁ o₁ : List ℕ} {j e : ℕ} →
+      Going g levels (visitAll (visit g levels) ks m₀ (take at o₀)) (j ∷ js) m o e →
+      Visited g levels j m o e Ring m₁ o₁ → VisitedAll g levels ks m₀ o₀ at Ring m₁ o₁
+  all-ring a b = record { same = at-ring a b; inside = omega arith; kept = b .kept ∙ a .room .order ∙ sym size }
+
+  pub all-done : {m o : List ℕ} {e : ℕ} → Going g levels (visitAll (visit g levels) ks m₀ (take at o₀)) [] m o e →
+      VisitedAll g levels ks m₀ o₀ at (Done e) m o
+  all-done a =
+      let r = a .room in record { same = at-end a; inside = omega arith; kept = r .order ∙ sym size }
+
+module _ {g : Graph} {ks : List ℕ} where
+  pub sorted-ring : {js m o m₁ o₁ : List ℕ} {j e : ℕ} → Going g 256 (sort g 256 ks) (j ∷ js) m o e →
+      Visited g 256 j m o e Ring m₁ o₁ → Sorted g ks Ring m₁ o₁
+  sorted-ring a b = record { same = at-ring a b; inside = omega arith; kept = b .kept ∙ a .room .order }
+
+  pub sorted-done : {m o : List ℕ} {e : ℕ} → Going g 256 (sort g 256 ks) [] m o e → Sorted g ks (Done e) m o
+  sorted-done a = let r = a .room in record { same = at-end a; inside = omega arith; kept = r .order }
+
+  pub sort-start : {m o : List ℕ} → m ≡ replicate 256 0 → length o ≡ 256 → Going g 256 (sort g 256 ks) ks m o 0
+  unfolding sort
+  sort-start {m} {o} blank size = record {
+    left = ap (λ (l : List ℕ). visitAll (visit g 256) ks l []) blank;
+    room = record {
+      marks = ap length blank ∙ length-replicate {A = ℕ} 256 0;
+      order = size;
+      places = omega (arith, ap unmarked blank, unmarked-blank 256);
+    };
+  }
 
 -- ---- a visit
 
@@ -115,16 +143,16 @@ marked-two (suc zero) m o w h = absurd (omega arith)
 marked-two (suc (suc b)) m o w h = refl
 
 -- a struct without a mark, with levels left
-inner : (g : Graph) (levels i : ℕ) (m o : List ℕ) → getD m i 0 ≡ 0 → (levels ≡ 0 → ⊥) →
+inner-visit : (g : Graph) (levels i : ℕ) (m o : List ℕ) → getD m i 0 ≡ 0 → (levels ≡ 0 → ⊥) →
     finish i (visitAll (visit g (levels - 1)) (g i) (set m i 1) o) ≡ visit g levels i m o
 unfolding visit
-inner g zero i m o e some = absurd (some refl)
-inner g (suc levels) i m o e some = let y : suc levels - 1 ≡ levels = omega arith in rw (y, e) refl
+inner-visit g zero i m o e some = absurd (some refl)
+inner-visit g (suc levels) i m o e some = let y : suc levels - 1 ≡ levels = omega arith in rw (y, e) refl
 
 module _ {g : Graph} {levels i : ℕ} {m o : List ℕ} {at : ℕ} where
   pub visited-already : 1 < getD m i 0 → at ≤ length o → Visited g levels i m o at (Done at) m o
   unfolding visit
-  visited-already h l = record { same = go levels; inside = l }
+  visited-already h l = record { same = go levels; inside = l; kept = refl }
     where
       go : (k : ℕ) → done m (take at o) ≡ visit g k i m (take at o)
       go zero = marked-two (getD m i 0) m (take at o) ring h
@@ -133,7 +161,7 @@ module _ {g : Graph} {levels i : ℕ} {m o : List ℕ} {at : ℕ} where
 
   pub visited-ring : getD m i 0 ≡ 1 → Visited g levels i m o at Ring m o
   unfolding visit
-  visited-ring h = record { same = go levels; inside = omega arith }
+  visited-ring h = record { same = go levels; inside = omega arith; kept = refl }
     where
       go : (k : ℕ) → ring ≡ visit g k i m (take at o)
       go zero = rw h refl
@@ -141,42 +169,50 @@ module _ {g : Graph} {levels i : ℕ} {m o : List ℕ} {at : ℕ} where
 
   pub visited-deep : getD m i 0 ≡ 0 → levels ≡ 0 → Visited g levels i m o at Ring m o
   unfolding visit
-  visited-deep e z = record { same = rw (z, e) refl; inside = omega arith }
+  visited-deep e z = record { same = rw (z, e) refl; inside = omega arith; kept = refl }
 
   module _ (e : getD m i 0 ≡ 0) (some : levels ≡ 0 → ⊥) where
     pub visited-below : {m₁ o₁ : List ℕ} → VisitedAll g (levels - 1) (g i) (set m i 1) o at Ring m₁ o₁ →
         Visited g levels i m o at Ring m₁ o₁
-    visited-below a = record { same = ap (finish i) (a .same) ∙ inner g levels i m (take at o) e some; inside = omega arith }
+    visited-below a = record {
+      same = ap (finish i) (a .same) ∙ inner-visit g levels i m (take at o) e some;
+      inside = omega arith;
+      kept = a .kept;
+    }
 
-    pub visited-done : {x : ℕ} {m₁ o₁ : List ℕ} → VisitedAll g (levels - 1) (g i) (set m i 1) o at (Done x) m₁ o₁ →
-        x < length o₁ → Visited g levels i m o at (Done (x + 1)) (set m₁ i 2) (set o₁ x i)
-    visited-done {x} {m₁} {o₁} a l =
-        let t : take (x + 1) (set o₁ x i) ≡ take x o₁ ++ (i ∷ []) = rw add-one (take-suc-set o₁ x i l) in
+    pub visited-done : {x : ℕ} {m₁ o₁ : List ℕ} → length o ≡ 256 →
+        VisitedAll g (levels - 1) (g i) (set m i 1) o at (Done x) m₁ o₁ → x < 256 →
+        Visited g levels i m o at (Done (x + 1)) (set m₁ i 2) (set o₁ x i)
+    visited-done {x} {m₁} {o₁} size a l =
+        let h : x < length o₁ = omega (arith, a .kept) in
+        let t : take (x + 1) (set o₁ x i) ≡ take x o₁ ++ (i ∷ []) = rw add-one (take-suc-set o₁ x i h) in
         record {
-          same = rw t (ap (finish i) (a .same) ∙ inner g levels i m (take at o) e some);
+          same = rw t (ap (finish i) (a .same) ∙ inner-visit g levels i m (take at o) e some);
           inside = rw length-set (omega arith);
+          kept = length-set o₁ x i ∙ a .kept;
         }
+
+-- ---- what is left of a list
+
+-- of `held`, from k up to end
+pub part-next : {j : ℕ} (held : List ℕ) (k end : ℕ) → k < end → end ≤ length held → j ≡ getD held k 0 →
+    take (end - k) (drop k held) ≡ j ∷ take (end - (k + 1)) (drop (k + 1) held)
+part-next held k end h l e =
+    let z : end - k ≡ suc (end - (k + 1)) = omega arith in
+    rw (drop-cons held k 0 (omega arith), z, e, add-one) refl
+
+pub part-end : (held : List ℕ) (k end : ℕ) → end ≤ k → take (end - k) (drop k held) ≡ []
+part-end held k end h = let z : end - k ≡ 0 = omega arith in rw z refl
+
+pub list-next : {j : ℕ} (js : List ℕ) (k : ℕ) → k < length js → j ≡ getD js k 0 → drop k js ≡ j ∷ drop (k + 1) js
+list-next js k h e = rw (drop-cons js k 0 h, e, add-one) refl
 
 -- ---- the table
 
--- the part of `held` that the code lends
-pub held-part : {from to : ℕ} (starts held : List ℕ) (i : ℕ) → from ≡ getD starts i 0 → to ≡ getD starts (i + 1) 0 →
-    take (to - from) (drop from held) ≡ graphOf starts held i
-unfolding graphOf
-held-part starts held i a b = rw (a, b) refl
+module _ (starts held : List ℕ) (i : ℕ) {from to : ℕ} (a : from ≡ getD starts i 0) (b : to ≡ getD starts (i + 1) 0) where
+  pub table-part : graphOf starts held i ≡ take (to - from) (drop from held)
+  unfolding graphOf
+  table-part = rw (a, b) refl
 
--- ---- the sort
-
-pub room-start : {js m o : List ℕ} → Unsorted js m o → Room m o 0
-room-start {js} {m} {o} u = record {
-  small = u .small;
-  places = omega (arith, ap unmarked (u .blank), unmarked-blank (length m), u .places);
-}
-
-pub sorted : {g : Graph} {js m o m₁ o₁ : List ℕ} {r : Step} → Unsorted js m o →
-    VisitedAll g (length m) js m o 0 r m₁ o₁ → Sorted g (length m) js r m₁ o₁
-unfolding sort
-sorted {g} {js} {m} {o} u a = record {
-  same = a .same ∙ ap (λ (l : List ℕ). visitAll (visit g (length m)) js l []) (u .blank);
-  inside = a .inside;
-}
+  pub table-inside : Table starts held → i < 256 → to ≤ length held
+  table-inside t h = rw b (t .inside i h)
