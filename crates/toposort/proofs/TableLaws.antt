@@ -2,6 +2,7 @@
 -- Here m are marks and o is the order's array; the order so far ends at `at`, and later at e or x.
 use mathlib.Core.Path.{_≡_, refl, sym, ap, _∙_}
 use mathlib.Core.List.{List, [], _∷_, _++_}
+use mathlib.Core.Bool.{true, false}
 use Prim.Native.Nat.{ℕ, zero, suc, _+_, _-_, _<_, _≤_}
 use native.Mathlib.Omega.{arith}
 use native.Mathlib.Numerals.{add-one}
@@ -9,11 +10,12 @@ use lib.ListN.{length, getD, set, take, drop, replicate, length-set, length-repl
 use lib.Seq.{length-take-le, take-suc-set, drop-cons, drop-length}
 use Rattle.toposort.specs.declared.Step.{Step}
 use Rattle.toposort.specs.declared.Step.the-variants.{Done, Ring}
-use Rattle.toposort.specs.Graph.{Graph, Within}
-use Rattle.toposort.specs.Sort.{Walk, ring, done, andThen, finish, byMark, visitAll, visit, sort, unmarked}
+use Rattle.toposort.specs.Graph.{Graph, Within, Structs}
+use Rattle.toposort.specs.Sort.{Walk, ring, done, andThen, finish, byMark, visitAll, visit, sort, isRing, sortedOf, ringed, order, unmarked}
 use Rattle.toposort.specs.Table.{graphOf, Table, Room, walkOf, Visited, VisitedAll, Sorted}
 use Rattle.toposort.proofs.Marks.{unmarked-first, unmarked-blank}
 use Rattle.toposort.proofs.Visits.{Moved, Moves, visit-moves, visits-move}
+use Rattle.toposort.proofs.MoreItems.{more-items}
 
 -- ---- the answer is known
 
@@ -216,3 +218,15 @@ module _ (starts held : List ℕ) (i : ℕ) {from to : ℕ} (a : from ≡ getD s
 
   pub table-inside : Table starts held → i < 256 → to ≤ length held
   table-inside t h = rw b (t .inside i h)
+
+-- ---- what a caller of `sort` learns
+
+module _ {g : Graph} {n : ℕ} {js m₁ o₁ : List ℕ} (among : Structs g n js) (few : n ≤ 256) where
+  pub told-ring : Sorted g js Ring m₁ o₁ → ringed g n js ≡ true
+  unfolding ringed
+  told-ring a = sym (more-items among 256 few .0) ∙ sym (ap isRing (a .same))
+
+  pub told-order : {e : ℕ} → Sorted g js (Done e) m₁ o₁ → (ringed g n js ≡ false) × (take e o₁ ≡ order g n js)
+  unfolding ringed order
+  told-order a =
+      (sym (more-items among 256 few .0) ∙ sym (ap isRing (a .same)), ap sortedOf (a .same) ∙ more-items among 256 few .1)

@@ -71,13 +71,13 @@ visit-returns-5 t c = let p = c .before .before .before .before .before .before 
 
 abbrev K-visit-held : ℕ → visit-held-lts.Claims
 K-visit-held t = (
-      wide-start-reads.Asked,
-      wide-start-reads.Learnt,
-      wide-reads.Asked,
-      wide-reads.Learnt,
-      visit-below t,
-      visit.Post,
-    )
+  wide-start-reads.Asked,
+  wide-start-reads.Learnt,
+  wide-reads.Asked,
+  wide-reads.Learnt,
+  visit-below t,
+  visit.Post,
+)
 
 abbrev visit-held-Inv-loop : visit-held-lts.InvT-loop
 visit-held-Inv-loop starts held levels i marks₀ order₀ at next k₀ end e₀ marks order k e = (end ≤ length held) × Going (graphOf starts held) levels (visitAll (visit·spec (graphOf starts held) levels) (graphOf starts held i) marks₀ (take at order₀)) (take (end - k) (drop k held)) marks order e
@@ -109,37 +109,37 @@ pub +visit+visit-held-spec : {M : Type 1} → statement M
     μ-visit
     μ-visit-held
     (λ t. visit-lts.spec (K-visit t) (visit-at t) visit.Post
-        (λ c. search needs)
-        (visit-returns t)
-        (visit-returns-2 t)
-        (visit-returns-3 t)
-        (λ c. search needs)
-        (λ c. omega arith)
-        (visit-visit-held-requires t)
-        (λ c. search needs)
-        (λ c. search needs)
-        (λ c. search needs)
-        (λ c. search needs)
-        (visit-element-write-order t)
-        (visit-add-end t)
-        (visit-returns-4 t)
-        (visit-returns-5 t))
+    (λ c. search needs)
+    (visit-returns t)
+    (visit-returns-2 t)
+    (visit-returns-3 t)
+    (λ c. search needs)
+    (λ c. omega arith)
+    (visit-visit-held-requires t)
+    (λ c. search needs)
+    (λ c. search needs)
+    (λ c. search needs)
+    (λ c. search needs)
+    (visit-element-write-order t)
+    (visit-add-end t)
+    (visit-returns-4 t)
+    (visit-returns-5 t))
     (λ t. visit-held-lts.spec (K-visit-held t) (visit-held-at t) visit-held.Post visit-held-Inv-loop visit-held-μ-loop
-        (λ c. omega arith)
-        (λ c. search needs)
-        (λ c. search needs)
-        (λ c κs. search needs)
-        (λ c. search needs)
-        (λ c. search needs)
-        (λ c κs. search needs)
-        (visit-held-loop-holds t)
-        (visit-held-element-copy-out-wide t)
-        (λ c κs. search needs)
-        (visit-held-visit-requires t)
-        (λ c. search needs)
-        (visit-held-returns t)
-        (λ c. search needs)
-        (λ c. omega arith)
-        (λ c. omega arith)
-        (visit-held-loop-again t)
-        (visit-held-returns-2 t))
+    (λ c. omega arith)
+    (λ c. search needs)
+    (λ c. search needs)
+    (λ c κs. search needs)
+    (λ c. search needs)
+    (λ c. search needs)
+    (λ c κs. search needs)
+    (visit-held-loop-holds t)
+    (visit-held-element-copy-out-wide t)
+    (λ c κs. search needs)
+    (visit-held-visit-requires t)
+    (λ c. search needs)
+    (visit-held-returns t)
+    (λ c. search needs)
+    (λ c. omega arith)
+    (λ c. omega arith)
+    (visit-held-loop-again t)
+    (visit-held-returns-2 t))
