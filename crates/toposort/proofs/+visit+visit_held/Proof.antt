@@ -1,11 +1,14 @@
+-- `visit` and `visit_held` meet their contracts. The number that falls: the levels, and a bit for which of the two runs.
 use borrow.Author.Needs.{needs}
 use native.Mathlib.Omega.{arith}
-use mathlib.Core.Path.{_≡_, refl, sym, ap, _∙_}
+use mathlib.Core.Path.{refl}
 use Prim.Native.Nat.{ℕ, _+_, _-_, _*_, _<_, _≤_}
 use lib.ListN.{length, take, drop}
 use Rattle.toposort.specs.Sort.{visitAll, visit as visit·spec}
 use Rattle.toposort.specs.Table.{graphOf}
-use Rattle.toposort.proofs.TableLaws.{visited-as, all-as, no-mark, room-marked, place-free, Going, going-as, going-next, all-ring, all-done, visited-already, visited-ring, visited-deep, visited-below, visited-done, part-next, part-end, table-part, table-inside}
+use Rattle.toposort.proofs.TableLaws.{visited-as, all-as, no-mark, room-marked, place-free, Going, going-as, going-next, all-ring, all-done}
+use Rattle.toposort.proofs.TableLaws.{visited-already, visited-ring, visited-deep, visited-below, visited-done}
+use Rattle.toposort.proofs.TableLaws.{part-next, part-end, table-part, table-inside}
 use borrow.Fn.Kinds.{In}
 use borrow.Fn.PlainCycle.{Measures, is, falls, and}
 use Rattle.toposort.proofs.visit.Reads as visit
@@ -46,7 +49,9 @@ K-visit t = (
 )
 
 visit-returns : (t : ℕ) → visit-lts.Need-returns (K-visit t) (visit-at t) visit.Post
-visit-returns t c = visited-already (c .if1 .taken) (let r = c .before .before .pre .1 .2 in omega arith)
+visit-returns t c =
+    let r = c .before .before .pre .1 .2 in
+    visited-already (c .if1 .taken) (omega arith)
 
 visit-returns-2 : (t : ℕ) → visit-lts.Need-returns-2 (K-visit t) (visit-at t) visit.Post
 visit-returns-2 t c = visited-ring (c .if2 .taken)
@@ -55,19 +60,31 @@ visit-returns-3 : (t : ℕ) → visit-lts.Need-returns-3 (K-visit t) (visit-at t
 visit-returns-3 t c = visited-deep (no-mark _ (c .before .before .if1 .left) (c .before .if2 .left)) (c .if3 .taken)
 
 visit-visit-held-requires : (t : ℕ) → visit-lts.Need-visit-held-requires (K-visit t) (visit-at t) visit.Post
-visit-visit-held-requires t c κs = let p = c .before .before .before .before .before .before .pre .1 in (omega arith, (p .0, p .1, room-marked (p .2) (p .0) (no-mark _ (c .before .before .before .before .if1 .left) (c .before .before .before .if2 .left))))
+visit-visit-held-requires t c κs =
+    let p = c .before .before .before .before .before .before .pre .1 in
+    let e = no-mark _ (c .before .before .before .before .if1 .left) (c .before .before .before .if2 .left) in
+    (omega arith, (p .0, p .1, room-marked (p .2) (p .0) e))
 
 visit-element-write-order : (t : ℕ) → visit-lts.Need-element-write-order (K-visit t) (visit-at t) visit.Post
-visit-element-write-order t c = let p = c .before .before .before .before .before .before .before .before .before .before .pre .1 in place-free (p .1 .within) (p .2) (p .0) (no-mark _ (c .before .before .before .before .before .before .before .before .if1 .left) (c .before .before .before .before .before .before .before .if2 .left)) (all-as (c .before .r .given .1) (c .before .before .before .visit-held .ensures))
+visit-element-write-order t c =
+    let p = c .before .before .before .before .before .before .before .before .before .before .pre .1 in
+    let e = no-mark _ (c .before .before .before .before .before .before .before .before .if1 .left) (c .before .before .before .before .before .before .before .if2 .left) in
+    place-free (p .1 .within) (p .2) (p .0) e (all-as (c .before .r .given .1) (c .before .before .before .visit-held .ensures))
 
 visit-add-end : (t : ℕ) → visit-lts.Need-add-end (K-visit t) (visit-at t) visit.Post
-visit-add-end t c = let p = c .before .before .before .before .before .before .before .before .before .before .pre .1 in let l = place-free (p .1 .within) (p .2) (p .0) (no-mark _ (c .before .before .before .before .before .before .before .before .if1 .left) (c .before .before .before .before .before .before .before .if2 .left)) (all-as (c .before .r .given .1) (c .before .before .before .visit-held .ensures)) in omega arith
+visit-add-end t c = let free = visit-element-write-order t c in omega arith
 
 visit-returns-4 : (t : ℕ) → visit-lts.Need-returns-4 (K-visit t) (visit-at t) visit.Post
-visit-returns-4 t c = visited-below (no-mark _ (c .before .before .before .before .before .before .before .if1 .left) (c .before .before .before .before .before .before .if2 .left)) (c .before .before .before .before .before .if3 .left) (all-as (c .enum-told .given .1) (c .before .before .visit-held .ensures))
+visit-returns-4 t c =
+    let e = no-mark _ (c .before .before .before .before .before .before .before .if1 .left) (c .before .before .before .before .before .before .if2 .left) in
+    visited-below e (c .before .before .before .before .before .if3 .left) (all-as (c .enum-told .given .1) (c .before .before .visit-held .ensures))
 
 visit-returns-5 : (t : ℕ) → visit-lts.Need-returns-5 (K-visit t) (visit-at t) visit.Post
-visit-returns-5 t c = let p = c .before .before .before .before .before .before .before .before .before .before .pre .1 in let e = no-mark _ (c .before .before .before .before .before .before .before .before .if1 .left) (c .before .before .before .before .before .before .before .if2 .left) in let a = all-as (c .before .r .given .1) (c .before .before .before .visit-held .ensures) in visited-done e (c .before .before .before .before .before .before .if3 .left) (p .2 .order) a (place-free (p .1 .within) (p .2) (p .0) e a)
+visit-returns-5 t c =
+    let p = c .before .before .before .before .before .before .before .before .before .before .pre .1 in
+    let e = no-mark _ (c .before .before .before .before .before .before .before .before .if1 .left) (c .before .before .before .before .before .before .before .if2 .left) in
+    let inner = all-as (c .before .r .given .1) (c .before .before .before .visit-held .ensures) in
+    visited-done e (c .before .before .before .before .before .before .if3 .left) (p .2 .order) inner (visit-element-write-order t c)
 
 abbrev K-visit-held : ℕ → visit-held-lts.Claims
 K-visit-held t = (
@@ -80,28 +97,50 @@ K-visit-held t = (
 )
 
 abbrev visit-held-Inv-loop : visit-held-lts.InvT-loop
-visit-held-Inv-loop starts held levels i marks₀ order₀ at next k₀ end e₀ marks order k e = (end ≤ length held) × Going (graphOf starts held) levels (visitAll (visit·spec (graphOf starts held) levels) (graphOf starts held i) marks₀ (take at order₀)) (take (end - k) (drop k held)) marks order e
+visit-held-Inv-loop starts held levels i marks₀ order₀ at next k₀ end e₀ marks order k e =
+    (end ≤ length held) × Going (graphOf starts held) levels
+    (visitAll (visit·spec (graphOf starts held) levels) (graphOf starts held i) marks₀ (take at order₀))
+    (take (end - k) (drop k held)) marks order e
 
 abbrev visit-held-μ-loop : visit-held-lts.MeasureT-loop
 visit-held-μ-loop starts held levels i marks₀ order₀ at next k₀ end e₀ marks order k e = end - k
 
 visit-held-loop-holds : (t : ℕ) → visit-held-lts.Need-loop-holds (K-visit-held t) (visit-held-at t) visit-held.Post visit-held-Inv-loop visit-held-μ-loop
-visit-held-loop-holds t c = let p = c .before .before .before .before .pre .1 in let a = c .before .before .before .before .args in (table-inside (a .starts .now) (a .held .now) (a .i) (c .before .before .wide-start .ensures) (c .wide-start2 .ensures) (p .1) (p .0), going-as (table-part (a .starts .now) (a .held .now) (a .i) (c .before .before .wide-start .ensures) (c .wide-start2 .ensures)) record { left = refl; room = p .2 })
+visit-held-loop-holds t c =
+    let p = c .before .before .before .before .pre .1 in
+    let a = c .before .before .before .before .args in
+    let from = c .before .before .wide-start .ensures in
+    let to = c .wide-start2 .ensures in (
+      table-inside (a .starts .now) (a .held .now) (a .i) from to (p .1) (p .0),
+      going-as (table-part (a .starts .now) (a .held .now) (a .i) from to) record { left = refl; room = p .2 },
+    )
 
 visit-held-element-copy-out-wide : (t : ℕ) → visit-held-lts.Need-element-copy-out-wide (K-visit-held t) (visit-held-at t) visit-held.Post visit-held-Inv-loop visit-held-μ-loop
-visit-held-element-copy-out-wide t c = let p = c .before .before .before .before .before .before .pre .1 in let v = c .before .loop .inv in omega (arith, p .1 .size)
+visit-held-element-copy-out-wide t c =
+    let p = c .before .before .before .before .before .before .pre .1 in
+    let v = c .before .loop .inv in
+    omega (arith, p .1 .size)
 
 visit-held-visit-requires : (t : ℕ) → visit-held-lts.Need-visit-requires (K-visit-held t) (visit-held-at t) visit-held.Post visit-held-Inv-loop visit-held-μ-loop
-visit-held-visit-requires t c κs = (omega arith, (c .before .before .wide .ensures .1, c .before .before .before .before .before .before .before .before .before .before .pre .1 .1, c .before .before .before .before .before .loop .inv .1 .room))
+visit-held-visit-requires t c κs =
+    (omega arith, (c .before .before .wide .ensures .1, c .before .before .before .before .before .before .before .before .before .before .pre .1 .1, c .before .before .before .before .before .loop .inv .1 .room))
 
 visit-held-returns : (t : ℕ) → visit-held-lts.Need-returns (K-visit-held t) (visit-held-at t) visit-held.Post visit-held-Inv-loop visit-held-μ-loop
-visit-held-returns t c = all-ring (c .before .before .before .before .before .before .before .before .before .before .before .before .before .pre .1 .2 .order) (going-as (part-next _ _ _ (c .before .before .before .before .before .before .before .loop-test .taken) (c .before .before .before .before .before .before .before .before .loop .inv .0) (c .before .before .before .before .before .wide .ensures .0)) (c .before .before .before .before .before .before .before .before .loop .inv .1)) (visited-as (c .enum-told .given .1) (c .before .before .visit .ensures))
+visit-held-returns t c =
+    let v = c .before .before .before .before .before .before .before .before .loop .inv in
+    let now = going-as (part-next _ _ _ (c .before .before .before .before .before .before .before .loop-test .taken) (v .0) (c .before .before .before .before .before .wide .ensures .0)) (v .1) in
+    all-ring (c .before .before .before .before .before .before .before .before .before .before .before .before .before .pre .1 .2 .order) now (visited-as (c .enum-told .given .1) (c .before .before .visit .ensures))
 
 visit-held-loop-again : (t : ℕ) → visit-held-lts.Need-loop-again (K-visit-held t) (visit-held-at t) visit-held.Post visit-held-Inv-loop visit-held-μ-loop
-visit-held-loop-again t c = let v = c .before .before .before .before .before .before .before .before .before .loop .inv in (v .0, going-next (c .before .before .before .before .before .before .before .before .before .before .before .before .before .before .pre .1 .1 .within) (c .before .before .before .before .before .before .wide .ensures .1) (going-as (part-next _ _ _ (c .before .before .before .before .before .before .before .before .loop-test .taken) (v .0) (c .before .before .before .before .before .before .wide .ensures .0)) (v .1)) (visited-as (c .before .r .given .1) (c .before .before .before .visit .ensures)))
+visit-held-loop-again t c =
+    let v = c .before .before .before .before .before .before .before .before .before .loop .inv in
+    let within = c .before .before .before .before .before .before .before .before .before .before .before .before .before .before .pre .1 .1 .within in
+    let now = going-as (part-next _ _ _ (c .before .before .before .before .before .before .before .before .loop-test .taken) (v .0) (c .before .before .before .before .before .before .wide .ensures .0)) (v .1) in
+    (v .0, going-next within (c .before .before .before .before .before .before .wide .ensures .1) now (visited-as (c .before .r .given .1) (c .before .before .before .visit .ensures)))
 
 visit-held-returns-2 : (t : ℕ) → visit-held-lts.Need-returns-2 (K-visit-held t) (visit-held-at t) visit-held.Post visit-held-Inv-loop visit-held-μ-loop
-visit-held-returns-2 t c = all-done (c .before .before .before .before .before .before .pre .1 .2 .order) (going-as (part-end _ _ _ (c .loop-test .left)) (c .before .loop .inv .1))
+visit-held-returns-2 t c =
+    all-done (c .before .before .before .before .before .before .pre .1 .2 .order) (going-as (part-end _ _ _ (c .loop-test .left)) (c .before .loop .inv .1))
 
 pub +visit+visit-held-spec : {M : Type 1} → statement M
 +visit+visit-held-spec =
