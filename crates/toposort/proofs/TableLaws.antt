@@ -7,12 +7,12 @@ use Prim.Native.Nat.{ℕ, zero, suc, _+_, _-_, _<_, _≤_}
 use native.Mathlib.Omega.{arith}
 use native.Mathlib.Numerals.{add-one}
 use lib.ListN.{length, getD, set, take, drop, replicate, length-set, length-replicate}
-use lib.Seq.{length-take-le, take-suc-set, drop-cons, drop-length}
+use lib.Seq.{length-take-le, take-suc-set, drop-cons}
 use Rattle.toposort.specs.declared.Step.{Step}
 use Rattle.toposort.specs.declared.Step.the-variants.{Done, Ring}
 use Rattle.toposort.specs.Graph.{Graph, Within, Structs}
-use Rattle.toposort.specs.Sort.{Walk, ring, done, andThen, finish, byMark, visitAll, visit, sort, isRing, sortedOf, ringed, order, unmarked}
-use Rattle.toposort.specs.Table.{graphOf, Table, Room, walkOf, Visited, VisitedAll, Sorted}
+use Rattle.toposort.specs.Sort.{Walk, ring, done, andThen, finish, byMark, visitAll, visit, sort, isRing, sortedOf, ringed, order}
+use Rattle.toposort.specs.Table.{graphOf, Table, Room, Visited, VisitedAll, Sorted, unmarked}
 use Rattle.toposort.proofs.Marks.{unmarked-first, unmarked-blank}
 use Rattle.toposort.proofs.Visits.{Moved, Moves, visit-moves, visits-move}
 use Rattle.toposort.proofs.MoreItems.{more-items}

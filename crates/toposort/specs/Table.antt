@@ -1,22 +1,28 @@
 -- The table of held structs that the code walks, and what its functions promise.
 use mathlib.Core.Path.{_≡_}
-use mathlib.Core.List.{List}
-use Prim.Native.Nat.{ℕ, _+_, _-_, _<_, _≤_}
-use lib.ListN.{length, getD, take, drop, replicate}
+use mathlib.Core.List.{List, [], _∷_}
+use Prim.Native.Nat.{ℕ, zero, suc, _+_, _-_, _<_, _≤_}
+use lib.ListN.{length, getD, take, drop}
 use Rattle.toposort.specs.declared.Step.{Step}
 use Rattle.toposort.specs.declared.Step.the-variants.{Done, Ring}
 use Rattle.toposort.specs.Graph.{Graph, Within}
-use Rattle.toposort.specs.Sort.{Walk, ring, done, visitAll, visit, sort, unmarked}
+use Rattle.toposort.specs.Sort.{Walk, ring, done, visitAll, visit, sort}
 
 -- item i holds what stands in `held` from starts[i] up to starts[i + 1]
 unfoldable pub graphOf : List ℕ → List ℕ → Graph
 graphOf starts held i = take (getD starts (i + 1) 0 - getD starts i 0) (drop (getD starts i 0) held)
 
--- the two arrays of the code as such a table
+-- the code's two arrays; 255 structs of 63 fields hold at most 16,065
 pub record Table (starts held : List ℕ) : Type 0 where
   pub size : length held ≤ 16065
   pub inside : (i : ℕ) → i < 256 → getD starts (i + 1) 0 ≤ length held
   pub within : Within (graphOf starts held) 256
+
+-- how many items have no mark
+unfoldable pub unmarked : List ℕ → ℕ
+unmarked [] = 0
+unmarked (zero ∷ marks) = suc (unmarked marks)
+unmarked (suc m ∷ marks) = unmarked marks
 
 -- there is a mark for each item, and a place in the order, from `at` on, for each that has none
 pub record Room (m o : List ℕ) (at : ℕ) : Type 0 where

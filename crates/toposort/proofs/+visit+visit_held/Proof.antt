@@ -1,9 +1,9 @@
 -- `visit` and `visit_held` meet their contracts. The number that falls: the levels, and a bit for which of the two runs.
 use borrow.Author.Needs.{needs}
 use native.Mathlib.Omega.{arith}
-use mathlib.Core.Path.{refl}
+use mathlib.Core.Path.{_≡_, refl}
 use Prim.Native.Nat.{ℕ, _+_, _-_, _*_, _<_, _≤_}
-use lib.ListN.{length, take, drop}
+use lib.ListN.{length, getD, take, drop}
 use Rattle.toposort.specs.Sort.{visitAll, visit as visit·spec}
 use Rattle.toposort.specs.Table.{graphOf}
 use Rattle.toposort.proofs.TableLaws.{visited-as, all-as, no-mark, room-marked, place-free, Going, going-as, going-next, all-ring, all-done}
@@ -51,24 +51,29 @@ K-visit t = (
 visit-returns : (t : ℕ) → visit-lts.Need-returns (K-visit t) (visit-at t) visit.Post
 visit-returns t c =
     let r = c .before .before .pre .1 .2 in
-    visited-already (c .if1 .taken) (omega arith)
+    visited-already (omega arith) (omega arith)
 
 visit-returns-2 : (t : ℕ) → visit-lts.Need-returns-2 (K-visit t) (visit-at t) visit.Post
 visit-returns-2 t c = visited-ring (c .if2 .taken)
 
 visit-returns-3 : (t : ℕ) → visit-lts.Need-returns-3 (K-visit t) (visit-at t) visit.Post
-visit-returns-3 t c = visited-deep (no-mark _ (c .before .before .if1 .left) (c .before .if2 .left)) (c .if3 .taken)
+visit-returns-3 t c =
+    let a = c .before .before .before .before .args in
+    let e : getD (a .marks .now) (a .i) 0 ≡ 0 = no-mark _ (omega arith) (c .before .if2 .left) in
+    visited-deep e (c .if3 .taken)
 
 visit-visit-held-requires : (t : ℕ) → visit-lts.Need-visit-held-requires (K-visit t) (visit-at t) visit.Post
 visit-visit-held-requires t c κs =
     let p = c .before .before .before .before .before .before .pre .1 in
-    let e = no-mark _ (c .before .before .before .before .if1 .left) (c .before .before .before .if2 .left) in
+    let a = c .before .before .before .before .before .before .args in
+    let e : getD (a .marks .now) (a .i) 0 ≡ 0 = no-mark _ (omega arith) (c .before .before .before .if2 .left) in
     (omega arith, (p .0, p .1, room-marked (p .2) (p .0) e))
 
 visit-element-write-order : (t : ℕ) → visit-lts.Need-element-write-order (K-visit t) (visit-at t) visit.Post
 visit-element-write-order t c =
     let p = c .before .before .before .before .before .before .before .before .before .before .pre .1 in
-    let e = no-mark _ (c .before .before .before .before .before .before .before .before .if1 .left) (c .before .before .before .before .before .before .before .if2 .left) in
+    let a = c .before .before .before .before .before .before .before .before .before .before .args in
+    let e : getD (a .marks .now) (a .i) 0 ≡ 0 = no-mark _ (omega arith) (c .before .before .before .before .before .before .before .if2 .left) in
     place-free (p .1 .within) (p .2) (p .0) e (all-as (c .before .r .given .1) (c .before .before .before .visit-held .ensures))
 
 visit-add-end : (t : ℕ) → visit-lts.Need-add-end (K-visit t) (visit-at t) visit.Post
@@ -76,13 +81,15 @@ visit-add-end t c = let free = visit-element-write-order t c in omega arith
 
 visit-returns-4 : (t : ℕ) → visit-lts.Need-returns-4 (K-visit t) (visit-at t) visit.Post
 visit-returns-4 t c =
-    let e = no-mark _ (c .before .before .before .before .before .before .before .if1 .left) (c .before .before .before .before .before .before .if2 .left) in
+    let a = c .before .before .before .before .before .before .before .before .before .args in
+    let e : getD (a .marks .now) (a .i) 0 ≡ 0 = no-mark _ (omega arith) (c .before .before .before .before .before .before .if2 .left) in
     visited-below e (c .before .before .before .before .before .if3 .left) (all-as (c .enum-told .given .1) (c .before .before .visit-held .ensures))
 
 visit-returns-5 : (t : ℕ) → visit-lts.Need-returns-5 (K-visit t) (visit-at t) visit.Post
 visit-returns-5 t c =
     let p = c .before .before .before .before .before .before .before .before .before .before .pre .1 in
-    let e = no-mark _ (c .before .before .before .before .before .before .before .before .if1 .left) (c .before .before .before .before .before .before .before .if2 .left) in
+    let a = c .before .before .before .before .before .before .before .before .before .before .args in
+    let e : getD (a .marks .now) (a .i) 0 ≡ 0 = no-mark _ (omega arith) (c .before .before .before .before .before .before .before .if2 .left) in
     let inner = all-as (c .before .r .given .1) (c .before .before .before .visit-held .ensures) in
     visited-done e (c .before .before .before .before .before .before .if3 .left) (p .2 .order) inner (visit-element-write-order t c)
 
