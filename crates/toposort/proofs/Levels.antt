@@ -1,12 +1,13 @@
 -- As many levels as there are items without a mark are enough: with more a visit does the same.
-use mathlib.Core.Path.{_≡_, refl, sym, ap, _∙_}
+use mathlib.Core.Path.{_≡_, refl, ap, _∙_}
 use mathlib.Core.List.{List, [], _∷_, List·Memᴰ·head, List·Memᴰ·tail}
 use mathlib.Core.Bool.{Bool, true, false, _||_}
-use Prim.Native.Nat.{ℕ, zero, suc, _+_, _<_, _≤_}
+use Prim.Native.Nat.{ℕ, zero, suc, _<_, _≤_}
 use native.Mathlib.Omega.{arith}
 use lib.ListN.{length, getD, set, replicate, length-set, length-replicate}
 use Rattle.toposort.specs.Graph.{Graph, _∈_, Within, Structs}
-use Rattle.toposort.specs.Sort.{Walk, ring, done, andThen, finish, byMark, visitAll, visit, sort, unmarked}
+use Rattle.toposort.specs.Sort.{Walk, ring, done, andThen, finish, byMark, visitAll, visit, sort}
+use Rattle.toposort.specs.Table.{unmarked}
 use Rattle.toposort.specs.Crate.{Out, out, onOut, crateMark, crateFields, crateFinish, crateVisit, crateStructs, crateSort}
 use Rattle.toposort.proofs.Marks.{unmarked-first, unmarked-set, unmarked-some, unmarked-blank}
 use Rattle.toposort.proofs.Visits.{Moves, visit-moves}
