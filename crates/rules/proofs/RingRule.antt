@@ -9,7 +9,7 @@ use native.Mathlib.Omega.{arith}
 use lib.ListN.{length}
 use Rattle.format.specs.Decode.{pick}
 use Rattle.format.specs.Types.{Ty, atom, named, template, pointer, str, fn, array}
-use Rattle.format.specs.Sheet.{Body, struct, enum, cxxType, rustType, function, Item}
+use Rattle.format.specs.Sheet.{Item}
 use Rattle.syntax.specs.Items.{itemAt, isStruct}
 use Rattle.toposort.specs.Graph.{_∈_, Structs}
 use Rattle.toposort.proofs.Theorems.{ringed-iff-ring}
@@ -57,20 +57,10 @@ fields-struct items [] c d = absurd (List·Memᴰ·not-nil d)
 fields-struct items (t ∷ ts) c d =
     ⊎-elim (λ a. held-struct items t c a) (λ a. fields-struct items ts c a) (List·Memᴰ·append-cases (heldBy items t) d)
 
--- only a struct has fields
-holder-struct : (items : List Item) (b : Body) (c : ℕ) → c ∈ gather (heldBy items) (fieldsOf b) → isStruct b ≡ true
-unfolding gather
-holder-struct items (struct p ts) c d = refl
-holder-struct items (enum p a x) c d = absurd (List·Memᴰ·not-nil d)
-holder-struct items (cxxType p) c d = absurd (List·Memᴰ·not-nil d)
-holder-struct items (rustType p) c d = absurd (List·Memᴰ·not-nil d)
-holder-struct items (function f) c d = absurd (List·Memᴰ·not-nil d)
-
 pub sheet-structs : (items : List Item) → Structs (holds items) (length items) (structs items)
 unfolding holds
 sheet-structs items = record {
   below = λ i d. omega (arith, below items 0 i d);
-  holder = λ i c d. struct-listed items i (holder-struct items (itemAt items i .body) c d);
   held = λ i c d. struct-listed items c (fields-struct items (fieldsOf (itemAt items i .body)) c d);
 }
 
