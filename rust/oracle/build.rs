@@ -45,6 +45,7 @@ fn main() {
 
     let out = PathBuf::from(env::var_os("OUT_DIR").unwrap());
     let root = out.join("cxx-build");
+    let _ = fs::remove_dir_all(&root);
     for folder in ["bridge", "syntax"] {
         fs::create_dir_all(root.join(folder)).unwrap();
         for entry in fs::read_dir(package.join("stand-ins").join(folder)).unwrap() {

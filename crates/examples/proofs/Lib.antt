@@ -1,3 +1,4 @@
 pub mod Computing
 pub mod ByHand
 pub mod Mill
+pub mod Sheets

@@ -1,4 +1,13 @@
 pub mod Lexer
 pub mod LexedLayout
 pub mod Literal
-pub mod Worked
+pub mod Parser
+pub mod Decimal
+pub mod TypeBack
+pub mod RuleFacts
+pub mod ListBack
+pub mod ItemBack
+pub mod TextBack
+pub mod Pieces
+pub mod Unique
+pub mod Examples

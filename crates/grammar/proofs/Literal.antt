@@ -4,13 +4,14 @@ use mathlib.Core.List.{List, [], _∷_, _++_}
 use mathlib.Core.Bool.{Bool, true, false, _&&_, _||_, not, cond, false≢true}
 use Prim.Native.Nat.{ℕ}
 use lib.Dec.{eqb}
-use Rattle.lexical.proofs.BoolLaws.{both, not-true}
+use Rattle.lexical.proofs.BoolLaws.{both, and-of}
 use Rattle.lexical.proofs.ByteLaws.{byte-eq}
 use Rattle.grammar.specs.Token.{Token, word, mark, scope, colon, linkage, comment, wordChar}
-use Rattle.grammar.specs.Layout.{blankChar, wellFormed, noWordChar, noColon, lineEnd, Layout, finished, blank, token}
+use Rattle.lexical.specs.Bytes.{every}
+use Rattle.grammar.specs.Layout.{blankChar, endsIn, inLine, wellFormed, noWordChar, noColon, lineEnd, Layout, finished, blank, token}
 use Rattle.grammar.proofs.Lexer.{Mode, between, inWord, afterColon, afterSlash, afterQuote, afterQuoteC, inComment}
 use Rattle.grammar.proofs.Lexer.{emitFirst, next, emit, flush, run, lex, lexed, word-end, colon-end}
-use Rattle.grammar.proofs.LexedLayout.{allWellFormed, laid}
+use Rattle.grammar.proofs.LexedLayout.{sound, allSound, laid}
 
 abbrev pub final : Mode → List ℕ → Mode
 final mode [] = mode
@@ -56,15 +57,23 @@ run-append [] afterQuoteC r h = absurd (false≢true h)
 run-append [] (inComment a) r h = line-end a r h
 run-append (c ∷ a) mode r h = ap (emit mode c) (run-append a (next mode c) r h) ∙ sym (emit-append mode c (run (next mode c) a) (lex r))
 
-propers-append : (x y : List Token) → allWellFormed x ≡ true → allWellFormed y ≡ true → allWellFormed (x ++ y) ≡ true
-propers-append [] y h e = e
-propers-append (t ∷ x) y h e = let q = both (wellFormed t) (allWellFormed x) h in rw (q .0) (propers-append x y (q .1) e)
+sound-append : (x y : List Token) → allSound x ≡ true → allSound y ≡ true → allSound (x ++ y) ≡ true
+sound-append [] y h e = e
+sound-append (t ∷ x) y h e = let q = both (sound t) (allSound x) h in rw (q .0) (sound-append x y (q .1) e)
 
-pub laid-proper : {ts : List Token} {s : List ℕ} → Layout ts s → allWellFormed ts ≡ true
-laid-proper finished = refl
-laid-proper (blank h d) = laid-proper d
-laid-proper (token h e d) = rw h (laid-proper d)
+sound-of : (t : Token) → wellFormed t ≡ true → sound t ≡ true
+sound-of (word s) h = refl
+sound-of (mark c) h = h
+sound-of scope h = refl
+sound-of colon h = refl
+sound-of linkage h = refl
+sound-of (comment s) h = both (every inLine s) (not (endsIn 92 s)) h .1
 
-pub literal : (a : List ℕ) {ts : List Token} {r : List ℕ} → allWellFormed (lex a) ≡ true → seam (final between a) r ≡ true → Layout ts r → Layout (lex a ++ ts) (a ++ r)
+pub laid-sound : {ts : List Token} {s : List ℕ} → Layout ts s → allSound ts ≡ true
+laid-sound finished = refl
+laid-sound (blank h d) = laid-sound d
+laid-sound (token {t} {ts} h e d) = and-of (sound t) (allSound ts) (sound-of t h) (laid-sound d)
+
+pub literal : (a : List ℕ) {ts : List Token} {r : List ℕ} → allSound (lex a) ≡ true → seam (final between a) r ≡ true → Layout ts r → Layout (lex a ++ ts) (a ++ r)
 literal a {ts} {r} h e d =
-    laid (a ++ r) (lex a ++ ts) (propers-append (lex a) ts h (laid-proper d)) (run-append a between r e ∙ ap (λ (x : List Token). lex a ++ x) (lexed d))
+    laid (a ++ r) (lex a ++ ts) (sound-append (lex a) ts h (laid-sound d)) (run-append a between r e ∙ ap (λ (x : List Token). lex a ++ x) (lexed d))

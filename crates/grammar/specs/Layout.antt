@@ -17,7 +17,7 @@ nonempty (c ∷ s) = true
 
 abbrev pub endsIn : ℕ → List ℕ → Bool
 endsIn c [] = false
-endsIn c (d ∷ []) = eqb c d
+endsIn c (d ∷ []) = eqb d c
 endsIn c (d ∷ (e ∷ s)) = endsIn c (e ∷ s)
 
 abbrev pub inLine : ℕ → Bool

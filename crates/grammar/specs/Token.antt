@@ -36,11 +36,21 @@ tokenOf [] = word []
 tokenOf (c ∷ []) = cond (wordChar c) (word (c ∷ [])) (cond (eqb c 58) colon (mark c))
 tokenOf (c ∷ (d ∷ s)) = cond (wordChar c) (word (c ∷ d ∷ s)) (cond (eqb c 58) scope linkage)
 
--- s, and then t cut at its spaces
-abbrev pub cut : List ℕ → List ℕ → List Token → List Token
-cut s [] rest = tokenOf s ∷ rest
-cut s (c ∷ t) rest = elim (eqb c 32) [ true ↦ tokenOf s ∷ cut [] t rest | false ↦ cut (s ++ (c ∷ [])) t rest ]
+-- one more character in front: a space begins a new piece
+abbrev pub addTo : Bool → ℕ → List (List ℕ) → List (List ℕ)
+addTo true c pieces = [] ∷ pieces
+addTo false c [] = (c ∷ []) ∷ []
+addTo false c (s ∷ pieces) = (c ∷ s) ∷ pieces
+
+-- a text cut at its spaces
+abbrev pub cut : List ℕ → List (List ℕ)
+cut [] = []
+cut (c ∷ s) = addTo (eqb c 32) c (cut s)
+
+abbrev pub tokensOf : List (List ℕ) → List Token → List Token
+tokensOf [] rest = rest
+tokensOf (s ∷ pieces) rest = tokenOf s ∷ tokensOf pieces rest
 
 -- tokens quoted with a space between each two, in front of others
 abbrev pub quoted : String → List Token → List Token
-quoted s rest = cut [] (bytes s) rest
+quoted s rest = tokensOf (cut (bytes s)) rest

@@ -1,9 +1,9 @@
 -- The tokens of each tree, in front of the tokens that follow.
 use mathlib.Core.List.{List, [], _∷_, _++_}
-use mathlib.Core.Bool.{Bool, true, false, cond}
-use Prim.Native.Nat.{ℕ, zero, suc, _+_, _/_, _%_}
-use lib.Dec.{ltb}
+use mathlib.Core.Bool.{Bool, true, false}
+use Prim.Native.Nat.{ℕ}
 use Rattle.lexical.specs.Bytes.{bytes}
+use Rattle.lexical.specs.Decimal.{decimal}
 use Rattle.grammar.specs.Token.{Token, word, scope, comment, quoted}
 use Rattle.grammar.specs.Types.{Name, Atom, bool, char, u8, u16, u32, u64, usize, i8, i16, i32, i64, isize}
 use Rattle.grammar.specs.Types.{f32, f64, cxxString, rustString, Template, box, vec, uniquePtr, sharedPtr}
@@ -79,16 +79,7 @@ abbrev pub suffixTokens : Suffix → List Token → List Token
 suffixTokens (reference isConst) rest = constTokens isConst (quoted "&" rest)
 suffixTokens (pointer isConst) rest = constTokens isConst (quoted "*" rest)
 
--- at most so many decimal digits, none in front that is 0 (ISO C++ [lex.icon])
-abbrev pub digits : ℕ → ℕ → List ℕ
-digits zero n = []
-digits (suc more) n =
-    let high = digits more (n / 10) in cond (ltb n 10) ((48 + n) ∷ []) (high ++ ((48 + n % 10) ∷ []))
-
--- an array length has at most ten
-abbrev pub decimal : ℕ → List ℕ
-decimal n = digits 10 n
-
+-- an array's length is a decimal literal without leading zeros (ISO C++ [lex.icon])
 abbrev mutual
   pub typeTokens : CxxType → List Token → List Token
   typeTokens (suffixed base suffixes) rest = baseTokens base (eachTokens suffixTokens suffixes rest)
@@ -99,7 +90,8 @@ abbrev mutual
   baseTokens (full path) rest = pathTokens path rest
   baseTokens (template t x) rest = templateTokens t (typeTokens x (quoted ">" rest))
   baseTokens (slice x isConst) rest = quoted ":: rust :: Slice <" (typeTokens x (constTokens isConst (quoted ">" rest)))
-  baseTokens (array x n) rest = quoted ":: std :: array <" (typeTokens x (quoted "," (word (decimal n) ∷ quoted ">" rest)))
+  baseTokens (array x n) rest =
+      quoted ":: std :: array <" (typeTokens x (quoted "," (word (decimal n) ∷ quoted ">" rest)))
   baseTokens (voidFn xs) rest = quoted ":: rust :: Fn < void (" (typesTokens xs (quoted ") >" rest))
   baseTokens (fn x xs) rest = quoted ":: rust :: Fn <" (typeTokens x (quoted "(" (typesTokens xs (quoted ") >" rest))))
 
@@ -171,7 +163,8 @@ formTokens returned rest = quoted "return" rest
 formTokens dereferenced rest = quoted "return *" rest
 formTokens (inFromRaw x) rest = quoted "return :: rust :: Box <" (typeTokens x (quoted "> :: from_raw (" rest))
 formTokens (inUniquePtr x) rest = quoted "return :: std :: unique_ptr <" (typeTokens x (quoted "> (" rest))
-formTokens (inNewUnchecked x) rest = quoted "return :: rust :: impl <" (typeTokens x (quoted "> :: new_unchecked (" rest))
+formTokens (inNewUnchecked x) rest =
+    quoted "return :: rust :: impl <" (typeTokens x (quoted "> :: new_unchecked (" rest))
 formTokens (inSlice x) rest = quoted "return :: rust :: impl <" (typeTokens x (quoted "> :: slice (" rest))
 
 -- and behind the call

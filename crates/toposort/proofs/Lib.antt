@@ -1,3 +1,4 @@
+pub mod Examples
 pub mod Marks
 pub mod Visits
 pub mod Orders
@@ -5,3 +6,5 @@ pub mod Soundness
 pub mod Theorems
 pub mod CrateLaws
 pub mod Levels
+pub mod MoreItems
+pub mod TableLaws

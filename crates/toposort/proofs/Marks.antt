@@ -3,13 +3,13 @@ use mathlib.Core.Path.{_≡_, refl}
 use mathlib.Core.Logic.{_⊎_, inl, inr}
 use mathlib.Core.List.{List, [], _∷_}
 use mathlib.Core.Bool.{Bool, true, false}
-use Prim.Native.Nat.{ℕ, zero, suc, _+_, _<_, _≤_}
+use Prim.Native.Nat.{ℕ, zero, suc, _<_, _≤_}
 use native.Mathlib.Omega.{arith}
 use lib.ListN.{length, getD, set, replicate}
 use lib.Seq.{getD-set-same, getD-set-other}
 use lib.Dec.{eqb}
 use borrow.Author.Tests.{eqb-true, eqb-false}
-use Rattle.toposort.specs.Sort.{unmarked}
+use Rattle.toposort.specs.Table.{unmarked}
 
 -- the mark of j after a store at i
 pub set-cases : (m : List ℕ) (i v j : ℕ) → i < length m →
@@ -39,6 +39,15 @@ unmarked-again (zero ∷ m) zero v h e = absurd (omega arith)
 unmarked-again (suc b ∷ m) zero v h e = refl
 unmarked-again (zero ∷ m) (suc i) v h e = omega (arith, unmarked-again m i v (omega arith) e)
 unmarked-again (suc b ∷ m) (suc i) v h e = unmarked-again m i v (omega arith) e
+
+-- no mark adds to it
+pub unmarked-set : (m : List ℕ) (i v : ℕ) → unmarked (set m i (suc v)) ≤ unmarked m
+unfolding unmarked
+unmarked-set [] i v = omega arith
+unmarked-set (zero ∷ m) zero v = omega arith
+unmarked-set (suc b ∷ m) zero v = omega arith
+unmarked-set (zero ∷ m) (suc i) v = omega (arith, unmarked-set m i v)
+unmarked-set (suc b ∷ m) (suc i) v = unmarked-set m i v
 
 pub unmarked-some : (m : List ℕ) (i : ℕ) → i < length m → getD m i 0 ≡ 0 → 0 < unmarked m
 unmarked-some m i h e = omega (arith, unmarked-first m i 0 h e)

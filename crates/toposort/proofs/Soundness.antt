@@ -7,10 +7,11 @@ use Prim.Native.Nat.{ℕ, zero, suc, _+_, _<_, _≤_}
 use native.Mathlib.Omega.{arith}
 use lib.ListN.{length, getD, set, length-set, length-append}
 use Rattle.toposort.specs.Graph.{Graph, _∈_, Within, Structs, Chain, Ring}
-use Rattle.toposort.specs.Sort.{Walk, ring, done, andThen, finish, byMark, visitAll, visit, unmarked}
+use Rattle.toposort.specs.Sort.{Walk, ring, done, andThen, finish, byMark, visitAll, visit}
+use Rattle.toposort.specs.Table.{unmarked}
 use Rattle.toposort.proofs.Marks.{set-cases, unmarked-first, unmarked-some, unmarked-most}
 use Rattle.toposort.proofs.Visits.{Moved, Moves, visit-moves, visits-move}
-use Rattle.toposort.proofs.Orders.{Ordered, none, next, chain-more, last-cases}
+use Rattle.toposort.proofs.Orders.{Ordered, next, chain-more, last-cases}
 
 -- the order is legal, and has the visited structs
 pub record Good (g : Graph) (js m o : List ℕ) : Type 0 where

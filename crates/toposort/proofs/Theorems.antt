@@ -1,17 +1,17 @@
 -- The sort meets a ring exactly where there is one; else its list is a legal order of the structs.
 use mathlib.Core.Path.{_≡_, refl, sym}
 use mathlib.Core.Logic.{_↔_}
-use mathlib.Core.List.{List, [], _∷_, List·Memᴰ·not-nil}
+use mathlib.Core.List.{List, [], List·Memᴰ·not-nil}
 use mathlib.Core.Bool.{Bool, true, false, false≢true}
 use Prim.Native.Nat.{ℕ, _≤_}
 use native.Mathlib.Omega.{arith}
 use lib.ListN.{length, replicate, length-replicate}
-use Rattle.toposort.specs.Graph.{Graph, _∈_, Structs, Ring, LegalOrder}
-use Rattle.toposort.specs.Sort.{Walk, ring, done, visitAll, visit, sort, isRing, sortedOf, ringed, order}
+use Rattle.toposort.specs.Graph.{Graph, Structs, Ring, LegalOrder}
+use Rattle.toposort.specs.Sort.{Walk, ring, done, sort, isRing, sortedOf, ringed, order}
 use Rattle.toposort.proofs.Marks.{blank, unmarked-blank}
 use Rattle.toposort.proofs.Visits.{Moves, visits-move}
 use Rattle.toposort.proofs.Orders.{none, no-ring, ordered-legal}
-use Rattle.toposort.proofs.Soundness.{Start, Left, ShortRing, Sound, within, visits-sound, visit-sound}
+use Rattle.toposort.proofs.Soundness.{Start, ShortRing, Sound, within, visits-sound, visit-sound}
 
 module _ {g : Graph} {n : ℕ} {js : List ℕ} (among : Structs g n js) where
   start : Start g js n n js (replicate n 0) []

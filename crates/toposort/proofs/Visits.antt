@@ -1,12 +1,13 @@
 -- What a visit does to the marks and to the length of the order. Here m are marks and o is the order so far.
-use mathlib.Core.Path.{_≡_, refl, sym, ap, _∙_}
+use mathlib.Core.Path.{_≡_, refl, sym, _∙_}
 use mathlib.Core.Logic.{⊎-elim}
-use mathlib.Core.List.{List, [], _∷_, _++_, List·Memᴰ·head, List·Memᴰ·tail}
+use mathlib.Core.List.{List, [], _∷_, List·Memᴰ·head, List·Memᴰ·tail}
 use Prim.Native.Nat.{ℕ, zero, suc, _+_, _<_, _≤_}
 use native.Mathlib.Omega.{arith}
 use lib.ListN.{length, getD, set, length-set, length-append}
 use Rattle.toposort.specs.Graph.{Graph, _∈_, Within}
-use Rattle.toposort.specs.Sort.{Walk, ring, done, andThen, finish, byMark, visitAll, visit, unmarked}
+use Rattle.toposort.specs.Sort.{Walk, ring, done, andThen, finish, byMark, visitAll, visit}
+use Rattle.toposort.specs.Table.{unmarked}
 use Rattle.toposort.proofs.Marks.{set-cases, unmarked-first, unmarked-again}
 
 -- the same structs are being visited, those visited stay so, and the order grows by one struct for each new mark

@@ -18,10 +18,9 @@ Graph = ℕ → List ℕ
 abbrev pub Within : Graph → ℕ → Type 0
 Within g n = (i c : ℕ) → c ∈ g i → c < n
 
--- js are the structs among n items: only they hold something, and nothing else is held
+-- js are the structs among n items, and what is held is one of them
 pub record Structs (g : Graph) (n : ℕ) (js : List ℕ) : Type 0 where
   pub below : (i : ℕ) → i ∈ js → i < n
-  pub holder : (i c : ℕ) → c ∈ g i → i ∈ js
   pub held : (i c : ℕ) → c ∈ g i → c ∈ js
 
 -- a holds the first of the others, each of them holds the next, and the last of them holds b

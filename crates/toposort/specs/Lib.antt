@@ -1,3 +1,4 @@
 pub mod Graph
 pub mod Sort
 pub mod Crate
+pub mod Table

@@ -58,9 +58,3 @@ ringed g n js = isRing (sort g n js)
 -- the structs in order, where there is no ring
 unfoldable pub order : Graph → ℕ → List ℕ → List ℕ
 order g n js = sortedOf (sort g n js)
-
--- how many items have no mark
-unfoldable pub unmarked : List ℕ → ℕ
-unmarked [] = 0
-unmarked (zero ∷ marks) = suc (unmarked marks)
-unmarked (suc m ∷ marks) = unmarked marks

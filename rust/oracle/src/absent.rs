@@ -7,6 +7,7 @@ pub struct Facts {
     pub symbols: Vec<String>,
     pub indirect: Vec<bool>,
     pub cyclic: bool,
+    pub complaint: Option<String>,
 }
 
 pub fn text(_sheet: &Sheet) -> Vec<u8> {

@@ -36,7 +36,12 @@ pub fn compare(bytes: &[u8]) -> Result<Outcome, String> {
     if answer == Refusal::WrongPart.number() {
         return Ok(outcome);
     }
-    agree("check and crate", answer, answer_by_facts(&sheet, &facts(&sheet)))?;
+    let facts = facts(&sheet);
+    if facts.indirect != indirect_arguments(&sheet) {
+        return Err("needs_indirect_abi has other answers".into());
+    }
+    let by_facts = answer_by_facts(&sheet, &facts);
+    agree("check and crate", answer, by_facts)?;
     if answer == 0 {
         outcome.text = text(&sheet);
         if outcome.text != text_by_write_functions(&sheet) {
@@ -55,6 +60,16 @@ fn agree(who: &str, one: u8, two: u8) -> Result<(), String> {
     Err(format!("{who} disagree: {one} and {two}"))
 }
 
+/// Document 01's rule for each argument, function by function.
+fn indirect_arguments(sheet: &Sheet) -> Vec<bool> {
+    let functions = sheet.items.iter().filter_map(|item| match &item.kind {
+        Kind::Function(function) => Some(function),
+        _ => None,
+    });
+    let args = functions.flat_map(|function| &function.args);
+    args.map(|arg| sheet::indirect(sheet, &arg.ty)).collect()
+}
+
 /// Rules 10 to 12 once more, with the crate's symbols, its answers of
 /// `needs_indirect_abi` and its search for cycles.
 fn answer_by_facts(sheet: &Sheet, facts: &Facts) -> u8 {
@@ -64,8 +79,14 @@ fn answer_by_facts(sheet: &Sheet, facts: &Facts) -> u8 {
     let mut unfit = false;
     let mut indirect = facts.indirect.iter();
     for item in &sheet.items {
-        let path: Vec<&[u8]> = item.namespace.iter().map(|name| sheet.name(*name)).collect();
-        taken |= path.first().is_some_and(|first| [b"std".as_slice(), b"rust"].contains(first));
+        let path: Vec<&[u8]> = item
+            .namespace
+            .iter()
+            .map(|name| sheet.name(*name))
+            .collect();
+        taken |= path
+            .first()
+            .is_some_and(|first| [b"std".as_slice(), b"rust"].contains(first));
         let Kind::Function(function) = &item.kind else {
             let full_name = [path.join(b"::".as_slice()), sheet.name(item.name).to_vec()];
             taken |= !full_names.insert(full_name.join(b"::".as_slice()));
@@ -95,7 +116,9 @@ fn legal_order(sheet: &Sheet, order: &[u8]) -> Result<(), String> {
     let is_struct = |index: u8| matches!(sheet.item(index).kind, Kind::Struct { .. });
     for number in order {
         if !is_struct(*number) || out[usize::from(*number)] {
-            return Err(format!("item {number} does not belong into the struct order"));
+            return Err(format!(
+                "item {number} does not belong into the struct order"
+            ));
         }
         if let Kind::Struct { fields, .. } = &sheet.item(*number).kind {
             for field in fields {
@@ -103,7 +126,9 @@ fn legal_order(sheet: &Sheet, order: &[u8]) -> Result<(), String> {
                     && is_struct(*held)
                     && !out[usize::from(*held)]
                 {
-                    return Err(format!("struct {number} comes before {held}, which it holds"));
+                    return Err(format!(
+                        "struct {number} comes before {held}, which it holds"
+                    ));
                 }
             }
         }

@@ -36,7 +36,11 @@ pub fn struct_order(sheet: &Sheet) -> Vec<u8> {
             let is_it = |api: &Api| matches!(api, Api::Struct(other) if std::ptr::eq(other, strct));
             apis.iter().position(is_it).unwrap() as u8
         };
-        types.toposorted_structs.iter().map(|strct| number(strct)).collect()
+        types
+            .toposorted_structs
+            .iter()
+            .map(|strct| number(strct))
+            .collect()
     })
 }
 
@@ -48,11 +52,13 @@ pub struct Facts {
     pub indirect: Vec<bool>,
     /// Whether `sort` found a cyclic data structure.
     pub cyclic: bool,
+    /// All that types.rs reported, a cycle included.
+    pub complaint: Option<String>,
 }
 
 /// For a sheet that keeps the rules 1 to 9.
 pub fn facts(sheet: &Sheet) -> Facts {
-    with_types(sheet, |apis, types, cyclic| {
+    with_types(sheet, |apis, types, complaint| {
         let functions = || {
             apis.iter().filter_map(|api| match api {
                 Api::RustFunction(efn) => Some(efn),
@@ -67,7 +73,10 @@ pub fn facts(sheet: &Sheet) -> Facts {
                 .flat_map(|efn| &efn.args)
                 .map(|arg| types.needs_indirect_abi(&arg.ty))
                 .collect(),
-            cyclic,
+            cyclic: complaint
+                .as_deref()
+                .is_some_and(|text| text.contains(CYCLE)),
+            complaint,
         }
     })
 }
@@ -79,8 +88,13 @@ fn options(sheet: &Sheet) -> Opt {
     }
 }
 
-/// Hands over the syntax tree, its types, and whether there is a cycle in them.
-fn with_types<T>(sheet: &Sheet, answer: impl FnOnce(&[Api], &Types, bool) -> T) -> T {
+/// toposort.rs' words for a cycle. types.rs reports one thing more that can be
+/// in an accepted sheet: two functions with one Rust name and self type, in
+/// different namespaces. The text does not mind, and neither does document 01.
+const CYCLE: &str = "unsupported cyclic data structure";
+
+/// Hands over the syntax tree, its types, and what types.rs reports.
+fn with_types<T>(sheet: &Sheet, answer: impl FnOnce(&[Api], &Types, Option<String>) -> T) -> T {
     let tree = Tree { sheet };
     let apis: Vec<Api> = (0..sheet.items.len()).map(|item| tree.api(item)).collect();
     let mut errors = Errors::new();
@@ -90,11 +104,8 @@ fn with_types<T>(sheet: &Sheet, answer: impl FnOnce(&[Api], &Types, bool) -> T) 
             types.cxx.insert(&enm.name.rust);
         }
     }
-    // The crate also wants all functions' Rust names to differ, whatever their
-    // namespaces; the text does not mind, and neither does document 01.
-    let errors = errors.propagate().err();
-    let cyclic = errors.is_some_and(|error| error.to_string().contains("cyclic data structure"));
-    answer(&apis, &types, cyclic)
+    let complaint = errors.propagate().err().map(|error| error.to_string());
+    answer(&apis, &types, complaint)
 }
 
 struct Tree<'s> {
@@ -111,7 +122,11 @@ impl Tree<'_> {
     }
 
     fn pair(&self, item: &Item, rust: Ident) -> Pair {
-        let namespace: Vec<Ident> = item.namespace.iter().map(|name| self.ident(*name)).collect();
+        let namespace: Vec<Ident> = item
+            .namespace
+            .iter()
+            .map(|name| self.ident(*name))
+            .collect();
         Pair {
             namespace: namespace.iter().collect(),
             cxx: ForeignName::new(self.chars(item.name)),

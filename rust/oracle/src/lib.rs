@@ -5,6 +5,8 @@
 //! `../shared/docs/src` beside the repository. Without it everything builds,
 //! [`HAVE_SOURCE`] is false, and asking the oracle panics.
 
+use std::io::{self, Write};
+
 #[cfg(cxx_build_source)]
 include!(concat!(env!("OUT_DIR"), "/cxx-build.rs"));
 
@@ -24,4 +26,13 @@ pub use judge::{Facts, facts, struct_order, text, text_by_write_functions};
 /// Whether the crate's source was found.
 pub const HAVE_SOURCE: bool = cfg!(cxx_build_source);
 
-pub const SKIPPED: &str = "skipped: no cxx-build source (set CXX_BUILD_SRC)";
+const SKIPPED: &str = "skipped: no cxx-build source (set CXX_BUILD_SRC)";
+
+/// For tests: whether there is no source to compare with, said aloud. The line
+/// goes past the capture of a test's output.
+pub fn skipped() -> bool {
+    if !HAVE_SOURCE {
+        let _ = writeln!(io::stderr(), "{SKIPPED}");
+    }
+    !HAVE_SOURCE
+}

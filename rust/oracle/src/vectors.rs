@@ -6,11 +6,19 @@
 //! text and an empty order.
 
 use crate::compare::{Outcome, compare};
-use sheet::generate::{boundaries, damaged, faulty, good, graph};
+use sheet::generate::{boundaries, damaged, faulty, good, graph, signatures};
 use sheet::{Refusal, Rng, encode};
 
 /// The seed of the stored file.
 pub const SEED: u64 = 205;
+
+/// Sheets at the limits that would make the file much longer.
+const TOO_LONG: [&str; 4] = [
+    "amplified",
+    "32,768 bytes and one more",
+    "32,768 bytes of edition 0",
+    "32,769 bytes of edition 0",
+];
 
 pub struct Record {
     pub sheet: Vec<u8>,
@@ -23,30 +31,30 @@ pub struct Record {
 pub fn make(seed: u64) -> Result<Vec<u8>, String> {
     let mut file = Vec::new();
     let mut rng = Rng::new(seed);
-    for (label, sheet) in boundaries() {
-        if label != "32,768 bytes of edition 0" {
-            push(&mut file, &sheet).map_err(|error| format!("{label}: {error}"))?;
-        }
+    let mut fixed = boundaries();
+    fixed.retain(|(label, _)| !TOO_LONG.contains(&label.as_str()));
+    for (label, sheet) in fixed.into_iter().chain(signatures()) {
+        push(&mut file, &sheet).map_err(|error| format!("{label}: {error}"))?;
     }
     for refusal in Refusal::ALL {
-        for _ in 0..16 {
+        for _ in 0..24 {
             small(&mut file, || faulty(&mut rng, &[refusal]))?;
         }
     }
     for one in Refusal::ALL {
         for two in Refusal::ALL {
-            for _ in 0..3 {
+            for _ in 0..2 {
                 small(&mut file, || faulty(&mut rng, &[one, two]))?;
             }
         }
     }
-    for _ in 0..160 {
+    for _ in 0..120 {
         small(&mut file, || damaged(&mut rng))?;
     }
-    for _ in 0..60 {
+    for _ in 0..40 {
         small(&mut file, || encode(&graph(&mut rng)))?;
     }
-    for _ in 0..200 {
+    for _ in 0..100 {
         small(&mut file, || encode(&good(&mut rng)))?;
     }
     Ok(file)
@@ -56,7 +64,7 @@ pub fn make(seed: u64) -> Result<Vec<u8>, String> {
 fn small(file: &mut Vec<u8>, mut sheet: impl FnMut() -> Vec<u8>) -> Result<(), String> {
     loop {
         let sheet = sheet();
-        if sheet.len() <= 600 && compare(&sheet)?.text.len() <= 2_500 {
+        if sheet.len() <= 600 && compare(&sheet)?.text.len() <= 2_000 {
             return push(file, &sheet);
         }
     }

@@ -64,8 +64,7 @@ fn mill() -> Sheet {
 #[test]
 fn the_example_of_document_01() {
     assert_eq!(check(&encode(&mill())), 0);
-    if !oracle::HAVE_SOURCE {
-        println!("{}", oracle::SKIPPED);
+    if oracle::skipped() {
         return;
     }
     assert_eq!(String::from_utf8(oracle::text(&mill())).unwrap(), TEXT);

@@ -18,7 +18,7 @@ pub fn check(bytes: &[u8]) -> u8 {
     }
 }
 
-/// A name as the number of the first equal one, and the names that mean more.
+/// A name as the number of the first equal one.
 #[derive(Clone, Copy, PartialEq, Eq, Hash, Default)]
 struct NameId(u16);
 
@@ -367,12 +367,12 @@ impl Walker<'_> {
         !self.entries.iter().all(|entry| match entry {
             Entry::Type(item) => full_names.insert((item.path, item.name)),
             Entry::Function(item) => {
-                let self_name = item
-                    .self_item
-                    .map(|index| match &self.entries[usize::from(index)] {
-                        Entry::Type(self_type) => self_type.name,
-                        Entry::Function(_) => unreachable!("rule 9"),
-                    });
+                let self_name =
+                    item.self_item
+                        .map(|index| match &self.entries[usize::from(index)] {
+                            Entry::Type(self_type) => self_type.name,
+                            Entry::Function(_) => unreachable!("rule 9"),
+                        });
                 symbols.insert((item.path, self_name, item.rust_name))
             }
         })

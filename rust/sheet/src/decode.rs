@@ -67,9 +67,13 @@ impl Decoder<'_> {
         let header = self.bit()?;
         let doxygen = self.bit()?;
         self.names = self.number(10)? as usize;
-        let names = (0..self.names).map(|_| self.name()).collect::<Result<_>>()?;
+        let names = (0..self.names)
+            .map(|_| self.name())
+            .collect::<Result<_>>()?;
         self.items = self.number(8)? as usize;
-        let items = (0..self.items).map(|_| self.item()).collect::<Result<_>>()?;
+        let items = (0..self.items)
+            .map(|_| self.item())
+            .collect::<Result<_>>()?;
         self.tail()?;
         Ok(Sheet {
             edition,
@@ -96,7 +100,9 @@ impl Decoder<'_> {
             return Err(BadKind);
         }
         let depth = self.number(3)?;
-        let namespace = (0..depth).map(|_| self.name_index()).collect::<Result<_>>()?;
+        let namespace = (0..depth)
+            .map(|_| self.name_index())
+            .collect::<Result<_>>()?;
         let name = self.name_index()?;
         let kind = match kind {
             0 => self.structure()?,

@@ -7,12 +7,12 @@
 //! names mill Job count job
 //! rust-type mill::Job
 //! cxx-type mill::Disc indirect
-//! struct mill::Pair indirect { u8, Job, [bool; 3] }
+//! struct mill::Pair indirect { u8, ::mill::Job, [bool; 3] }
 //! enum mill::Mode u8
 //! enum mill::Axis i32 cxx
 //! /// a comment line of the function below, as it stands behind the slashes
 //! fn mill::count(job: &::mill::Job) -> u32
-//! fn mill::turn as turn_rust throws mut ::mill::Job (by: f64, mode: #4)
+//! fn mill::turn as turn_rust throws mut ::mill::Job (by: f64, mode: #3)
 //! ```
 //!
 //! A function's words are, in this order and each of them optional: `as` and
@@ -26,9 +26,10 @@
 use crate::value::*;
 use std::fmt::Write;
 
+#[rustfmt::skip]
 const ATOMS: [&str; 16] = [
-    "bool", "c_char", "u8", "u16", "u32", "u64", "usize", "i8", "i16", "i32", "i64", "isize", "f32",
-    "f64", "CxxString", "String",
+    "bool", "c_char", "u8", "u16", "u32", "u64", "usize", "i8", "i16", "i32", "i64", "isize",
+    "f32", "f64", "CxxString", "String",
 ];
 
 type Result<T> = std::result::Result<T, String>;
@@ -156,7 +157,11 @@ impl<'p> Parser<'p> {
             }
             return self.end();
         };
-        let path: Vec<NameIndex> = self.path()?.into_iter().map(|name| self.name(name)).collect();
+        let path: Vec<NameIndex> = self
+            .path()?
+            .into_iter()
+            .map(|name| self.name(name))
+            .collect();
         let (name, namespace) = path.split_last().expect("a path has a name");
         let (name, namespace) = (*name, namespace.to_vec());
         let kind = match word {
@@ -220,7 +225,11 @@ impl<'p> Parser<'p> {
             let ty = parser.ty()?;
             Ok(Arg { name, ty })
         })?;
-        let ret = if self.skip("->") { Some(self.ty()?) } else { None };
+        let ret = if self.skip("->") {
+            Some(self.ty()?)
+        } else {
+            None
+        };
         Ok(Function {
             rust_name,
             form,
@@ -294,7 +303,11 @@ impl<'p> Parser<'p> {
         if word == "fn" {
             self.expect("(")?;
             let args = self.list(")", Self::ty)?;
-            let ret = if self.skip("->") { Some(self.boxed()?) } else { None };
+            let ret = if self.skip("->") {
+                Some(self.boxed()?)
+            } else {
+                None
+            };
             return Ok(Type::Fn { ret, args });
         }
         self.expect("<")?;
@@ -429,5 +442,79 @@ fn print_type(ty: &Type) -> String {
             format!("fn({}){ret}", args.join(", "))
         }
         Type::Unknown(kind) => format!("kind{kind}"),
+    }
+}
+
+/// Bytes as hex digits, 32 bytes on a line.
+pub fn hex(bytes: &[u8]) -> String {
+    let line = |line: &[u8]| -> String {
+        let digits: String = line.iter().map(|byte| format!("{byte:02x}")).collect();
+        digits + "\n"
+    };
+    bytes.chunks(32).map(line).collect()
+}
+
+/// The bytes of hex digits; blanks and line ends are skipped.
+pub fn unhex(text: &str) -> Option<Vec<u8>> {
+    let digit = |c: char| Some(c.to_digit(16)? as u8);
+    let digits = text.chars().filter(|c| !c.is_ascii_whitespace());
+    let digits: Vec<u8> = digits.map(digit).collect::<Option<_>>()?;
+    let (pairs, rest) = digits.as_chunks::<2>();
+    let bytes = pairs.iter().map(|[high, low]| high << 4 | low).collect();
+    rest.is_empty().then_some(bytes)
+}
+
+#[cfg(test)]
+mod tests {
+    use super::*;
+
+    #[test]
+    fn a_description() {
+        let text = "# a remark\n\ndoxygen\nnames z\nrust-type mill::Job\n\
+            enum mill::Axis indirect i32 cxx\n/// one\n///\n\
+            fn mill::turn as turn_rust throws mut ::mill::Job (by: &mut [f64], axis: #1) -> &str";
+        let sheet = parse(text).unwrap();
+        assert!(sheet.doxygen && !sheet.header);
+        let names = [
+            "z",
+            "mill",
+            "Job",
+            "Axis",
+            "turn",
+            "turn_rust",
+            "by",
+            "axis",
+        ];
+        assert_eq!(sheet.names, names.map(|name| name.as_bytes().to_vec()));
+        let Kind::Function(function) = &sheet.items[2].kind else {
+            panic!("the third item is a function");
+        };
+        assert_eq!(function.form, Form::MutMethod(0));
+        assert_eq!(function.comment, [b" one".to_vec(), Vec::new()]);
+        assert_eq!(function.args[1].ty, Type::Named(1));
+        assert_eq!(function.ret, Some(Type::Str));
+        assert!(function.throws);
+    }
+
+    #[test]
+    fn faults_name_their_line() {
+        for (text, message) in [
+            ("header\nfoo", "line 2: `foo` begins no line"),
+            ("fn f(x)", "line 1: `:` expected at `)`"),
+            ("fn f() -> ::T", "line 1: no type `::T`"),
+            ("fn f() -> Rc<u8>", "line 1: `Rc` is no type"),
+            ("enum E u7", "line 1: `u7` is no atom"),
+            ("rust-type T maybe", "line 1: `maybe` is too much"),
+        ] {
+            assert_eq!(parse(text), Err(message.into()));
+        }
+    }
+
+    #[test]
+    fn hex_digits() {
+        assert_eq!(hex(&[0x10, 0xaf]), "10af\n");
+        assert_eq!(unhex("10 aF\n"), Some(vec![0x10, 0xaf]));
+        assert_eq!(unhex("1"), None);
+        assert_eq!(unhex("0g"), None);
     }
 }

@@ -76,7 +76,10 @@ fn wrong_part(sheet: &Sheet) -> bool {
 /// 10: a name is taken. Names are compared by their characters.
 fn taken(sheet: &Sheet) -> bool {
     let path = |item: &Item| -> Vec<&[u8]> {
-        item.namespace.iter().map(|index| sheet.name(*index)).collect()
+        item.namespace
+            .iter()
+            .map(|index| sheet.name(*index))
+            .collect()
     };
     let first_namespace_taken = sheet.items.iter().any(|item| {
         let first = item.namespace.first().map(|index| sheet.name(*index));
@@ -84,9 +87,10 @@ fn taken(sheet: &Sheet) -> bool {
     });
 
     let mut full_names = HashSet::new();
-    let two_types = sheet.items.iter().any(|item| {
-        !item.is_function() && !full_names.insert((path(item), sheet.name(item.name)))
-    });
+    let two_types = sheet
+        .items
+        .iter()
+        .any(|item| !item.is_function() && !full_names.insert((path(item), sheet.name(item.name))));
 
     // A name has no `$` and does not begin with a digit, so two symbols are
     // equal when their namespaces, self types' C++ names and Rust names are.
@@ -99,7 +103,10 @@ fn taken(sheet: &Sheet) -> bool {
 
     let two_arguments = functions(sheet).any(|(_, function)| {
         let mut names = HashSet::new();
-        function.args.iter().any(|arg| !names.insert(sheet.name(arg.name)))
+        function
+            .args
+            .iter()
+            .any(|arg| !names.insert(sheet.name(arg.name)))
     });
 
     first_namespace_taken || two_types || two_symbols || two_arguments

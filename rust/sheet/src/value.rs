@@ -194,11 +194,10 @@ impl Type {
         }
     }
 
-    /// Calls `f` with each item index of the type, in sheet order.
-    pub fn each_item(&self, f: &mut impl FnMut(ItemIndex)) {
+    /// Calls `f` with each type directly inside this one, in sheet order.
+    pub fn each_inner(&self, f: &mut impl FnMut(&Type)) {
         match self {
-            Type::Atom(_) | Type::Str | Type::Unknown(_) => {}
-            Type::Named(item) => f(*item),
+            Type::Atom(_) | Type::Named(_) | Type::Str | Type::Unknown(_) => {}
             Type::RustBox(inner)
             | Type::RustVec(inner)
             | Type::UniquePtr(inner)
@@ -208,13 +207,19 @@ impl Type {
             | Type::Ref { inner, .. }
             | Type::Ptr { inner, .. }
             | Type::SliceRef { inner, .. }
-            | Type::Array { inner, .. } => inner.each_item(f),
+            | Type::Array { inner, .. } => f(inner),
             Type::Fn { ret, args } => {
-                if let Some(ret) = ret {
-                    ret.each_item(f);
-                }
-                args.iter().for_each(|arg| arg.each_item(f));
+                ret.iter().for_each(|ret| f(ret));
+                args.iter().for_each(f);
             }
         }
+    }
+
+    /// Calls `f` with each item index of the type, in sheet order.
+    pub fn each_item(&self, f: &mut dyn FnMut(ItemIndex)) {
+        if let Type::Named(item) = self {
+            f(*item);
+        }
+        self.each_inner(&mut |inner| inner.each_item(f));
     }
 }

@@ -96,7 +96,11 @@ impl PartialEq for Signature {
             && self.throws == other.throws
             && self.ret == other.ret
             && self.args.len() == other.args.len()
-            && self.args.iter().zip(&other.args).all(|(one, two)| one.ty == two.ty)
+            && self
+                .args
+                .iter()
+                .zip(&other.args)
+                .all(|(one, two)| one.ty == two.ty)
     }
 }
 

@@ -15,7 +15,10 @@ pub fn boundaries() -> Vec<(String, Vec<u8>)> {
         sheet.doxygen = flags & 1 != 0;
         let bytes = encode(&sheet);
         for len in 0..bytes.len() {
-            add(format!("empty, flags {flags}, cut at {len}"), bytes[..len].to_vec());
+            add(
+                format!("empty, flags {flags}, cut at {len}"),
+                bytes[..len].to_vec(),
+            );
         }
         add(format!("empty, flags {flags}"), bytes);
     }
@@ -27,7 +30,10 @@ pub fn boundaries() -> Vec<(String, Vec<u8>)> {
     for count in [0, 1, 2, 3, 4, 5, 8, 9, 16, 17, 512, 513, 1_022, 1_023] {
         add(format!("{count} names"), encode(&names(count, count)));
         if count > 0 && !count.is_power_of_two() {
-            add(format!("{count} names, index past the end"), encode(&names(count, count + 1)));
+            add(
+                format!("{count} names, index past the end"),
+                encode(&names(count, count + 1)),
+            );
         }
     }
     add("no name, but an item".into(), encode(&names(0, 1)));
@@ -43,13 +49,28 @@ pub fn boundaries() -> Vec<(String, Vec<u8>)> {
         add(format!("{depth} namespaces"), encode(&namespaces(depth)));
     }
     for count in [0, 1, 30, 31] {
-        add(format!("{count} arguments"), encode(&arguments(count, Form::Free)));
-        add(format!("{count} arguments of a method"), encode(&arguments(count, Form::MutMethod(0))));
+        add(
+            format!("{count} arguments"),
+            encode(&arguments(count, Form::Free)),
+        );
+        add(
+            format!("{count} arguments of a method"),
+            encode(&arguments(count, Form::MutMethod(0))),
+        );
     }
     for count in [0, 1, 62, 63] {
         add(format!("{count} fields"), encode(&fields(count)));
     }
-    for (lines, chars) in [(0, 0), (1, 0), (2, 0), (31, 0), (1, 1), (1, 127), (2, 127), (31, 127)] {
+    for (lines, chars) in [
+        (0, 0),
+        (1, 0),
+        (2, 0),
+        (31, 0),
+        (1, 1),
+        (1, 127),
+        (2, 127),
+        (31, 127),
+    ] {
         for doxygen in [false, true] {
             let mut sheet = comment(lines, chars);
             sheet.doxygen = doxygen;
@@ -60,12 +81,18 @@ pub fn boundaries() -> Vec<(String, Vec<u8>)> {
     for slots in [0, 1, 14, 15] {
         for ret in [None, Some(Box::new(Type::Str))] {
             let args = vec![Type::Atom(2); slots];
-            add(format!("{slots} slots in a Fn"), encode(&returns(Type::Fn { ret, args })));
+            add(
+                format!("{slots} slots in a Fn"),
+                encode(&returns(Type::Fn { ret, args })),
+            );
         }
     }
     for len in [0, 1, 9, 10, u32::MAX] {
         let inner = Box::new(Type::Atom(0));
-        add(format!("array of {len}"), encode(&returns(Type::Array { inner, len })));
+        add(
+            format!("array of {len}"),
+            encode(&returns(Type::Array { inner, len })),
+        );
     }
     for kind in 0..WRAPPERS {
         for depth in [8, 9] {
@@ -73,7 +100,10 @@ pub fn boundaries() -> Vec<(String, Vec<u8>)> {
             for _ in 1..depth {
                 ty = wrap(kind, ty);
             }
-            add(format!("wrapper {kind} at depth {depth}"), encode(&returns(ty)));
+            add(
+                format!("wrapper {kind} at depth {depth}"),
+                encode(&returns(ty)),
+            );
         }
         for unknown in [12, 15] {
             for depth in [8, 9, 10] {
@@ -96,15 +126,92 @@ pub fn boundaries() -> Vec<(String, Vec<u8>)> {
         add(format!("enum of atom {atom}"), encode(&sheet));
         add(format!("atom {atom}"), encode(&returns(Type::Atom(atom))));
     }
+    add("amplified".into(), amplified());
     let longest = of_length(limit::SHEET_BYTES);
     let mut grown = longest.clone();
     grown.push(0);
     add("32,768 bytes".into(), longest);
     add("32,768 bytes and one more".into(), grown);
     add("32,769 bytes".into(), of_length(limit::SHEET_BYTES + 1));
-    add("32,769 bytes of edition 0".into(), vec![0; limit::SHEET_BYTES + 1]);
-    add("32,768 bytes of edition 0".into(), vec![0; limit::SHEET_BYTES]);
+    add(
+        "32,769 bytes of edition 0".into(),
+        vec![0; limit::SHEET_BYTES + 1],
+    );
+    add(
+        "32,768 bytes of edition 0".into(),
+        vec![0; limit::SHEET_BYTES],
+    );
     out
+}
+
+/// For each sort of type one sheet: a function of each form, throwing and not,
+/// that takes and returns it.
+pub fn signatures() -> Vec<(String, Vec<u8>)> {
+    let named = || Box::new(Type::Named(0));
+    let mut types: Vec<Type> = [0, 14, 15].map(Type::Atom).to_vec();
+    types.extend((0..WRAPPERS).map(|kind| wrap(kind, Type::Named(0))));
+    types.extend([
+        Type::Named(0),
+        Type::Str,
+        Type::Ref {
+            mutable: true,
+            inner: named(),
+        },
+        Type::Ptr {
+            mutable: true,
+            inner: named(),
+        },
+        Type::SliceRef {
+            mutable: true,
+            inner: named(),
+        },
+    ]);
+    let mut out = Vec::new();
+    for ty in types {
+        let pointers: &[bool] = match ty {
+            Type::Named(_) => &[false, true],
+            _ => &[false],
+        };
+        for pointer in pointers {
+            let sheet = signatures_of(&ty, *pointer);
+            out.push((format!("signatures with {ty:?}"), encode(&sheet)));
+        }
+    }
+    out
+}
+
+fn signatures_of(ty: &Type, pointer: bool) -> Sheet {
+    let forms = [
+        Form::Free,
+        Form::ConstMethod(0),
+        Form::MutMethod(0),
+        Form::Associated(0),
+    ];
+    let mut sheet = names(9, 1);
+    sheet.items[0].namespace = vec![8];
+    sheet.items[0].kind = Kind::CxxType { pointer };
+    for number in 0..8 {
+        let mut args = vec![ty.clone(), Type::Atom(2)];
+        args.retain(|arg| !matches!(arg, Type::CxxVector(_)));
+        let args = args.into_iter().enumerate().map(|(name, ty)| Arg {
+            name: name as NameIndex,
+            ty,
+        });
+        let kind = Kind::Function(Function {
+            rust_name: number as NameIndex,
+            form: forms[number / 2],
+            throws: number % 2 == 1,
+            ret: Some(ty.clone()),
+            args: args.collect(),
+            comment: Vec::new(),
+        });
+        sheet.items.push(Item {
+            namespace: Vec::new(),
+            name: 1,
+            kind,
+        });
+    }
+    sheet
 }
 
 /// Names `a0`, `a1` and so on, and an opaque type for the first and last used.
@@ -240,7 +347,7 @@ fn wrap(kind: usize, ty: Type) -> Type {
         },
         _ => Type::Fn {
             ret: None,
-            args: vec![Type::Str, *inner],
+            args: vec![*inner, Type::Str],
         },
     }
 }
@@ -271,4 +378,39 @@ fn of_length(bytes: usize) -> Vec<u8> {
             sheet.items.push(next);
         }
     }
+}
+
+/// A sheet within the limit with as much text as this way gives: a type with a
+/// long full name, named over and over.
+fn amplified() -> Vec<u8> {
+    let mut sheet = names(64, 1);
+    sheet.names[63] = vec![b'n'; limit::NAME_CHARS];
+    sheet.items[0].namespace = vec![63; limit::NAMESPACES];
+    sheet.items[0].name = 63;
+    let slots = vec![Type::Named(0); limit::SLOTS];
+    let mut encoded = encode(&sheet);
+    for rust_name in 0..63 {
+        let mut function = function();
+        function.rust_name = rust_name;
+        function.args = (0..limit::ARGUMENTS)
+            .map(|argument| Arg {
+                name: argument as NameIndex,
+                ty: Type::Fn {
+                    ret: Some(Box::new(Type::Named(0))),
+                    args: slots.clone(),
+                },
+            })
+            .collect();
+        sheet.items.push(Item {
+            namespace: Vec::new(),
+            name: rust_name,
+            kind: Kind::Function(function),
+        });
+        let longer = encode(&sheet);
+        if longer.len() > limit::SHEET_BYTES {
+            break;
+        }
+        encoded = longer;
+    }
+    encoded
 }

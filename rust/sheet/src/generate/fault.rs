@@ -11,7 +11,10 @@ use crate::{
 /// the check's answer; with two, document 01's priorities decide.
 pub fn faulty(rng: &mut Rng, faults: &[Refusal]) -> Vec<u8> {
     let mut sheet = good(rng);
-    for fault in faults {
+    // The lowest number comes last, so that nothing put in later undoes it.
+    let mut faults = faults.to_vec();
+    faults.sort_by(|one, two| two.cmp(one));
+    for fault in &faults {
         let mut draft = Draft {
             rng,
             sheet: &mut sheet,
@@ -31,6 +34,7 @@ pub fn faulty(rng: &mut Rng, faults: &[Refusal]) -> Vec<u8> {
         }
     }
     let (mut bytes, bits) = encode_bits(&sheet);
+    let whole = bytes.len();
     if faults.contains(&Refusal::Tail) {
         tail(rng, &mut bytes, bits);
     }
@@ -38,7 +42,7 @@ pub fn faulty(rng: &mut Rng, faults: &[Refusal]) -> Vec<u8> {
         if rng.one_in(50) {
             bytes.resize(limit::SHEET_BYTES + 1, 0);
         } else {
-            bytes.truncate(rng.below(bytes.len()));
+            bytes.truncate(rng.below(whole));
         }
     }
     bytes
@@ -49,7 +53,7 @@ fn tail(rng: &mut Rng, bytes: &mut Vec<u8>, bits: usize) {
     if pad > 0 && rng.bit() {
         *bytes.last_mut().unwrap() |= 1 << rng.below(pad);
     } else {
-        let fill = if rng.bit() { 0 } else { rng.next() as u8 };
+        let fill = if rng.bit() { 0 } else { rng.next_u64() as u8 };
         bytes.resize(bytes.len() + rng.between(1, 3), fill);
     }
 }
@@ -62,7 +66,9 @@ enum Slot<'a> {
 
 fn each_slot(sheet: &mut Sheet, f: &mut impl FnMut(Slot)) {
     for item in &mut sheet.items {
-        item.namespace.iter_mut().for_each(|name| f(Slot::Name(name)));
+        item.namespace
+            .iter_mut()
+            .for_each(|name| f(Slot::Name(name)));
         f(Slot::Name(&mut item.name));
         if let Kind::Function(function) = &mut item.kind {
             f(Slot::Name(&mut function.rust_name));
@@ -91,7 +97,10 @@ fn each_type(sheet: &mut Sheet, f: &mut impl FnMut(&mut Type, usize)) {
             Kind::Struct { fields, .. } => fields.iter_mut().for_each(|ty| inside(ty, 1, f)),
             Kind::Function(function) => {
                 function.ret.iter_mut().for_each(|ty| inside(ty, 1, f));
-                function.args.iter_mut().for_each(|arg| inside(&mut arg.ty, 1, f));
+                function
+                    .args
+                    .iter_mut()
+                    .for_each(|arg| inside(&mut arg.ty, 1, f));
             }
             _ => {}
         }
@@ -169,7 +178,10 @@ impl Draft<'_> {
     /// Any item of the sort, or a new one.
     fn find(&mut self, sort: fn(&Kind) -> bool, new: fn() -> Kind) -> usize {
         let items = self.sheet.items.iter().enumerate();
-        let found: Vec<usize> = items.filter(|(_, item)| sort(&item.kind)).map(|(i, _)| i).collect();
+        let found: Vec<usize> = items
+            .filter(|(_, item)| sort(&item.kind))
+            .map(|(i, _)| i)
+            .collect();
         if found.is_empty() || self.rng.one_in(4) {
             self.push(new())
         } else {
@@ -222,7 +234,9 @@ impl Draft<'_> {
     /// Changes one type of the sheet, outermost ones only if asked.
     fn change_type(&mut self, outermost: bool, new: Type) {
         let mut count = 0;
-        each_type(self.sheet, &mut |_, depth| count += usize::from(!outermost || depth == 1));
+        each_type(self.sheet, &mut |_, depth| {
+            count += usize::from(!outermost || depth == 1)
+        });
         if count == 0 {
             let index = self.function();
             self.function_at(index).ret = Some(new);
@@ -342,7 +356,11 @@ impl Draft<'_> {
     }
 
     fn too_deep(&mut self) {
-        let depth = if self.rng.one_in(4) { self.rng.between(10, 12) } else { 9 };
+        let depth = if self.rng.one_in(4) {
+            self.rng.between(10, 12)
+        } else {
+            9
+        };
         let deep = type_of_depth(self.rng, &[], depth);
         self.change_type(true, deep);
     }

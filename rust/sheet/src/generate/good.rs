@@ -1,34 +1,46 @@
 //! Accepted sheets with rich contents.
 
 use crate::{
-    Arg, Form, Function, Item, ItemIndex, Kind, NameIndex, RUST_STRING, Rng, Sheet, Type, indirect,
-    limit, name, rules,
+    Arg, Form, Function, Item, ItemIndex, Kind, NameIndex, RUST_STRING, Rng, Sheet, Type, encode,
+    indirect, limit, name, rules,
 };
 
 /// Words that the rules, the crate or the grammar could trip over.
+#[rustfmt::skip]
 const WORDS: [&str; 40] = [
-    "a", "b", "c", "x", "_", "_x", "mill", "Job", "count", "main", "main", "self", "self", "error",
-    "error", "std", "rust", "u8", "String", "CxxString", "bool_", "T0", "T1", "Self", "return_",
-    "cxxbridge1", "operator_", "size", "layout", "namespace_", "f64", "f", "g", "value", "ptr",
-    "Vec", "Box", "Result", "void_", "concept",
+    "a", "b", "c", "x", "_", "_x", "mill", "Job", "count", "main", "main", "self", "self",
+    "error", "error", "std", "rust", "u8", "String", "CxxString", "bool_", "T0", "T1", "Self",
+    "return_", "cxxbridge1", "operator_", "size", "layout", "namespace_", "f64", "f", "g",
+    "value", "ptr", "Vec", "Box", "Result", "void_", "concept",
 ];
 
 /// A sheet that a check accepts.
 pub fn good(rng: &mut Rng) -> Sheet {
     loop {
-        let sheet = attempt(rng);
+        let items = match rng.below(24) {
+            0 => 0,
+            1 => rng.between(11, 40),
+            _ => rng.between(1, 10),
+        };
+        let sheet = attempt(rng, items);
         if rules(&sheet).is_ok() {
             return sheet;
         }
     }
 }
 
-fn attempt(rng: &mut Rng) -> Sheet {
-    let items = match rng.below(24) {
-        0 => 0,
-        1 => rng.between(11, 40),
-        _ => rng.between(1, 10),
-    };
+/// A sheet with many items that a check accepts.
+pub fn large(rng: &mut Rng) -> Sheet {
+    loop {
+        let items = rng.between(60, limit::ITEMS);
+        let sheet = attempt(rng, items);
+        if rules(&sheet).is_ok() && encode(&sheet).len() <= limit::SHEET_BYTES {
+            return sheet;
+        }
+    }
+}
+
+fn attempt(rng: &mut Rng, items: usize) -> Sheet {
     let sheet = Sheet {
         edition: 1,
         header: rng.one_in(4),
@@ -53,8 +65,9 @@ fn attempt(rng: &mut Rng) -> Sheet {
 fn name_table(rng: &mut Rng, items: usize) -> Vec<Vec<u8>> {
     let count = match rng.below(30) {
         0 if items == 0 => 0,
-        1 => rng.between(1, 2),
-        2 => rng.between(60, 200),
+        1 if items <= 40 => rng.between(1, 2),
+        2 if items <= 40 => rng.between(60, 200),
+        _ if items > 40 => items + rng.between(100, 400),
         _ => items + rng.between(3, 24),
     };
     let mut names: Vec<Vec<u8>> = Vec::new();
@@ -132,8 +145,11 @@ impl Draft<'_> {
         for _ in 0..self.rng.below(6) {
             let mut path = self.rng.pick(&self.paths).clone();
             path.truncate(self.rng.below(path.len() + 1));
-            let deeper = if self.rng.one_in(8) { 7 } else { self.rng.between(1, 2) };
-            while path.len() < limit::NAMESPACES && deeper > path.len() {
+            let depth = match self.rng.one_in(8) {
+                true => limit::NAMESPACES,
+                false => limit::NAMESPACES.min(path.len() + self.rng.between(1, 2)),
+            };
+            while path.len() < depth {
                 let name = self.name();
                 path.push(name);
             }
@@ -172,20 +188,44 @@ impl Draft<'_> {
             if !matches!(kind, Kind::Function(_)) {
                 self.types.push(index as ItemIndex);
             }
-            let namespace = self.rng.pick(&self.paths).clone();
-            let name = self.name();
-            self.sheet.items.push(Item {
-                namespace,
-                name,
+            let mut item = Item {
+                namespace: self.rng.pick(&self.paths).clone(),
+                name: self.name(),
                 kind,
-            });
+            };
+            // In a large sheet two items would often be alike.
+            for _ in 0..20 {
+                if items <= 40 || !self.is_alike(&item) {
+                    break;
+                }
+                item.name = self.name();
+                if let Kind::Function(function) = &mut item.kind {
+                    function.rust_name = item.name;
+                }
+            }
+            self.sheet.items.push(item);
         }
+    }
+
+    /// Whether an earlier item has the same namespace and the same name, for
+    /// functions the same Rust name.
+    fn is_alike(&self, item: &Item) -> bool {
+        let key = |item: &Item| match &item.kind {
+            Kind::Function(function) => (true, self.sheet.name(function.rust_name)),
+            _ => (false, self.sheet.name(item.name)),
+        };
+        let mut earlier = self.sheet.items.iter();
+        earlier.any(|other| other.namespace == item.namespace && key(other) == key(item))
     }
 
     fn body(&mut self, index: usize) {
         match self.sheet.items[index].kind {
             Kind::Struct { pointer, .. } => {
-                let count = if self.rng.one_in(40) { limit::FIELDS } else { self.rng.below(6) };
+                let count = if self.rng.one_in(40) {
+                    limit::FIELDS
+                } else {
+                    self.rng.below(6)
+                };
                 let fields = (0..count).map(|_| self.field(index)).collect();
                 self.sheet.items[index].kind = Kind::Struct { pointer, fields };
             }
@@ -323,7 +363,7 @@ pub fn type_of_depth(rng: &mut Rng, types: &[ItemIndex], depth: usize) -> Type {
                 0 => 0,
                 1 => u32::MAX,
                 2 => rng.below(100) as u32,
-                _ => rng.next() as u32,
+                _ => rng.next_u64() as u32,
             },
         },
     }
@@ -349,7 +389,11 @@ fn function_type(rng: &mut Rng, types: &[ItemIndex], depth: usize) -> Type {
     // One of the slots and the return has the full depth.
     let deepest = rng.below(slots + 1);
     let mut slot = |number: usize| {
-        let inside = if number == deepest { depth - 1 } else { rng.between(1, depth - 1) };
+        let inside = if number == deepest {
+            depth - 1
+        } else {
+            rng.between(1, depth - 1)
+        };
         type_of_depth(rng, types, inside)
     };
     let args = (0..slots).map(&mut slot).collect();

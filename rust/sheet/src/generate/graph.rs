@@ -43,7 +43,11 @@ pub fn graph(rng: &mut Rng) -> Sheet {
     sheet.names.push(b"n".to_vec());
     sheet.items = (0..count)
         .map(|i| Item {
-            namespace: if rng.one_in(3) { vec![count as NameIndex] } else { Vec::new() },
+            namespace: if rng.one_in(3) {
+                vec![count as NameIndex]
+            } else {
+                Vec::new()
+            },
             name: i as NameIndex,
             kind: Kind::Struct {
                 pointer: rng.bit(),

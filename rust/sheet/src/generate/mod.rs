@@ -6,9 +6,9 @@ mod fault;
 mod good;
 mod graph;
 
-pub use boundary::boundaries;
+pub use boundary::{boundaries, signatures};
 pub use fault::faulty;
-pub use good::good;
+pub use good::{good, large};
 pub use graph::graph;
 
 use crate::{Refusal, Rng, encode};
@@ -16,6 +16,7 @@ use crate::{Refusal, Rng, encode};
 /// Any sheet: about half of them are accepted.
 pub fn any(rng: &mut Rng) -> Vec<u8> {
     match rng.below(40) {
+        0 if rng.one_in(20) => encode(&large(rng)),
         0..=20 => encode(&good(rng)),
         21..=27 => {
             let refusal = *rng.pick(&Refusal::ALL);
@@ -40,12 +41,12 @@ pub fn damaged(rng: &mut Rng) -> Vec<u8> {
             0 => bytes.truncate(rng.below(bytes.len() + 1)),
             1 => {
                 let extra = rng.between(1, 3);
-                let fill = if rng.bit() { 0 } else { rng.next() as u8 };
+                let fill = if rng.bit() { 0 } else { rng.next_u64() as u8 };
                 bytes.resize(bytes.len() + extra, fill);
             }
             2 if !bytes.is_empty() => {
                 let at = rng.below(bytes.len());
-                bytes[at] = rng.next() as u8;
+                bytes[at] = rng.next_u64() as u8;
             }
             _ if !bytes.is_empty() => {
                 let at = rng.below(bytes.len());
@@ -59,7 +60,7 @@ pub fn damaged(rng: &mut Rng) -> Vec<u8> {
 
 /// A few random bytes, mostly behind a whole edition.
 fn noise(rng: &mut Rng) -> Vec<u8> {
-    let mut bytes: Vec<u8> = (0..rng.below(24)).map(|_| rng.next() as u8).collect();
+    let mut bytes: Vec<u8> = (0..rng.below(24)).map(|_| rng.next_u64() as u8).collect();
     if let Some(first) = bytes.first_mut()
         && !rng.one_in(8)
     {

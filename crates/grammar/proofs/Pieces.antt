@@ -1,0 +1,278 @@
+-- Pieces of a text in front of a rest that is laid out: `Layout ts r` gives `Layout (tokens x ts) (bytes of x, then r)`.
+-- A piece that is spelled out whole is one use of `literal`.
+use mathlib.Core.Path.{_≡_, refl, ap, _∙_, sym}
+use mathlib.Core.List.{List, [], _∷_, _++_, append-assoc, map}
+use mathlib.Core.Bool.{Bool, true, false, _&&_, _||_, not, false≢true}
+use Prim.Native.Nat.{ℕ}
+use lib.Dec.{eqb}
+use Rattle.lexical.specs.Bytes.{bytes, every, member}
+use Rattle.lexical.specs.Decimal.{decimal}
+use Rattle.lexical.specs.Names.{nameStart, nameChar, starts, reserved, isName}
+use Rattle.lexical.proofs.BoolLaws.{both, and-of, or-left, not-true, by-cases}
+use Rattle.lexical.proofs.ByteLaws.{byte-eq, every-cons, every-snoc, every-weaken}
+use Rattle.lexical.proofs.NameLaws.{name-starts, name-chars}
+use Rattle.grammar.specs.Token.{Token, word, mark, comment, wordChar, quoted}
+use Rattle.grammar.specs.Layout.{nonempty, endsIn, inLine, wellFormed, noWordChar, lineEnd, Layout, blank, token}
+use Rattle.grammar.specs.Types.{Name, Atom, bool, char, u8, u16, u32, u64, usize, i8, i16, i32, i64, isize}
+use Rattle.grammar.specs.Types.{f32, f64, cxxString, rustString, Template, box, vec, uniquePtr, sharedPtr}
+use Rattle.grammar.specs.Types.{weakPtr, vector, Suffix, reference, pointer, CxxType, suffixed}
+use Rattle.grammar.specs.Tree.{Operand, receiver, direct, intoRaw, release, address, heldAddress, slotAddress}
+use Rattle.grammar.specs.Tree.{Block, namespace, externC}
+use Rattle.grammar.specs.Tokens.{eachTokens, commaTokens, listTokens, pathTokens, atomTokens, templateTokens}
+use Rattle.grammar.specs.Tokens.{constTokens, suffixTokens, typeTokens, operandTokens, blockTokens}
+use Rattle.grammar.specs.Tokens.{closingComment}
+use Rattle.grammar.specs.Rules.{isSymbol, operandOk}
+use Rattle.grammar.proofs.LexedLayout.{some-snoc}
+use Rattle.grammar.proofs.Literal.{literal}
+use Rattle.grammar.proofs.Decimal.{decimal-word}
+
+-- words
+
+starts-some : (test : ℕ → Bool) (s : List ℕ) → starts test s ≡ true → nonempty s ≡ true
+starts-some test [] h = absurd (false≢true h)
+starts-some test (c ∷ s) h = refl
+
+pub name-word : (s : List ℕ) → isName s ≡ true → wellFormed (word s) ≡ true
+name-word s h =
+    and-of (nonempty s) (every wordChar s) (starts-some nameStart s (name-starts reserved s h))
+    (every-weaken nameChar wordChar (λ c e. or-left (nameChar c) (eqb c 36) e) s (name-chars reserved s h))
+
+pub symbol-word : (s : List ℕ) → isSymbol s ≡ true → wellFormed (word s) ≡ true
+unfolding isSymbol
+symbol-word s h =
+    let p = both (starts (λ c. nameStart c || eqb c 36) s) (every wordChar s && not (member s reserved)) h in
+    and-of (nonempty s) (every wordChar s) (starts-some (λ c. nameStart c || eqb c 36) s (p .0))
+    (both (every wordChar s) (not (member s reserved)) (p .1) .0)
+
+pub word-laid : (s : List ℕ) {ts : List Token} {r : List ℕ} → wellFormed (word s) ≡ true → noWordChar r ≡ true →
+    Layout ts r → Layout (word s ∷ ts) (s ++ r)
+word-laid s h e d = token {t = word s} h e d
+
+pub name-laid : (s : List ℕ) {ts : List Token} {r : List ℕ} → isName s ≡ true → noWordChar r ≡ true → Layout ts r →
+    Layout (word s ∷ ts) (s ++ r)
+name-laid s h e d = word-laid s (name-word s h) e d
+
+pub symbol-laid : (s : List ℕ) {ts : List Token} {r : List ℕ} → isSymbol s ≡ true → noWordChar r ≡ true → Layout ts r →
+    Layout (word s ∷ ts) (s ++ r)
+symbol-laid s h e d = word-laid s (symbol-word s h) e d
+
+dollar-word : (s : List ℕ) → isName s ≡ true → wellFormed (word (s ++ bytes "$")) ≡ true
+dollar-word s h =
+    and-of (nonempty (s ++ bytes "$")) (every wordChar (s ++ bytes "$")) (some-snoc s 36)
+    (every-snoc wordChar s 36 (both (nonempty s) (every wordChar s) (name-word s h) .1) refl)
+
+-- a name with a dollar behind it
+pub dollar-laid : (s : List ℕ) {ts : List Token} {r : List ℕ} → isName s ≡ true → noWordChar r ≡ true → Layout ts r →
+    Layout (word (s ++ bytes "$") ∷ ts) (s ++ (bytes "$" ++ r))
+dollar-laid s {ts} {r} h e d = rw (← append-assoc s (bytes "$") r) (word-laid (s ++ bytes "$") (dollar-word s h) e d)
+
+pub decimal-laid : (n : ℕ) {ts : List Token} {r : List ℕ} → noWordChar r ≡ true → Layout ts r →
+    Layout (word (decimal n) ∷ ts) (decimal n ++ r)
+decimal-laid n e d = word-laid (decimal n) (decimal-word n) e d
+
+-- full names, atoms, templates and suffixes
+
+abbrev pub pathBytes : List Name → List ℕ → List ℕ
+pathBytes [] r = r
+pathBytes (s ∷ path) r = bytes "::" ++ (s ++ pathBytes path r)
+
+path-free : (path : List Name) (r : List ℕ) → noWordChar r ≡ true → noWordChar (pathBytes path r) ≡ true
+path-free [] r e = e
+path-free (s ∷ path) r e = refl
+
+pub path-laid : (path : List Name) {ts : List Token} {r : List ℕ} → every isName path ≡ true → noWordChar r ≡ true →
+    Layout ts r → Layout (pathTokens path ts) (pathBytes path r)
+path-laid [] h e d = d
+path-laid (s ∷ path) {ts} {r} h e d =
+    let q = every-cons isName s path h in
+    literal (bytes "::") refl refl (name-laid s (q .0) (path-free path r e) (path-laid path (q .1) e d))
+
+abbrev pub atomBytes : Atom → List ℕ
+atomBytes bool = bytes "bool"
+atomBytes char = bytes "char"
+atomBytes u8 = bytes "::std::uint8_t"
+atomBytes u16 = bytes "::std::uint16_t"
+atomBytes u32 = bytes "::std::uint32_t"
+atomBytes u64 = bytes "::std::uint64_t"
+atomBytes usize = bytes "::std::size_t"
+atomBytes i8 = bytes "::std::int8_t"
+atomBytes i16 = bytes "::std::int16_t"
+atomBytes i32 = bytes "::std::int32_t"
+atomBytes i64 = bytes "::std::int64_t"
+atomBytes isize = bytes "::rust::isize"
+atomBytes f32 = bytes "float"
+atomBytes f64 = bytes "double"
+atomBytes cxxString = bytes "::std::string"
+atomBytes rustString = bytes "::rust::String"
+
+pub atom-laid : (a : Atom) {ts : List Token} {r : List ℕ} → noWordChar r ≡ true → Layout ts r →
+    Layout (atomTokens a ts) (atomBytes a ++ r)
+atom-laid bool e d = literal (atomBytes bool) refl e d
+atom-laid char e d = literal (atomBytes char) refl e d
+atom-laid u8 e d = literal (atomBytes u8) refl e d
+atom-laid u16 e d = literal (atomBytes u16) refl e d
+atom-laid u32 e d = literal (atomBytes u32) refl e d
+atom-laid u64 e d = literal (atomBytes u64) refl e d
+atom-laid usize e d = literal (atomBytes usize) refl e d
+atom-laid i8 e d = literal (atomBytes i8) refl e d
+atom-laid i16 e d = literal (atomBytes i16) refl e d
+atom-laid i32 e d = literal (atomBytes i32) refl e d
+atom-laid i64 e d = literal (atomBytes i64) refl e d
+atom-laid isize e d = literal (atomBytes isize) refl e d
+atom-laid f32 e d = literal (atomBytes f32) refl e d
+atom-laid f64 e d = literal (atomBytes f64) refl e d
+atom-laid cxxString e d = literal (atomBytes cxxString) refl e d
+atom-laid rustString e d = literal (atomBytes rustString) refl e d
+
+abbrev pub templateBytes : Template → List ℕ
+templateBytes box = bytes "::rust::Box<"
+templateBytes vec = bytes "::rust::Vec<"
+templateBytes uniquePtr = bytes "::std::unique_ptr<"
+templateBytes sharedPtr = bytes "::std::shared_ptr<"
+templateBytes weakPtr = bytes "::std::weak_ptr<"
+templateBytes vector = bytes "::std::vector<"
+
+pub template-laid : (t : Template) {ts : List Token} {r : List ℕ} → Layout ts r →
+    Layout (templateTokens t ts) (templateBytes t ++ r)
+template-laid box d = literal (templateBytes box) refl refl d
+template-laid vec d = literal (templateBytes vec) refl refl d
+template-laid uniquePtr d = literal (templateBytes uniquePtr) refl refl d
+template-laid sharedPtr d = literal (templateBytes sharedPtr) refl refl d
+template-laid weakPtr d = literal (templateBytes weakPtr) refl refl d
+template-laid vector d = literal (templateBytes vector) refl refl d
+
+abbrev pub constBytes : Bool → List ℕ
+constBytes true = bytes "const "
+constBytes false = []
+
+pub const-laid : (c : Bool) {ts : List Token} {r : List ℕ} → Layout ts r → Layout (constTokens c ts) (constBytes c ++ r)
+const-laid true d = literal (bytes "const ") refl refl d
+const-laid false d = d
+
+abbrev pub suffixBytes : Suffix → List ℕ → List ℕ
+suffixBytes (reference c) r = constBytes c ++ (bytes "&" ++ r)
+suffixBytes (pointer c) r = constBytes c ++ (bytes "*" ++ r)
+
+pub suffix-laid : (s : Suffix) {ts : List Token} {r : List ℕ} → Layout ts r → Layout (suffixTokens s ts) (suffixBytes s r)
+suffix-laid (reference c) d = const-laid c (literal (bytes "&") refl refl d)
+suffix-laid (pointer c) d = const-laid c (literal (bytes "*") refl refl d)
+
+-- a type with one more suffix
+abbrev pub withSuffix : Suffix → CxxType → CxxType
+withSuffix s (suffixed base suffixes) = suffixed base (suffixes ++ (s ∷ []))
+
+pub suffix-tokens : (s : Suffix) (x : CxxType) (ts : List Token) → typeTokens (withSuffix s x) ts ≡ typeTokens x (suffixTokens s ts)
+suffix-tokens s (suffixed base suffixes) ts = ap (λ (q : List Token). typeTokens (suffixed base []) q) (go suffixes)
+  where
+    go : (xs : List Suffix) → eachTokens suffixTokens (xs ++ (s ∷ [])) ts ≡ eachTokens suffixTokens xs (suffixTokens s ts)
+    go [] = refl
+    go (x ∷ xs) = ap (suffixTokens x) (go xs)
+
+-- lists: each in front of a rest, or with a comma and a space between
+
+module _ {X : Type 0} (spell : X → List ℕ → List ℕ) where
+  abbrev pub eachBytes : List X → List ℕ → List ℕ
+  eachBytes [] r = r
+  eachBytes (x ∷ xs) r = spell x (eachBytes xs r)
+
+  abbrev pub commaBytes : List X → List ℕ → List ℕ
+  commaBytes [] r = r
+  commaBytes (x ∷ xs) r = bytes ", " ++ spell x (commaBytes xs r)
+
+  abbrev pub listBytes : List X → List ℕ → List ℕ
+  listBytes [] r = r
+  listBytes (x ∷ xs) r = spell x (commaBytes xs r)
+
+  comma-free : (xs : List X) (r : List ℕ) → noWordChar r ≡ true → noWordChar (commaBytes xs r) ≡ true
+  comma-free [] r e = e
+  comma-free (x ∷ xs) r e = refl
+
+module _ {X Y : Type 0} (spell : X → List ℕ → List ℕ) (read : X → Y) (tokens : Y → List Token → List Token) (ok : X → Bool)
+  where
+    pub each-laid : ((x : X) (ts : List Token) (r : List ℕ) → ok x ≡ true → Layout ts r → Layout (tokens (read x) ts) (spell x r)) →
+        (xs : List X) {ts : List Token} {r : List ℕ} → every ok xs ≡ true → Layout ts r →
+        Layout (eachTokens tokens (map read xs) ts) (eachBytes spell xs r)
+    each-laid step [] h d = d
+    each-laid step (x ∷ xs) h d = let q = every-cons ok x xs h in step x _ _ (q .0) (each-laid step xs (q .1) d)
+
+    module _ (step : (x : X) (ts : List Token) (r : List ℕ) → ok x ≡ true → noWordChar r ≡ true → Layout ts r →
+        Layout (tokens (read x) ts) (spell x r)) where
+      comma-laid : (xs : List X) {ts : List Token} {r : List ℕ} → every ok xs ≡ true → noWordChar r ≡ true → Layout ts r →
+          Layout (commaTokens tokens (map read xs) ts) (commaBytes spell xs r)
+      comma-laid [] h e d = d
+      comma-laid (x ∷ xs) {ts} {r} h e d =
+          let q = every-cons ok x xs h in
+          literal (bytes ", ") refl refl (step x _ _ (q .0) (comma-free spell xs r e) (comma-laid xs (q .1) e d))
+
+      pub list-laid : (xs : List X) {ts : List Token} {r : List ℕ} → every ok xs ≡ true → noWordChar r ≡ true → Layout ts r →
+          Layout (listTokens tokens (map read xs) ts) (listBytes spell xs r)
+      list-laid [] h e d = d
+      list-laid (x ∷ xs) {ts} {r} h e d =
+          let q = every-cons ok x xs h in step x _ _ (q .0) (comma-free spell xs r e) (comma-laid xs (q .1) e d)
+
+-- operands
+
+abbrev pub operandBytes : Operand → List ℕ → List ℕ
+operandBytes receiver r = bytes "*this" ++ r
+operandBytes (direct x) r = x ++ r
+operandBytes (intoRaw x) r = x ++ (bytes ".into_raw()" ++ r)
+operandBytes (release x) r = x ++ (bytes ".release()" ++ r)
+operandBytes (address x) r = bytes "&" ++ (x ++ r)
+operandBytes (heldAddress x) r = bytes "&" ++ (x ++ (bytes "$" ++ (bytes ".value" ++ r)))
+operandBytes slotAddress r = bytes "&return$.value" ++ r
+
+pub operand-laid : (x : Operand) {ts : List Token} {r : List ℕ} → operandOk x ≡ true → noWordChar r ≡ true → Layout ts r →
+    Layout (operandTokens x ts) (operandBytes x r)
+unfolding operandOk
+operand-laid receiver h e d = literal (bytes "*this") refl e d
+operand-laid (direct x) h e d = name-laid x h e d
+operand-laid (intoRaw x) h e d = name-laid x h refl (literal (bytes ".into_raw()") refl refl d)
+operand-laid (release x) h e d = name-laid x h refl (literal (bytes ".release()") refl refl d)
+operand-laid (address x) h e d = literal (bytes "&") refl refl (name-laid x h e d)
+operand-laid (heldAddress x) h e d = literal (bytes "&") refl refl (dollar-laid x h refl (literal (bytes ".value") refl e d))
+operand-laid slotAddress h e d = literal (bytes "&return$.value") refl e d
+
+-- comments and blocks
+
+pub comment-laid : (s : List ℕ) {ts : List Token} {r : List ℕ} → every inLine s ≡ true → endsIn 92 s ≡ false → Layout ts r →
+    Layout (comment s ∷ ts) (bytes "//" ++ (s ++ (bytes "\n" ++ r)))
+comment-laid s h e d = token {t = comment s} (and-of (every inLine s) (not (endsIn 92 s)) h (rw e)) refl (blank refl d)
+
+-- a character that fails a test is none that passes it
+other : (test : ℕ → Bool) (d : ℕ) → test d ≡ false → (c : ℕ) → test c ≡ true → eqb c d ≡ false
+other test d f c h =
+    by-cases (eqb c d) (λ e. absurd (false≢true (sym f ∙ ap test (sym (byte-eq c d e)) ∙ h))) (λ e. e)
+
+name-in-line : (c : ℕ) → nameChar c ≡ true → inLine c ≡ true
+name-in-line c h = rw (other nameChar 10 refl c h)
+
+-- what ends in a name does not end in a backslash
+no-splice : (a : ℕ) (x : List ℕ) → every nameChar x ≡ true → eqb a 92 ≡ false → endsIn 92 (a ∷ x) ≡ false
+no-splice a [] h e = e
+no-splice a (c ∷ x) h e = let q = every-cons nameChar c x h in no-splice c x (q .1) (other nameChar 92 refl c (q .0))
+
+abbrev pub blockOk : Block → Bool
+blockOk (namespace x) = isName x
+blockOk externC = true
+
+abbrev pub blockBytes : Block → List ℕ → List ℕ
+blockBytes (namespace x) r = bytes "namespace " ++ (x ++ r)
+blockBytes externC r = bytes "extern \"C\"" ++ r
+
+pub open-laid : (b : Block) {ts : List Token} {r : List ℕ} → blockOk b ≡ true → Layout ts r →
+    Layout (blockTokens b (quoted "{" ts)) (blockBytes b (bytes " {\n" ++ r))
+open-laid (namespace x) h d = literal (bytes "namespace ") refl refl (name-laid x h refl (literal (bytes " {\n") refl refl d))
+open-laid externC h d = literal (bytes "extern \"C\" {\n") refl refl d
+
+closing-in-line : (b : Block) → blockOk b ≡ true → every inLine (closingComment b) ≡ true
+unfolding every
+closing-in-line (namespace x) h = every-weaken nameChar inLine name-in-line x (name-chars reserved x h)
+closing-in-line externC h = refl
+
+closing-unspliced : (b : Block) → blockOk b ≡ true → endsIn 92 (closingComment b) ≡ false
+closing-unspliced (namespace x) h = no-splice 32 x (name-chars reserved x h) refl
+closing-unspliced externC h = refl
+
+pub close-laid : (b : Block) {ts : List Token} {r : List ℕ} → blockOk b ≡ true → Layout ts r →
+    Layout (quoted "}" (comment (closingComment b) ∷ ts)) (bytes "} //" ++ (closingComment b ++ (bytes "\n" ++ r)))
+close-laid b h d = literal (bytes "} ") refl refl (comment-laid (closingComment b) (closing-in-line b h) (closing-unspliced b h) d)

@@ -1,0 +1,174 @@
+-- The parser gives back each text from its tokens.
+use mathlib.Core.Path.{_≡_, refl, ap, _∙_, sym}
+use mathlib.Core.List.{List, [], _∷_, _++_}
+use mathlib.Core.Bool.{Bool, true, false, _&&_, _||_, not, false≢true}
+use mathlib.Core.Option.{Option, none, some}
+use Prim.Native.Nat.{ℕ, zero, suc, _≤_, _+_}
+use native.Mathlib.Omega.{arith}
+use lib.Dec.{ltb}
+use Rattle.lexical.specs.Bytes.{bytes, same}
+use Rattle.lexical.specs.Names.{isName}
+use Rattle.lexical.proofs.BoolLaws.{both}
+use Rattle.grammar.specs.Token.{Token, word, mark, comment, quoted}
+use Rattle.grammar.specs.Types.{Name, Atom}
+use Rattle.grammar.specs.Tree.{Item, Block, namespace, externC, Body, bodyEnd, item, block, Line, structLine}
+use Rattle.grammar.specs.Tree.{enumLine, usingLine, Forward, forwardEnd, line, bareNamespace, Text, text}
+use Rattle.grammar.specs.Tokens.{pathTokens, atomTokens, itemTokens, blockTokens, closingComment, bodyTokens}
+use Rattle.grammar.specs.Tokens.{lineTokens, forwardTokens, textTokens}
+use Rattle.grammar.specs.Rules.{maxNamespaces, itemOk, bodyOk, forwardOk, textOk}
+use Rattle.grammar.proofs.Parser.{sameToken, begins, Parser, fork, need, wordP, commentP, pathP, startP, onAtom, itemP, Next}
+use Rattle.grammar.proofs.Parser.{nextEnd, nextBlock, nextItem, next, onNext, blockP, bodyP, atHead, isForward}
+use Rattle.grammar.proofs.Parser.{lineP, forwardP, textP}
+use Rattle.grammar.proofs.TypeBack.{path-back, atom-back}
+use Rattle.grammar.proofs.ItemBack.{itemSize, item-back, item-first}
+
+-- bodies
+
+abbrev pub bodySize : Body → ℕ
+bodySize bodyEnd = 1
+bodySize (item i after) = suc (itemSize i + bodySize after)
+bodySize (block b inside after) = suc (bodySize inside + bodySize after)
+
+item-next : (i : Item) (depth : ℕ) (c : Bool) → itemOk depth c i ≡ true → (r : List Token) → next (itemTokens i r) ≡ nextItem
+unfolding same
+item-next =
+    item-first (λ r. next r ≡ nextItem) (λ r. refl) (λ r. (refl, refl, refl, refl)) (λ r. (refl, refl)) (λ s r. refl)
+
+-- the rules of the two bodies of a block
+block-rules : (b : Block) (inside after : Body) (depth : ℕ) (c : Bool) → bodyOk depth c (block b inside after) ≡ true →
+    (d : ℕ) × (e : Bool) × (bodyOk d e inside ≡ true) × (bodyOk depth c after ≡ true)
+unfolding bodyOk
+block-rules (namespace x) inside after depth c o =
+    let p = both (isName x) (ltb depth maxNamespaces && (bodyOk (suc depth) c inside && bodyOk depth c after)) o in
+    let q = both (ltb depth maxNamespaces) (bodyOk (suc depth) c inside && bodyOk depth c after) (p .1) in
+    let s = both (bodyOk (suc depth) c inside) (bodyOk depth c after) (q .1) in
+    (suc depth, c, s .0, s .1)
+block-rules externC inside after depth c o =
+    let s = both (bodyOk depth true inside) (bodyOk depth c after) o in (depth, true, s .0, s .1)
+
+module _ {A : Type 0} where
+  -- the parser reads a block's head and goes on inside
+  block-back : (b : Block) (n : ℕ) (r : List Token) (k : Body → List Token → Option A) →
+      bodyP (suc n) (blockTokens b (quoted "{" r)) k
+      ≡ bodyP n r (λ inside r. need "}" r (λ r. commentP r (λ s r.
+      bodyP n r (λ after r. k (block b inside after) r))))
+  unfolding same
+  block-back (namespace x) n r k = refl
+  block-back externC n r k = refl
+
+  body-back : (b : Body) (n depth : ℕ) (c : Bool) → bodySize b ≤ n → bodyOk depth c b ≡ true → (r : List Token) →
+      next r ≡ nextEnd → (k : Body → List Token → Option A) → bodyP n (bodyTokens b r) k ≡ k b r
+  unfolding same bodyOk
+  body-back bodyEnd zero depth c l o r h k = absurd (omega arith)
+  body-back bodyEnd (suc n) depth c l o r h k = rw h
+  body-back (item i after) zero depth c l o r h k = absurd (omega arith)
+  body-back (item i after) (suc n) depth c l o r h k =
+      let q = both (itemOk depth c i) (bodyOk depth c after) o in
+      rw (item-next i depth c (q .0) (bodyTokens after r))
+      (item-back i n depth c (omega arith) (q .0) (bodyTokens after r) _ ∙ body-back after n depth c (omega arith) (q .1) r h _)
+  body-back (block b inside after) zero depth c l o r h k = absurd (omega arith)
+  body-back (block b inside after) (suc n) depth c l o r h k =
+      let q = block-rules b inside after depth c o in
+      block-back b n _ k
+      ∙ body-back inside n (q .0) (q .1) (omega arith) (q .2) (quoted "}" (comment (closingComment b) ∷ bodyTokens after r)) refl _
+      ∙ body-back after n depth c (omega arith) (q .3) r h _
+
+-- no body is taken for a forward part
+item-not-forward : (i : Item) (depth : ℕ) (c : Bool) → itemOk depth c i ≡ true → (r : List Token) →
+    isForward atHead (itemTokens i r) ≡ false
+unfolding same
+item-not-forward =
+    item-first (λ r. isForward atHead r ≡ false) (λ r. refl) (λ r. (refl, refl, refl, refl)) (λ r. (refl, refl)) (λ s r. refl)
+
+body-not-forward : (b : Body) (depth : ℕ) (c : Bool) → bodyOk depth c b ≡ true → (r : List Token) →
+    isForward atHead r ≡ false → isForward atHead (bodyTokens b r) ≡ false
+unfolding same bodyOk
+body-not-forward bodyEnd depth c o r h = h
+body-not-forward (item i after) depth c o r h =
+    item-not-forward i depth c (both (itemOk depth c i) (bodyOk depth c after) o .0) (bodyTokens after r)
+body-not-forward (block (namespace x) inside after) depth c o r h =
+    let q = block-rules (namespace x) inside after depth c o in
+    body-not-forward inside (q .0) (q .1) (q .2) (quoted "}" (comment (closingComment (namespace x)) ∷ bodyTokens after r)) refl
+body-not-forward (block externC inside after) depth c o r h = refl
+
+-- forward parts
+
+-- at some depth a namespace has a line
+abbrev pub HasLine : Forward → Type 0
+HasLine forwardEnd = ⊥
+HasLine (line l after) = Unit {0}
+HasLine (bareNamespace x inside after) = HasLine inside
+
+abbrev pub Filled : Forward → Type 0
+Filled forwardEnd = Unit {0}
+Filled (line l after) = Filled after
+Filled (bareNamespace x inside after) = HasLine inside × Filled inside × Filled after
+
+abbrev pub forwardSize : Forward → ℕ
+forwardSize forwardEnd = 1
+forwardSize (line l after) = suc (forwardSize after)
+forwardSize (bareNamespace x inside after) = suc (forwardSize inside + forwardSize after)
+
+line-forward : (l : Line) (r : List Token) → isForward atHead (lineTokens l r) ≡ true
+unfolding same
+line-forward (structLine x) r = refl
+line-forward (enumLine x a) r = refl
+line-forward (usingLine x p) r = refl
+
+has-line : (f : Forward) (r : List Token) → HasLine f → isForward atHead (forwardTokens f r) ≡ true
+unfolding same
+has-line forwardEnd r h = absurd h
+has-line (line l after) r h = line-forward l (forwardTokens after r)
+has-line (bareNamespace x inside after) r h = has-line inside (quoted "}" (forwardTokens after r)) h
+
+module _ {A : Type 0} where
+  line-back : (l : Line) (r : List Token) (k : Line → List Token → Option A) → lineP (lineTokens l r) k ≡ k l r
+  unfolding same lineP
+  line-back (structLine x) r k = refl
+  line-back (enumLine x a) r k = atom-back (λ r k. none) (λ r k. none) a (quoted ";" r) _ refl
+  line-back (usingLine x p) r k = path-back p (quoted ";" r) _ refl
+
+  line-step : (l : Line) (n : ℕ) (r : List Token) (k : Forward → List Token → Option A) →
+      forwardP (suc n) (lineTokens l r) k ≡ lineP (lineTokens l r) (λ l r. forwardP n r (λ after r. k (line l after) r))
+  unfolding same
+  line-step (structLine x) n r k = refl
+  line-step (enumLine x a) n r k = refl
+  line-step (usingLine x p) n r k = refl
+
+  forward-back : (f : Forward) (n : ℕ) → forwardSize f ≤ n → Filled f → (r : List Token) → isForward atHead r ≡ false →
+      (k : Forward → List Token → Option A) → forwardP n (forwardTokens f r) k ≡ k f r
+  unfolding same
+  forward-back forwardEnd zero l o r h k = absurd (omega arith)
+  forward-back forwardEnd (suc n) l o r h k = rw (h, forwardP)
+  forward-back (line x after) zero l o r h k = absurd (omega arith)
+  forward-back (line x after) (suc n) l o r h k =
+      line-step x n (forwardTokens after r) k ∙ line-back x (forwardTokens after r) _ ∙ forward-back after n (omega arith) o r h _
+  forward-back (bareNamespace x inside after) zero l o r h k = absurd (omega arith)
+  forward-back (bareNamespace x inside after) (suc n) l o r h k =
+      rw (has-line inside (quoted "}" (forwardTokens after r)) (o .0), forwardP)
+      (forward-back inside n (omega arith) (o .1) (quoted "}" (forwardTokens after r)) refl _
+      ∙ forward-back after n (omega arith) (o .2) r h _)
+
+-- the whole
+
+abbrev pub textSize : Text → ℕ
+textSize (text f b) = forwardSize f + bodySize b
+
+abbrev pub TextFilled : Text → Type 0
+TextFilled (text f b) = Filled f
+
+text-back : (t : Text) (n : ℕ) → textSize t ≤ n → textOk t ≡ true → TextFilled t → textP n (textTokens t) ≡ some t
+unfolding same textP textOk
+text-back (text f b) n l o h =
+    let q : bodyOk 0 false b ≡ true = both (forwardOk 0 f) (bodyOk 0 false b) o .1 in
+    forward-back f n (omega arith) h (bodyTokens b []) (body-not-forward b 0 false q [] refl) _
+    ∙ body-back b n 0 false (omega arith) q [] refl _
+
+pub told-by-tokens : (t u : Text) → textOk t ≡ true → textOk u ≡ true → TextFilled t → TextFilled u →
+    textTokens t ≡ textTokens u → t ≡ u
+told-by-tokens t u o p h i e =
+    let n : ℕ = textSize t + textSize u in
+    let f = text-back t n (omega arith) o h in
+    let g = text-back u n (omega arith) p i in
+    let q : some t ≡ some u = sym f ∙ ap (textP n) e ∙ g in
+    cc

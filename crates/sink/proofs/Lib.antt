@@ -1,0 +1,4 @@
+pub mod SinkLaws
+mod StoreLaws
+mod DigitLaws
+pub mod ServiceLaws

@@ -1,0 +1,37 @@
+//! Generated sheets: the check, the plain reader and the crate agree.
+
+use oracle::compare::compare;
+use sheet::{Rng, desc, generate};
+
+#[test]
+fn limits_and_signatures() {
+    if oracle::skipped() {
+        return;
+    }
+    let fixed = generate::boundaries().into_iter();
+    for (label, sheet) in fixed.chain(generate::signatures()) {
+        if let Err(error) = compare(&sheet) {
+            panic!("{label}: {error}");
+        }
+    }
+}
+
+#[test]
+fn twenty_thousand_sheets() {
+    if oracle::skipped() {
+        return;
+    }
+    let mut rng = Rng::new(20_000);
+    let mut answers = [0; 13];
+    for _ in 0..20_000 {
+        let sheet = generate::any(&mut rng);
+        match compare(&sheet) {
+            Ok(outcome) => answers[usize::from(outcome.answer)] += 1,
+            Err(error) => panic!("{error}\n{}", desc::hex(&sheet)),
+        }
+    }
+    assert!(
+        answers[0] > 9_000 && answers.iter().all(|count| *count > 200),
+        "{answers:?}"
+    );
+}

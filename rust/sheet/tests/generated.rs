@@ -1,0 +1,237 @@
+//! The two readers, the encoder and the generator against one another.
+
+use sheet::generate::{any, boundaries, damaged, faulty, good, graph};
+use sheet::{Kind, Refusal, Rng, Type, check, decode, desc, encode, limit, read};
+use std::collections::HashSet;
+
+/// The answer, on which both readers agree.
+#[track_caller]
+fn answer(bytes: &[u8]) -> u8 {
+    let plain = read(bytes).err().map_or(0, |refusal| refusal.number());
+    assert_eq!(check(bytes), plain, "{}", desc::hex(bytes));
+    plain
+}
+
+#[test]
+fn good_sheets_are_accepted_and_come_back() {
+    let mut rng = Rng::new(1);
+    for _ in 0..8_000 {
+        let sheet = good(&mut rng);
+        let bytes = encode(&sheet);
+        assert_eq!(answer(&bytes), 0);
+        assert_eq!(decode(&bytes).unwrap(), sheet);
+    }
+}
+
+#[test]
+fn a_single_fault_is_the_answer() {
+    let mut rng = Rng::new(2);
+    for refusal in Refusal::ALL {
+        for _ in 0..1_000 {
+            let bytes = faulty(&mut rng, &[refusal]);
+            assert_eq!(answer(&bytes), refusal.number(), "{}", desc::hex(&bytes));
+        }
+    }
+}
+
+#[test]
+fn two_faults_follow_the_priorities() {
+    let mut rng = Rng::new(3);
+    for one in Refusal::ALL {
+        for two in Refusal::ALL {
+            for _ in 0..60 {
+                let bytes = faulty(&mut rng, &[one, two]);
+                let given = answer(&bytes);
+                let lower = one.min(two).number();
+                if one.max(two) > Refusal::Tail {
+                    assert_eq!(given, lower, "{one:?} {two:?} {}", desc::hex(&bytes));
+                } else {
+                    // The first field at fault decides.
+                    let either = [one.number(), two.number()];
+                    assert!(either.contains(&given), "{one:?} {two:?} gave {given}");
+                }
+            }
+        }
+    }
+}
+
+#[test]
+fn both_readers_agree_on_damage_and_graphs() {
+    let mut rng = Rng::new(4);
+    for _ in 0..8_000 {
+        answer(&damaged(&mut rng));
+        answer(&any(&mut rng));
+    }
+    let graphs = (0..1_000).map(|_| answer(&encode(&graph(&mut rng))));
+    let rings = graphs.filter(|answer| *answer == 12).count();
+    assert!((100..500).contains(&rings), "{rings}");
+}
+
+#[test]
+fn every_cut_of_a_good_sheet_is_1() {
+    let mut rng = Rng::new(5);
+    for _ in 0..50 {
+        let bytes = encode(&good(&mut rng));
+        for len in 0..bytes.len() {
+            assert_eq!(answer(&bytes[..len]), 1);
+        }
+    }
+}
+
+#[test]
+fn short_sheets_of_edition_1() {
+    for first in 0x10..0x20 {
+        for rest in 0..=u16::MAX {
+            let [second, third] = rest.to_be_bytes();
+            answer(&[first, second, third]);
+        }
+    }
+}
+
+#[test]
+fn limits() {
+    let boundaries = boundaries();
+    let find = |label: &str| {
+        let found = boundaries.iter().find(|(other, _)| other == label);
+        &found.expect("such a boundary").1
+    };
+    for (label, bytes) in &boundaries {
+        let given = answer(bytes);
+        let expected = if label.contains("depth 10") {
+            6
+        } else if label.contains("type kind") {
+            5
+        } else if label.contains("depth 9") {
+            6
+        } else if label.contains("past the end") || label.contains("no name") {
+            4
+        } else {
+            continue;
+        };
+        assert_eq!(given, expected, "{label}");
+    }
+    for label in [
+        "0 names",
+        "1 names",
+        "2 names",
+        "3 names",
+        "1023 names",
+        "255 items",
+        "31 arguments",
+        "31 arguments of a method",
+        "63 fields",
+        "15 slots in a Fn",
+        "7 namespaces",
+        "name of 63 characters",
+        "31 comment lines of 127, Doxygen true",
+        "array of 4294967295",
+        "wrapper 0 at depth 8",
+        "32,768 bytes",
+    ] {
+        assert_eq!(answer(find(label)), 0, "{label}");
+    }
+    assert_eq!(find("32,768 bytes").len(), limit::SHEET_BYTES);
+    for label in [
+        "32,768 bytes and one more",
+        "32,769 bytes",
+        "32,769 bytes of edition 0",
+    ] {
+        assert_eq!(find(label).len(), limit::SHEET_BYTES + 1);
+        assert_eq!(answer(find(label)), 1, "{label}");
+    }
+    assert_eq!(answer(find("32,768 bytes of edition 0")), 2);
+}
+
+#[test]
+fn descriptions_come_back() {
+    let mut rng = Rng::new(6);
+    let mut compared = 0;
+    for _ in 0..3_000 {
+        let sheet = good(&mut rng);
+        let printed = desc::print(&sheet);
+        let parsed = desc::parse(&printed).unwrap();
+        // Equal names become one, so print once more.
+        assert_eq!(desc::print(&parsed), printed);
+        let mut names = sheet.names.clone();
+        names.sort();
+        names.dedup();
+        if names.len() == sheet.names.len() {
+            assert_eq!(parsed, sheet);
+            compared += 1;
+        }
+    }
+    assert!(compared > 100);
+}
+
+/// Every type kind stands at every place: as a field, argument or return, at
+/// every depth, and inside every other kind.
+#[test]
+fn good_sheets_have_every_type_everywhere() {
+    let mut seen = Seen::default();
+    let mut rng = Rng::new(7);
+    for _ in 0..8_000 {
+        let sheet = good(&mut rng);
+        for item in &sheet.items {
+            match &item.kind {
+                Kind::Struct { fields, .. } => fields.iter().for_each(|ty| seen.top("field", ty)),
+                Kind::Function(function) => {
+                    function.ret.iter().for_each(|ty| seen.top("return", ty));
+                    function
+                        .args
+                        .iter()
+                        .for_each(|arg| seen.top("argument", &arg.ty));
+                }
+                _ => {}
+            }
+        }
+    }
+    let kinds = (0..15).filter(|kind| *kind != 12);
+    let places = [("field", 14), ("return", 14), ("argument", 13)];
+    for (place, count) in places {
+        assert_eq!(
+            kinds
+                .clone()
+                .filter(|kind| seen.places.contains(&(place, *kind)))
+                .count(),
+            count
+        );
+    }
+    let leaves = [0, 1, 9];
+    for kind in kinds.clone() {
+        for depth in 1..=limit::TYPE_DEPTH {
+            let fits = depth < limit::TYPE_DEPTH || leaves.contains(&kind) || kind == 11;
+            assert_eq!(
+                seen.depths.contains(&(depth, kind)),
+                fits,
+                "{kind} at {depth}"
+            );
+        }
+        if !leaves.contains(&kind) {
+            for inner in kinds.clone() {
+                assert!(seen.inside.contains(&(kind, inner)), "{inner} in {kind}");
+            }
+        }
+    }
+}
+
+#[derive(Default)]
+struct Seen {
+    places: HashSet<(&'static str, u8)>,
+    depths: HashSet<(usize, u8)>,
+    inside: HashSet<(u8, u8)>,
+}
+
+impl Seen {
+    fn top(&mut self, place: &'static str, ty: &Type) {
+        self.places.insert((place, ty.number()));
+        self.visit(1, ty);
+    }
+
+    fn visit(&mut self, depth: usize, ty: &Type) {
+        self.depths.insert((depth, ty.number()));
+        ty.each_inner(&mut |inner| {
+            self.inside.insert((ty.number(), inner.number()));
+            self.visit(depth + 1, inner);
+        });
+    }
+}
