@@ -147,7 +147,6 @@ pub worked-reads : Reads workedTree worked
 worked-reads = readings .0
 
 pub worked-once : OneReading worked
-unfolding same
 worked-once = one-reading workedTree worked worked-reads refl
 
 -- a text in which a call hands its operands on in another order is read too, and also has no other reading
@@ -155,7 +154,6 @@ pub swapped-reads : Reads swappedTree swapped
 swapped-reads = readings .1
 
 pub swapped-once : OneReading swapped
-unfolding same
 swapped-once = one-reading swappedTree swapped swapped-reads refl
 
 pub ambiguous : Reads inForward twofold × Reads inBody twofold × (inForward ≡ inBody → ⊥)

@@ -9,5 +9,6 @@ pub mod ListBack
 pub mod ItemBack
 pub mod TextBack
 pub mod Pieces
+pub mod Braces
 pub mod Unique
 pub mod Examples

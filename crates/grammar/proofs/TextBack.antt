@@ -35,7 +35,7 @@ item-next =
     item-first (λ r. next r ≡ nextItem) (λ r. refl) (λ r. (refl, refl, refl, refl)) (λ r. (refl, refl)) (λ s r. refl)
 
 -- the rules of the two bodies of a block
-block-rules : (b : Block) (inside after : Body) (depth : ℕ) (c : Bool) → bodyOk depth c (block b inside after) ≡ true →
+pub block-rules : (b : Block) (inside after : Body) (depth : ℕ) (c : Bool) → bodyOk depth c (block b inside after) ≡ true →
     (d : ℕ) × (e : Bool) × (bodyOk d e inside ≡ true) × (bodyOk depth c after ≡ true)
 unfolding bodyOk
 block-rules (namespace x) inside after depth c o =
