@@ -11,4 +11,5 @@ pub mod TextBack
 pub mod Pieces
 pub mod Braces
 pub mod Unique
+pub mod Forms
 pub mod Examples
