@@ -43,9 +43,12 @@ maxComments = 31
 abbrev pub maxCommentLength : ℕ
 maxCommentLength = 128
 
--- an identifier of ISO C++ [lex.name], with `$` as a letter
+abbrev pub symbolStart : ℕ → Bool
+symbolStart c = nameStart c || eqb c 36
+
+-- an identifier of ISO C++ [lex.name], where "`$` counts as a letter"
 unfoldable pub isSymbol : List ℕ → Bool
-isSymbol s = starts (λ c. nameStart c || eqb c 36) s && (every wordChar s && not (member s reserved))
+isSymbol s = starts symbolStart s && (every wordChar s && not (member s reserved))
 
 -- types
 
