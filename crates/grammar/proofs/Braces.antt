@@ -1,31 +1,29 @@
 -- Texts in which no `{` stands directly before `}`: those whose namespaces and extern "C" blocks all have content.
-use mathlib.Core.Path.{_≡_, refl, ap, _∙_, sym}
-use mathlib.Core.List.{List, [], _∷_, _++_}
-use mathlib.Core.Bool.{Bool, true, false, _&&_, _||_, not, false≢true}
-use Prim.Native.Nat.{ℕ, suc}
-use lib.Dec.{ltb}
+use mathlib.Core.Path.{_≡_, refl, _∙_}
+use mathlib.Core.List.{List, [], _∷_}
+use mathlib.Core.Bool.{Bool, true, false, _&&_, not, false≢true}
+use Prim.Native.Nat.{ℕ}
 use Rattle.lexical.specs.Bytes.{same}
-use Rattle.lexical.specs.Names.{isName}
-use Rattle.lexical.proofs.BoolLaws.{both, and-of}
+use Rattle.lexical.proofs.BoolLaws.{both}
 use Rattle.grammar.specs.Token.{Token, word, mark, comment, quoted}
 use Rattle.grammar.specs.Types.{Name, Atom, bool, char, u8, u16, u32, u64, usize, i8, i16, i32, i64, isize}
 use Rattle.grammar.specs.Types.{f32, f64, cxxString, rustString, Template, box, vec, uniquePtr, sharedPtr}
 use Rattle.grammar.specs.Types.{weakPtr, vector, Suffix, reference, pointer, CxxType, suffixed, Base, atom, str}
 use Rattle.grammar.specs.Types.{full, template, slice, array, voidFn, fn, CxxTypes, nil, cons}
-use Rattle.grammar.specs.Tree.{Result, void, ptrLen, fat, int, value, Parameter, named, slot, Declaration}
-use Rattle.grammar.specs.Tree.{Measure, size, align, LayoutDefinition, Head, free, method, Local, held, room}
+use Rattle.grammar.specs.Tree.{Result, void, ptrLen, fat, int, value, Parameter, named, slot}
+use Rattle.grammar.specs.Tree.{Measure, size, align, Head, free, method, Local, held, room}
 use Rattle.grammar.specs.Tree.{Operand, receiver, direct, intoRaw, release, address, heldAddress, slotAddress}
 use Rattle.grammar.specs.Tree.{CallForm, bare, error, returned, dereferenced, inFromRaw, inUniquePtr}
-use Rattle.grammar.specs.Tree.{inNewUnchecked, inSlice, Call, Ending, noReturn, returnSlot, moveSlot, Shim, Item}
+use Rattle.grammar.specs.Tree.{inNewUnchecked, inSlice, Call, Ending, noReturn, returnSlot, moveSlot, Item}
 use Rattle.grammar.specs.Tree.{declares, defines, shim, Block, namespace, externC, Body, bodyEnd, item, block}
 use Rattle.grammar.specs.Tree.{Line, structLine, enumLine, usingLine, Forward, forwardEnd, line, bareNamespace}
 use Rattle.grammar.specs.Tree.{Text, text}
 use Rattle.grammar.specs.Tokens.{eachTokens, commaTokens, listTokens, optional, pathTokens, atomTokens}
 use Rattle.grammar.specs.Tokens.{templateTokens, constTokens, suffixTokens, typeTokens, baseTokens, typesTokens}
 use Rattle.grammar.specs.Tokens.{moreTypesTokens, resultTokens, parameterTokens, headTokens, signatureTokens}
-use Rattle.grammar.specs.Tokens.{declarationTokens, measureTokens, layoutTokens, operandTokens, localTokens}
+use Rattle.grammar.specs.Tokens.{measureTokens, operandTokens, localTokens}
 use Rattle.grammar.specs.Tokens.{formTokens, closeTokens, callTokens, errorTestTokens, endingTokens, commentTokens}
-use Rattle.grammar.specs.Tokens.{shimTokens, itemTokens, blockTokens, closingComment, bodyTokens, lineTokens}
+use Rattle.grammar.specs.Tokens.{itemTokens, blockTokens, closingComment, bodyTokens, lineTokens}
 use Rattle.grammar.specs.Tokens.{forwardTokens, textTokens}
 use Rattle.grammar.specs.Rules.{itemOk, bodyOk, forwardOk, textOk}
 use Rattle.grammar.proofs.Parser.{sameToken, begins}

@@ -4,15 +4,15 @@ use mathlib.Core.Bool.{Bool, true, false}
 use Prim.Native.Nat.{ℕ}
 use Prim.Native.String.{String}
 use Rattle.lexical.specs.Bytes.{bytes}
-use Rattle.grammar.specs.Types.{Name, Atom, bool, char, u8, u16, u32, u64, usize, i8, i16, i32, i64, isize}
-use Rattle.grammar.specs.Types.{f32, f64, cxxString, rustString, Template, box, vec, uniquePtr, sharedPtr}
+use Rattle.grammar.specs.Types.{bool, char, u8, u16, u32, u64, usize, i8, i16, i32, i64, isize}
+use Rattle.grammar.specs.Types.{f32, f64, cxxString, rustString, box, vec, uniquePtr, sharedPtr}
 use Rattle.grammar.specs.Types.{weakPtr, vector, reference, pointer, CxxType, suffixed, Base, atom, str, full}
-use Rattle.grammar.specs.Types.{template, slice, array, voidFn, fn, CxxTypes, nil, cons}
+use Rattle.grammar.specs.Types.{template, slice, array, voidFn, fn, nil, cons}
 use Rattle.grammar.specs.Tree.{Result, void, ptrLen, fat, int, value, Parameter, named, slot, size, align, free}
-use Rattle.grammar.specs.Tree.{method, held, room, Operand, receiver, direct, intoRaw, release, address, heldAddress}
+use Rattle.grammar.specs.Tree.{method, held, room, receiver, direct, intoRaw, release, address, heldAddress}
 use Rattle.grammar.specs.Tree.{slotAddress, CallForm, bare, error, returned, dereferenced, inFromRaw, inUniquePtr}
-use Rattle.grammar.specs.Tree.{inNewUnchecked, inSlice, Call, noReturn, returnSlot, moveSlot, Item, declares}
-use Rattle.grammar.specs.Tree.{defines, shim, namespace, externC, Body, bodyEnd, item, block, structLine, enumLine}
+use Rattle.grammar.specs.Tree.{inNewUnchecked, inSlice, noReturn, returnSlot, moveSlot, Item, declares}
+use Rattle.grammar.specs.Tree.{defines, shim, namespace, externC, bodyEnd, item, block, structLine, enumLine}
 use Rattle.grammar.specs.Tree.{usingLine, forwardEnd, line, bareNamespace, Text, text}
 
 abbrev plain : Base → CxxType

@@ -2,7 +2,7 @@
 -- A piece that is spelled out whole is one use of `literal`.
 use mathlib.Core.Path.{_≡_, refl, ap, _∙_, sym}
 use mathlib.Core.List.{List, [], _∷_, _++_, append-assoc, map}
-use mathlib.Core.Bool.{Bool, true, false, _&&_, _||_, not, false≢true}
+use mathlib.Core.Bool.{Bool, true, false, _&&_, not, false≢true}
 use Prim.Native.Nat.{ℕ}
 use lib.Dec.{eqb}
 use Rattle.lexical.specs.Bytes.{bytes, every, member}
@@ -11,8 +11,8 @@ use Rattle.lexical.specs.Names.{nameStart, nameChar, starts, reserved, isName}
 use Rattle.lexical.proofs.BoolLaws.{both, and-of, by-cases}
 use Rattle.lexical.proofs.ByteLaws.{byte-eq, every-cons, every-snoc, every-weaken}
 use Rattle.lexical.proofs.NameLaws.{name-starts, name-chars}
-use Rattle.grammar.specs.Token.{Token, word, mark, comment, wordChar, quoted}
-use Rattle.grammar.specs.Layout.{nonempty, endsIn, inLine, wellFormed, noWordChar, lineEnd, Layout, blank, token}
+use Rattle.grammar.specs.Token.{Token, word, comment, wordChar, quoted}
+use Rattle.grammar.specs.Layout.{nonempty, endsIn, inLine, wellFormed, noWordChar, Layout, blank, token}
 use Rattle.grammar.specs.Types.{Name, Atom, bool, char, u8, u16, u32, u64, usize, i8, i16, i32, i64, isize}
 use Rattle.grammar.specs.Types.{f32, f64, cxxString, rustString, Template, box, vec, uniquePtr, sharedPtr}
 use Rattle.grammar.specs.Types.{weakPtr, vector, Suffix, reference, pointer, CxxType, suffixed}

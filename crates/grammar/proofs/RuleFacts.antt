@@ -1,11 +1,11 @@
 -- What the rules say of words: which differ, and which are symbols; and of types with one more suffix.
-use mathlib.Core.Path.{_≡_, refl, ap, _∙_, sym, subst}
+use mathlib.Core.Path.{_≡_, refl, ap, _∙_, sym}
 use mathlib.Core.List.{List, [], _∷_, _++_}
-use mathlib.Core.Bool.{Bool, true, false, _&&_, _||_, not, false≢true}
-use Prim.Native.Nat.{ℕ, suc, _+_}
+use mathlib.Core.Bool.{Bool, true, false, _&&_, not, false≢true}
+use Prim.Native.Nat.{ℕ, suc}
 use native.Mathlib.Omega.{arith}
 use lib.Dec.{eqb}
-use lib.ListN.{length, length-append}
+use lib.ListN.{length-append}
 use Rattle.lexical.specs.Bytes.{bytes, every, same, member}
 use Rattle.lexical.specs.Names.{nameStart, nameChar, starts, nameShape, nameOk, keywords, alternativeTokens, reserved}
 use Rattle.lexical.specs.Names.{isName}
@@ -14,7 +14,7 @@ use Rattle.lexical.proofs.ByteLaws.{same-eq, every-append, every-weaken}
 use Rattle.lexical.proofs.NameLaws.{name-starts, name-chars, reserved-chars, unlike-table}
 use Rattle.grammar.specs.Token.{wordChar}
 use Rattle.grammar.specs.Types.{Name, Suffix, CxxType, suffixed}
-use Rattle.grammar.specs.Rules.{symbolStart, isSymbol, levels, baseLevels, partsOk}
+use Rattle.grammar.specs.Rules.{symbolStart, isSymbol, levels, partsOk}
 use Rattle.grammar.proofs.Parser.{front}
 
 -- a word that fails a test is no word that passes it

@@ -1,23 +1,22 @@
 -- The parser gives back each text from its tokens.
 use mathlib.Core.Path.{_≡_, refl, ap, _∙_, sym}
-use mathlib.Core.List.{List, [], _∷_, _++_}
-use mathlib.Core.Bool.{Bool, true, false, _&&_, _||_, not, false≢true}
+use mathlib.Core.List.{List, [], _∷_}
+use mathlib.Core.Bool.{Bool, true, false, _&&_}
 use mathlib.Core.Option.{Option, none, some}
 use Prim.Native.Nat.{ℕ, zero, suc, _≤_, _+_}
 use native.Mathlib.Omega.{arith}
 use lib.Dec.{ltb}
-use Rattle.lexical.specs.Bytes.{bytes, same}
+use Rattle.lexical.specs.Bytes.{same}
 use Rattle.lexical.specs.Names.{isName}
 use Rattle.lexical.proofs.BoolLaws.{both}
-use Rattle.grammar.specs.Token.{Token, word, mark, comment, quoted}
-use Rattle.grammar.specs.Types.{Name, Atom}
+use Rattle.grammar.specs.Token.{Token, comment, quoted}
 use Rattle.grammar.specs.Tree.{Item, Block, namespace, externC, Body, bodyEnd, item, block, Line, structLine}
 use Rattle.grammar.specs.Tree.{enumLine, usingLine, Forward, forwardEnd, line, bareNamespace, Text, text}
-use Rattle.grammar.specs.Tokens.{pathTokens, atomTokens, itemTokens, blockTokens, closingComment, bodyTokens}
+use Rattle.grammar.specs.Tokens.{itemTokens, blockTokens, closingComment, bodyTokens}
 use Rattle.grammar.specs.Tokens.{lineTokens, forwardTokens, textTokens}
 use Rattle.grammar.specs.Rules.{maxNamespaces, itemOk, bodyOk, forwardOk, textOk}
-use Rattle.grammar.proofs.Parser.{sameToken, begins, Parser, fork, need, wordP, commentP, pathP, startP, onAtom, itemP, Next}
-use Rattle.grammar.proofs.Parser.{nextEnd, nextBlock, nextItem, next, onNext, blockP, bodyP, atHead, isForward}
+use Rattle.grammar.proofs.Parser.{need, commentP}
+use Rattle.grammar.proofs.Parser.{nextEnd, nextItem, next, bodyP, atHead, isForward}
 use Rattle.grammar.proofs.Parser.{lineP, forwardP, textP}
 use Rattle.grammar.proofs.TypeBack.{path-back, atom-back}
 use Rattle.grammar.proofs.ItemBack.{itemSize, item-back, item-first}

@@ -1,14 +1,14 @@
 -- A text in which no `{` stands directly before `}` has at most one reading.
-use mathlib.Core.Path.{_≡_, refl, ap, _∙_, sym}
-use mathlib.Core.List.{List, [], _∷_, _++_}
-use mathlib.Core.Bool.{Bool, true, false, _&&_, not, false≢true}
+use mathlib.Core.Path.{_≡_, _∙_, sym}
+use mathlib.Core.List.{List, []}
+use mathlib.Core.Bool.{true, not, false≢true}
 use Prim.Native.Nat.{ℕ}
 use Rattle.lexical.specs.Bytes.{same}
 use Rattle.lexical.proofs.BoolLaws.{both}
 use Rattle.grammar.specs.Token.{Token, quoted}
 use Rattle.grammar.specs.Layout.{Layout}
 use Rattle.grammar.specs.Tree.{Forward, forwardEnd, line, bareNamespace, Text, text}
-use Rattle.grammar.specs.Tokens.{lineTokens, forwardTokens, bodyTokens, textTokens}
+use Rattle.grammar.specs.Tokens.{forwardTokens, bodyTokens, textTokens}
 use Rattle.grammar.specs.Reading.{Reads, OneReading}
 use Rattle.grammar.proofs.Lexer.{same-tokens}
 use Rattle.grammar.proofs.Parser.{begins}

@@ -1,10 +1,10 @@
 -- Laws of the name rule.
 use mathlib.Core.Path.{_≡_, refl, ap, _∙_, sym}
 use mathlib.Core.List.{List, [], _∷_, _++_}
-use mathlib.Core.Bool.{Bool, true, false, _&&_, _||_, not, false≢true}
+use mathlib.Core.Bool.{Bool, true, false, not, false≢true}
 use Prim.Native.Nat.{ℕ}
 use lib.ListN.{length}
-use Rattle.lexical.specs.Bytes.{bytes, every, same, member}
+use Rattle.lexical.specs.Bytes.{every, same, member}
 use Rattle.lexical.specs.Names.{nameStart, nameChar, starts, nameShape, nameOk, keywords, alternativeTokens}
 use Rattle.lexical.specs.Names.{reserved}
 use Rattle.lexical.proofs.BoolLaws.{both, and-of, not-true, fails-too, by-cases}
