@@ -13,10 +13,9 @@ use Rattle.grammar.specs.Tree.{slotAddress, bare, returned, Call}
 use Rattle.grammar.specs.Tree.{inFromRaw, noReturn, Item, declares, defines, shim, namespace, externC, Body, bodyEnd}
 use Rattle.grammar.specs.Tree.{item, block, Forward}
 use Rattle.grammar.specs.Tree.{structLine, forwardEnd, line, bareNamespace, Text, text}
-use Rattle.grammar.specs.Tokens.{textTokens}
 use Rattle.grammar.specs.Rules
 use Rattle.grammar.specs.Reading.{Reads, OneReading}
-use Rattle.grammar.proofs.LexedLayout.{laid}
+use Rattle.grammar.proofs.Checked.{checked}
 use Rattle.grammar.proofs.Forms.{formsTree, forms}
 use Rattle.grammar.proofs.Unique.{one-reading}
 
@@ -218,11 +217,11 @@ computed : Reads workedTree worked × Reads swappedTree swapped × Reads inForwa
     × Limits
 unfolding every same member digits decimal nameShape nameOk keywords alternativeTokens reserved Rules.isSymbol Rules.fullNameOk Rules.levels Rules.baseLevels Rules.deepest Rules.count Rules.partsOk Rules.baseOk Rules.allPartsOk Rules.resultOk Rules.declaredOk Rules.declaredArguments Rules.declarationOk Rules.layoutOk Rules.headOk Rules.argumentOk Rules.localOk Rules.operandOk Rules.callArguments Rules.formOk Rules.callOk Rules.commentsOk Rules.shimOk Rules.itemOk Rules.bodyOk Rules.lineOk Rules.forwardOk Rules.textOk
 computed = (
-  record { keepsRules = refl; laidOut = laid worked (textTokens workedTree) refl refl },
-  record { keepsRules = refl; laidOut = laid swapped (textTokens swappedTree) refl refl },
-  record { keepsRules = refl; laidOut = laid twofold (textTokens inForward) refl refl },
-  record { keepsRules = refl; laidOut = laid twofold (textTokens inBody) refl refl },
-  record { keepsRules = refl; laidOut = laid forms (textTokens formsTree) refl refl },
+  checked workedTree worked refl,
+  checked swappedTree swapped refl,
+  checked inForward twofold refl,
+  checked inBody twofold refl,
+  checked formsTree forms refl,
   record {
     levels = (refl, refl);
     declaredLevels = (refl, refl);

@@ -11,5 +11,6 @@ pub mod TextBack
 pub mod Pieces
 pub mod Braces
 pub mod Unique
+pub mod Checked
 pub mod Forms
 pub mod Examples
