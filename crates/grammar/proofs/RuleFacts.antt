@@ -54,7 +54,7 @@ held-no-slot x h =
 -- a name, a dollar and word characters are a symbol
 
 pub name-to-word : (c : ℕ) → nameChar c ≡ true → wordChar c ≡ true
-name-to-word c e = or-left (nameChar c) (eqb c 36) e
+name-to-word c e = or-left (nameChar c) _ e
 
 dollar-inside : (a b : List ℕ) → every nameChar (a ++ (36 ∷ b)) ≡ false
 unfolding every
