@@ -28,7 +28,7 @@ use Rattle.grammar.specs.Tokens.{forwardTokens, textTokens}
 use Rattle.grammar.specs.Rules.{itemOk, bodyOk, forwardOk, textOk}
 use Rattle.grammar.proofs.Parser.{sameToken, begins}
 use Rattle.grammar.proofs.ItemBack.{item-first}
-use Rattle.grammar.proofs.TextBack.{block-rules}
+use Rattle.grammar.proofs.TextBack.{block-rules, hasLines, forwardFilled}
 
 -- no { has } right behind it
 abbrev pub noEmptyBraces : List Token → Bool
@@ -263,16 +263,6 @@ abbrev pub bodyFilled : Body → Bool
 bodyFilled bodyEnd = true
 bodyFilled (item i next) = bodyFilled next
 bodyFilled (block b inside next) = hasContent inside && (bodyFilled inside && bodyFilled next)
-
-abbrev hasLines : Forward → Bool
-hasLines forwardEnd = false
-hasLines (line l next) = true
-hasLines (bareNamespace x inside next) = true
-
-abbrev pub forwardFilled : Forward → Bool
-forwardFilled forwardEnd = true
-forwardFilled (line l next) = forwardFilled next
-forwardFilled (bareNamespace x inside next) = hasLines inside && (forwardFilled inside && forwardFilled next)
 
 abbrev pub textFilled : Text → Bool
 textFilled (text forward body) = forwardFilled forward && bodyFilled body

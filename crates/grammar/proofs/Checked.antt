@@ -3,7 +3,6 @@ use mathlib.Core.Path.{_≡_, refl, ap, ap₂, _∙_, sym}
 use mathlib.Core.List.{List, [], _∷_}
 use mathlib.Core.Bool.{Bool, true, false, _&&_, false≢true}
 use Prim.Native.Nat.{ℕ, zero, suc}
-use Rattle.lexical.specs.Bytes.{same}
 use Rattle.lexical.proofs.BoolLaws.{both, and-of}
 use Rattle.lexical.proofs.ByteLaws.{same-eq, same-refl}
 use Rattle.grammar.specs.Token.{Token, word, mark, scope, colon, linkage, comment}

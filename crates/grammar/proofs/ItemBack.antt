@@ -30,7 +30,7 @@ use Rattle.grammar.specs.Rules.{itemOk}
 use Rattle.grammar.proofs.Parser.{begins, fork, flagP, wordP, commentP, pathP, manyP, listP, typeP}
 use Rattle.grammar.proofs.Parser.{typesP, isComment, isLocal, onResult, resultP, parameterP, operandP}
 use Rattle.grammar.proofs.Parser.{localP, formP, closeP, callP, errorTestP, endingP, tailP, parametersP, namedP, itemP}
-use Rattle.grammar.proofs.TypeBack.{typeSize, typeEnds, type-back, base-back, type-first, no-close, opened}
+use Rattle.grammar.proofs.TypeBack.{typeSize, typeEnds, type-back, base-back, type-first, no-close, no-void, opened}
 use Rattle.grammar.proofs.TypeBack.{suffixes-back, scope-free}
 use Rattle.grammar.proofs.ListBack.{listSize, many-back, list-back}
 use Rattle.grammar.proofs.RuleFacts.{name-no-slot, symbol-no-return, front-snoc, held-no-slot}
@@ -69,10 +69,6 @@ module _ (P : List Token → Type 0) (path : (r : List Token) → P (scope ∷ r
   result-first fat o r = path _
   result-first int o r = plain r .1
   result-first (value x) o r = type-first P path words x o r
-
-no-void : (x : CxxType) → partsOk x ≡ true → (r : List Token) → begins "void" (typeTokens x r) ≡ false
-unfolding same
-no-void = type-first (λ r. begins "void" r ≡ false) (λ r. refl) (λ r. (refl, refl, refl, refl))
 
 no-int : (x : CxxType) → partsOk x ≡ true → (r : List Token) → begins "int" (typeTokens x r) ≡ false
 unfolding same

@@ -172,7 +172,7 @@ pub no-close : (x : CxxType) → partsOk x ≡ true → (r : List Token) → beg
 unfolding same
 no-close = type-first (λ r. begins ")" r ≡ false) (λ r. refl) (λ r. (refl, refl, refl, refl))
 
-no-void : (x : CxxType) → partsOk x ≡ true → (r : List Token) → begins "void" (typeTokens x r) ≡ false
+pub no-void : (x : CxxType) → partsOk x ≡ true → (r : List Token) → begins "void" (typeTokens x r) ≡ false
 unfolding same
 no-void = type-first (λ r. begins "void" r ≡ false) (λ r. refl) (λ r. (refl, refl, refl, refl))
 
