@@ -16,7 +16,7 @@ use Rattle.grammar.specs.Tree.{structLine, forwardEnd, line, bareNamespa
 use Rattle.grammar.specs.Rules
 use Rattle.grammar.specs.Reading.{Reads, OneReading}
 use Rattle.grammar.proofs.Checked.{checked}
-use Rattle.grammar.proofs.Forms.{formsTree, forms}
+use Rattle.grammar.proofs.Forms.{plainShim, formsTree, forms}
 use Rattle.grammar.proofs.Unique.{one-reading}
 
 -- document 01's worked text, over the parameters and operands of its function
@@ -111,20 +111,7 @@ abbrev pub twofold : List ℕ
 twofold = bytes "namespace a { } // namespace a\nvoid f() { g(); }\n"
 
 abbrev shimAfter : List (List ℕ) → Body
-shimAfter comments =
-    item (shim (record {
-      comments = comments;
-      result = void;
-      head = free (bytes "f");
-      parameters = [];
-      isConst = false;
-      noexcept = false;
-      locals = [];
-      call = record { form = bare; symbol = bytes "g"; operands = [] };
-      errorTest = false;
-      ending = noReturn;
-    }))
-    bodyEnd
+shimAfter comments = item (plainShim comments [] (record { form = bare; symbol = bytes "g"; operands = [] })) bodyEnd
 
 abbrev pub inForward : Text
 inForward = text (bareNamespace (bytes "a") forwardEnd forwardEnd) (shimAfter (bytes " namespace a" ∷ []))
@@ -177,19 +164,7 @@ abbrev call-with : ℕ → Call
 call-with n = record { form = bare; symbol = bytes "g"; operands = receiver ∷ slotAddress ∷ copies n (direct (bytes "x")) }
 
 abbrev shim-with : ℕ → Item
-shim-with n =
-    shim (record {
-      comments = [];
-      result = void;
-      head = free (bytes "f");
-      parameters = copies n (named (boxes 0) (bytes "x"));
-      isConst = false;
-      noexcept = false;
-      locals = [];
-      call = call-with 0;
-      errorTest = false;
-      ending = noReturn;
-    })
+shim-with n = plainShim [] (copies n (named (boxes 0) (bytes "x"))) (call-with 0)
 
 -- the first passes and the second does not
 abbrev Limit : Bool → Bool → Type 0

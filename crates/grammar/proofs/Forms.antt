@@ -10,7 +10,7 @@ use Rattle.grammar.specs.Types.{weakPtr, vector, reference, pointer, Cxx
 use Rattle.grammar.specs.Types.{template, slice, array, voidFn, fn, nil, cons}
 use Rattle.grammar.specs.Tree.{Result, void, ptrLen, fat, int, value, Parameter, named, slot, size, align, free}
 use Rattle.grammar.specs.Tree.{method, held, room, receiver, direct, intoRaw, release, address, heldAddress}
-use Rattle.grammar.specs.Tree.{slotAddress, CallForm, bare, error, returned, dereferenced, inFromRaw, inUniquePtr}
+use Rattle.grammar.specs.Tree.{slotAddress, CallForm, Call, bare, error, returned, dereferenced, inFromRaw, inUniquePtr}
 use Rattle.grammar.specs.Tree.{inNewUnchecked, inSlice, noReturn, returnSlot, moveSlot, Item, declares}
 use Rattle.grammar.specs.Tree.{defines, shim, namespace, externC, bodyEnd, item, block, structLine, enumLine}
 use Rattle.grammar.specs.Tree.{usingLine, forwardEnd, line, bareNamespace, Text, text}
@@ -52,20 +52,24 @@ each =
     bytes "::std::uint32_t, ::std::uint64_t, ::std::size_t, ::std::int8_t, ::std::int16_t, ::std::int32_t, " ++
     bytes "::std::int64_t, ::rust::isize, ::std::string, ::rust::String)> i"
 
-abbrev calls : CallForm → Item
-calls form =
+-- a function f that makes the call and nothing else
+abbrev pub plainShim : List (List ℕ) → List Parameter → Call → Item
+plainShim comments parameters call =
     shim (record {
-      comments = [];
+      comments = comments;
       result = void;
       head = free (bytes "f");
-      parameters = [];
+      parameters = parameters;
       isConst = false;
       noexcept = false;
       locals = [];
-      call = record { form = form; symbol = bytes "g"; operands = [] };
+      call = call;
       errorTest = false;
       ending = noReturn;
     })
+
+abbrev calls : CallForm → Item
+calls form = plainShim [] [] (record { form = form; symbol = bytes "g"; operands = [] })
 
 abbrev method-shim : Item
 method-shim =
