@@ -9,7 +9,7 @@ use lib.Dec.{leb, eqb}
 use lib.ListN.{length, getD, length-append, length-map}
 use Rattle.lexical.specs.Bytes.{bytes, every, within}
 use Rattle.lexical.specs.Decimal.{pickText}
-use Rattle.lexical.proofs.BoolLaws.{both, and-of, by-cases, not-true, fails-too}
+use Rattle.lexical.proofs.BoolLaws.{both, and-of, by-cases, not-true}
 use Rattle.lexical.proofs.ByteLaws.{byte-eq, every-cons, every-append, every-weaken}
 use Rattle.format.specs.Decode.{pick}
 use Rattle.format.specs.Decoding.{lineOk}
@@ -25,7 +25,7 @@ use Rattle.spelling.proofs.Lists.{each-tokens-append, gather-map-spells
 
 -- ---- one line
 
-last-char : (c : ℕ) (cs : List ℕ) → endsIn 92 (c ∷ cs) ≡ eqb 92 (getD (c ∷ cs) (length cs) 0)
+last-char : (c : ℕ) (cs : List ℕ) → endsIn 92 (c ∷ cs) ≡ eqb (getD (c ∷ cs) (length cs) 0) 92
 last-char c [] = refl
 last-char c (d ∷ cs) = last-char d cs
 
@@ -34,9 +34,7 @@ no-splice : (cs : List ℕ) → eqb (getD cs (length cs - 1) 0) 92 ≡ false →
 no-splice [] h = refl
 no-splice (c ∷ cs) h =
     let e : suc (length cs) - 1 ≡ length cs = omega arith in
-    let l = getD (c ∷ cs) (length cs) 0 in
-    let g : eqb l 92 ≡ false = rw e at h in
-    last-char c cs ∙ fails-too (eqb 92 l) (eqb l 92) (λ q. rw (← byte-eq 92 l q)) g
+    last-char c cs ∙ rw e at h
 
 in-line : (c : ℕ) → within 32 126 c ≡ true → inLine c ≡ true
 in-line c h =

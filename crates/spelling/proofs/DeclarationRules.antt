@@ -34,7 +34,7 @@ use Rattle.grammar.specs.Rules.{layoutOk}
 use Rattle.spelling.specs.TypeTree.{pointerTo, cxxType}
 use Rattle.spelling.specs.DeclarationTree.{directResult, directResultOf, declaredResult, declaredReceiver}
 use Rattle.spelling.specs.DeclarationTree.{declaredType, declaredArgument, slotTree, declaredSlot}
-use Rattle.spelling.specs.DeclarationTree.{declaredParameters, declarationOf, layoutDeclarationOf, operatorName}
+use Rattle.spelling.specs.DeclarationTree.{declaredParameters, declarationOf, layoutDeclarationOf}
 use Rattle.spelling.specs.DeclarationTree.{layoutDefinitionOf}
 use Rattle.spelling.proofs.Lists.{count-within}
 use Rattle.spelling.proofs.TypeSpelling.{item-kept}
@@ -211,7 +211,7 @@ module _ (items : List Item) (kept : All (ItemKept items) items) where
 -- ---- layouts
 
 module _ {items : List Item} (x : Item) (k : ItemKept items x) (m : Measure) where
-  pub layoutDeclaration-ok : (depth : ℕ) → declarationOk depth (layoutDeclarationOf x (operatorName m)) ≡ true
+  pub layoutDeclaration-ok : (depth : ℕ) → declarationOk depth (layoutDeclarationOf x m) ≡ true
   unfolding every declarationOk resultOk levels partsOk declaredArguments
   layoutDeclaration-ok depth = rw (operator-symbol x k m)
 

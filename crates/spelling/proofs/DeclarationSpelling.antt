@@ -1,5 +1,5 @@
 -- Declarations and layout definitions are spelled as their trees' tokens.
-use mathlib.Core.Path.{_≡_, refl}
+use mathlib.Core.Path.{_≡_, refl, sym}
 use mathlib.Core.List.{List, [], _++_, append-assoc}
 use mathlib.Core.Bool.{Bool, true, false, not}
 use Prim.Native.Nat.{ℕ}
@@ -27,6 +27,7 @@ use Rattle.grammar.specs.Tree as Tree
 use Rattle.grammar.specs.Tree.{Measure}
 use Rattle.grammar.specs.Tokens.{measureTokens, typeTokens, resultTokens, parameterTokens, declarationTokens}
 use Rattle.grammar.specs.Tokens.{layoutTokens}
+use Rattle.grammar.proofs.Pieces.{suffix-tokens}
 use Rattle.spelling.specs.TypeTree.{pointerTo, cxxType}
 use Rattle.spelling.specs.DeclarationTree.{directResult, directResultOf, declaredResult, declaredReceiver}
 use Rattle.spelling.specs.DeclarationTree.{declaredType, declaredArgument, slotTree, declaredSlot}
@@ -34,8 +35,8 @@ use Rattle.spelling.specs.DeclarationTree.{declaredParameters, declarati
 use Rattle.spelling.specs.DeclarationTree.{operatorName, layoutDefinitionOf}
 use Rattle.spelling.proofs.Spells.{closed, inside, Spells, _▷_, _▷⟨_⟩_, as-tokens, empty, lit, name-spells}
 use Rattle.spelling.proofs.Lists.{SpellsEach, none, more, each-append, list-spells, map-spells}
-use Rattle.spelling.proofs.TypeSpelling.{pointerEnd-spells, suffix-tokens, suffix-spells, item-kept}
-use Rattle.spelling.proofs.TypeSpelling.{fullName-spells, typeSpace-spells}
+use Rattle.spelling.proofs.TypeSpelling.{pointerEnd-spells, suffix-spells, item-kept, fullName-spells}
+use Rattle.spelling.proofs.TypeSpelling.{typeSpace-spells}
 use Rattle.spelling.proofs.Shapes.{Shaped, isBox, isUniquePtr, isRef, isStr, isSlice, isOther, shaped}
 use Rattle.spelling.proofs.Symbols.{externFn-spells, operator-spells}
 
@@ -50,7 +51,6 @@ slot-fits items false (gives t) h = refl
 -- one more `*` where the test holds
 star-spells : (b : Bool) {s : List ℕ} (x : CxxType) → Spells closed s (typeTokens x) →
     Spells closed (s ++ pickText b (bytes "*") []) (typeTokens (pick b (pointerTo true x) x))
-unfolding every
 star-spells true x p = suffix-spells (Cxx.pointer false) x p (lit "*" refl)
 star-spells false x p = p ▷ empty
 
@@ -66,7 +66,7 @@ module _ (items : List Item) (kept : All (ItemKept items) items) where
 
   directReturn-spells : {t : Ty} {k : Shape} → Shaped t k → partsFit (length items) t ≡ true →
       Spells closed (directReturn items t k) (resultTokens (directResult items t k))
-  unfolding every partsFit
+  unfolding partsFit
   directReturn-spells (isBox t) h = pointer-spells true t h
   directReturn-spells (isUniquePtr t) h = pointer-spells true t h
   directReturn-spells (isRef m t) h = pointer-spells m t h
@@ -76,13 +76,13 @@ module _ (items : List Item) (kept : All (ItemKept items) items) where
 
   directReturnOf-spells : (r : Ret) → returnFits (length items) r ≡ true →
       Spells closed (directReturnOf items r) (resultTokens (directResultOf items r))
-  unfolding every returnFits
+  unfolding returnFits
   directReturnOf-spells none h = lit "void " refl
   directReturnOf-spells (gives t) h = directReturn-spells (shaped t) (fits-parts 8 (length items) t h)
 
   return-spells : (f : Function) → FunctionKept items f →
       Spells closed (externReturn items f) (resultTokens (declaredResult items f))
-  unfolding every externReturn declaredResult
+  unfolding externReturn declaredResult
   return-spells f g = go (f .throws) (indirectReturn items f (f .return))
     where
       go : (throws indirect : Bool) →
@@ -98,7 +98,7 @@ module _ (items : List Item) (kept : All (ItemKept items) items) where
 
   receiver-spells : (form : Form) → formFits (length items) form ≡ true →
       SpellsEach parameterTokens (receiver items form) (declaredReceiver items form)
-  unfolding every formFits
+  unfolding formFits
   receiver-spells free h = none
   receiver-spells (constMethod i) h =
       more (fullName-spells (itemAt items i) (item-kept items kept i h) ▷⟨ refl ⟩ lit " const" refl
@@ -140,9 +140,8 @@ module _ (items : List Item) (kept : All (ItemKept items) items) where
   slot-spells : (t : Ty) → typeFits 8 (length items) t ≡ true →
       Spells inside (slotType items t (shape t) ++ spaceAfterType t ++ bytes "*return$")
       (parameterTokens (declaredSlot items t))
-  unfolding every
   slot-spells t h =
-      as-tokens (λ ts. suffix-tokens (Cxx.pointer false) (slotTree items t (shape t)) (quoted "return$" ts))
+      as-tokens (λ ts. sym (suffix-tokens (Cxx.pointer false) (slotTree items t (shape t)) (quoted "return$" ts)))
       (slotSpace-spells (shaped t) (fits-parts 8 (length items) t h) ▷ lit "*return$" refl)
 
   parameters-spell : (f : Function) → FunctionKept items f →
@@ -161,7 +160,7 @@ module _ (items : List Item) (kept : All (ItemKept items) items) where
 
   pub declaration-spells : (x : Item) → ItemKept items x → (f : Function) → FunctionKept items f →
       Spells closed (functionDecl items x f) (declarationTokens (declarationOf items x f))
-  unfolding every functionDecl
+  unfolding functionDecl
   declaration-spells x k f g =
       return-spells f g ▷ externFn-spells items kept x k f g ▷⟨ refl ⟩ lit "(" refl
       ▷ list-spells parameterTokens (parameters-spell f g) ▷⟨ refl ⟩ lit ") noexcept;\n" refl
@@ -169,20 +168,19 @@ module _ (items : List Item) (kept : All (ItemKept items) items) where
 -- ---- layouts
 
 measure-spells : (m : Measure) → Spells inside (measureName m) (measureTokens m)
-unfolding every
 measure-spells Tree.size = lit "size" refl
 measure-spells Tree.align = lit "align" refl
 
 module _ {items : List Item} (x : Item) (k : ItemKept items x) (m : Measure) where
   pub layoutDeclaration-spells :
-      Spells closed (layoutDecl x (operatorName m)) (declarationTokens (layoutDeclarationOf x (operatorName m)))
-  unfolding every layoutDecl
+      Spells closed (layoutDecl x (operatorName m)) (declarationTokens (layoutDeclarationOf x m))
+  unfolding layoutDecl
   layoutDeclaration-spells =
       lit "::std::size_t " refl ▷ operator-spells x k m ▷⟨ refl ⟩ lit "() noexcept;\n" refl
 
   pub layoutDefinition-spells :
       Spells closed (layoutDefinition x (measureName m) (operatorName m)) (layoutTokens (layoutDefinitionOf x m))
-  unfolding every layoutDefinition
+  unfolding layoutDefinition
   layoutDefinition-spells =
       lit "::std::size_t " refl ▷ name-spells (x .cxx) (k .cxxName) ▷⟨ refl ⟩ lit "::layout::" refl ▷ measure-spells m
       ▷⟨ refl ⟩ lit "() noexcept {\n" refl ▷ lit "  return " refl ▷ operator-spells x k m ▷⟨ refl ⟩ lit "();\n" refl

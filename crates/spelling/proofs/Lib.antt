@@ -1,6 +1,5 @@
 pub mod Spells
 pub mod Lists
-pub mod ArrayLength
 pub mod TypeSpelling
 pub mod TypeRules
 pub mod Symbols

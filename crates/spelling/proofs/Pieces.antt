@@ -74,11 +74,11 @@ module _ (s : Sheet) (kept : All (ItemKept (s .items)) (s .items)) (x : Item) (k
   -- ---- layouts
 
   pub layoutDeclaration-laid : (m : Measure) (ts : List Token) (r : List ℕ) → Layout ts r →
-      Layout (itemTokens (declares (layoutDeclarationOf x (operatorName m))) ts) (layoutDecl x (operatorName m) ++ r)
+      Layout (itemTokens (declares (layoutDeclarationOf x m)) ts) (layoutDecl x (operatorName m) ++ r)
   layoutDeclaration-laid m ts r d = layoutDeclaration-spells x k m .laid ts r refl d
 
   pub layoutDeclaration-keeps : (m : Measure) (depth : ℕ) →
-      itemOk depth true (declares (layoutDeclarationOf x (operatorName m))) ≡ true
+      itemOk depth true (declares (layoutDeclarationOf x m)) ≡ true
   unfolding itemOk
   layoutDeclaration-keeps m depth = layoutDeclaration-ok x k m depth
 

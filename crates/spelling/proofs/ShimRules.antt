@@ -133,7 +133,7 @@ module _ (items : List Item) (kept : All (ItemKept items) items) where
 
   form-ok : (f : Function) → FunctionKept items f →
       formOk (pick (f .throws) Tree.error (returnForm items (direct items f))) ≡ true
-  unfolding every formOk direct
+  unfolding formOk direct
   form-ok f g =
       go (f .throws) (direct items f)
       (slot-fits (length items) (not (indirectReturn items f (f .return))) (f .return) (g .returnFits))

@@ -54,14 +54,13 @@ module _ (items : List Item) (kept : All (ItemKept items) items) where
 
   return-spells : (r : Ret) → returnFits (length items) r ≡ true →
       Spells closed (writeReturnType items r) (resultTokens (resultOf items r))
-  unfolding every returnFits
+  unfolding returnFits
   return-spells none h = lit "void " refl
   return-spells (gives t) h = typeSpace-spells items kept t (fits-parts 8 (length items) t h)
 
   result-spells : (main : Bool) (r : Ret) → returnFits (length items) r ≡ true →
       Spells closed (pickText main (bytes "int ") (writeReturnType items r))
       (resultTokens (pick main Tree.int (resultOf items r)))
-  unfolding every
   result-spells true r h = lit "int " refl
   result-spells false r h = return-spells r h
 
@@ -69,7 +68,6 @@ module _ (items : List Item) (kept : All (ItemKept items) items) where
   member-spells : (i : ℕ) (x : Item) → ltb i (length items) ≡ true → isName (x .cxx) ≡ true →
       Spells inside (itemAt items i .cxx ++ bytes "::" ++ [] ++ x .cxx)
       (headTokens (Tree.method (itemAt items i .cxx) (x .cxx)))
-  unfolding every
   member-spells i x h n =
       name-spells (itemAt items i .cxx) (item-kept items kept i h .cxxName) ▷⟨ refl ⟩ lit "::" refl ▷ empty
       ▷ name-spells (x .cxx) n
@@ -99,13 +97,11 @@ module _ (items : List Item) (kept : All (ItemKept items) items) where
   noexcept-meets false = refl
 
   const-spells : (b : Bool) → Spells inside (pickText b (bytes " const") []) (constTokens b)
-  unfolding every
   const-spells true = lit " const" refl
   const-spells false = empty
 
   noexcept-spells : (throws : Bool) →
       Spells inside (pickText throws [] (bytes " noexcept")) (optional (not throws) (quoted "noexcept" []))
-  unfolding every
   noexcept-spells true = empty
   noexcept-spells false = lit " noexcept" refl
 
@@ -113,7 +109,7 @@ module _ (items : List Item) (kept : All (ItemKept items) items) where
       Spells inside (shimDecl items x f)
       (signatureTokens (pick (isMain x f) Tree.int (resultOf items (f .return))) (headOf items x (f .form))
       (map (argumentOf items) (f .arguments)) (isConst (f .form)) (not (f .throws)))
-  unfolding every shimDecl
+  unfolding shimDecl
   signature-spells x f n g =
       result-spells (isMain x f) (f .return) (g .returnFits) ▷ head-spells x f n (g .formFits) ▷⟨ refl ⟩ lit "(" refl
       ▷ list-spells parameterTokens
@@ -126,7 +122,7 @@ module _ (items : List Item) (kept : All (ItemKept items) items) where
 
   held-spells : (a : Argument) → argumentFits (length items) a ≡ true →
       Spells closed (heldLocal items a) (eachTokens localTokens (heldOf items a))
-  unfolding every heldLocal
+  unfolding heldLocal
   held-spells a h = go (isHeld items (a .type))
     where
       name : isName (a .name) ≡ true
@@ -164,7 +160,6 @@ module _ (items : List Item) (kept : All (ItemKept items) items) where
 
   room-spells : (t : Ty) → typeFits 8 (length items) t ≡ true →
       Spells closed (roomText t) (localTokens (roomOf items t))
-  unfolding every
   room-spells t h =
       lit "::rust::MaybeUninit<" refl ▷ slotType-spells (shaped t) (fits-parts 8 (length items) t h)
       ▷⟨ refl ⟩ lit "> return$;\n" refl ▷ lit "  " refl
@@ -173,7 +168,7 @@ module _ (items : List Item) (kept : All (ItemKept items) items) where
 
   begin-spells : {t : Ty} {k : Shape} → Shaped t k → partsFit (length items) t ≡ true →
       Spells closed (bytes "return " ++ callBegin items t k) (formTokens (directForm items t k))
-  unfolding every partsFit cxxType
+  unfolding partsFit cxxType
   begin-spells (isBox t) h =
       lit "return " refl ▷ (type-spells items kept (template RustBox t) h ▷⟨ refl ⟩ lit "::from_raw(" refl)
   begin-spells (isUniquePtr t) h =
@@ -186,7 +181,6 @@ module _ (items : List Item) (kept : All (ItemKept items) items) where
   begin-spells (isOther t plain) h = lit "return " refl ▷ empty
 
   end-spells : {t : Ty} {k : Shape} → Shaped t k → Spells closed (callEnd k) (closeTokens (directForm items t k))
-  unfolding every
   end-spells (isBox t) = lit ")" refl
   end-spells (isUniquePtr t) = lit ")" refl
   end-spells (isRef m t) = empty
@@ -212,7 +206,6 @@ module _ (items : List Item) (kept : All (ItemKept items) items) where
   error-spells : (throws : Bool) →
       Spells closed (pickText throws (bytes "::rust::repr::PtrLen error$ = ") [])
       (formTokens (pick throws Tree.error Tree.bare))
-  unfolding every
   error-spells true = lit "::rust::repr::PtrLen error$ = " refl
   error-spells false = empty
 
@@ -269,7 +262,6 @@ module _ (items : List Item) (kept : All (ItemKept items) items) where
   plain-operand : (x : List ℕ) → isName x ≡ true → (string indirect : Bool) → (string ≡ true → indirect ≡ true) →
       Spells inside (pickText indirect (bytes "&") [] ++ x ++ pickText (not string && indirect) (bytes "$.value") [])
       (operandTokens (argumentOperand (pick string rustString (pick indirect otherIndirect Agreement.direct)) x))
-  unfolding every
   plain-operand x n true true h = lit "&" refl ▷ name-spells x n ▷⟨ refl ⟩ empty
   plain-operand x n true false h = absurd (false≢true (h refl))
   plain-operand x n false true h = dollar-behind (lit "&" refl) x n refl (lit ".value" refl)
@@ -278,7 +270,7 @@ module _ (items : List Item) (kept : All (ItemKept items) items) where
   shaped-operand : {t : Ty} {k : Shape} (x : List ℕ) → isName x ≡ true → Shaped t k →
       Spells inside (pickText (needsIndirectAbi items t) (bytes "&") [] ++ x ++ operandEnd k (isHeld items t))
       (operandTokens (argumentOperand (passing items t) x))
-  unfolding every needsIndirectAbi isHeld
+  unfolding needsIndirectAbi isHeld
   shaped-operand x n (isBox t) = weaken closed (name-spells x n ▷⟨ refl ⟩ lit ".into_raw()" refl)
   shaped-operand x n (isUniquePtr t) = weaken closed (name-spells x n ▷⟨ refl ⟩ lit ".release()" refl)
   shaped-operand x n (isRef m t) = name-spells x n ▷⟨ refl ⟩ empty
@@ -294,13 +286,12 @@ module _ (items : List Item) (kept : All (ItemKept items) items) where
 
   receiver-spells : (b : Bool) →
       SpellsEach operandTokens (pick b (bytes "*this" ∷ []) []) (pick b (Tree.receiver ∷ []) [])
-  unfolding every
   receiver-spells true = more (lit "*this" refl) none
   receiver-spells false = none
 
   operands-spell : (f : Function) → FunctionKept items f →
       SpellsEach operandTokens (operands items f) (operandsOf items f)
-  unfolding every operands operandsOf slot
+  unfolding operands operandsOf slot
   operands-spell f g =
       each-append operandTokens
       (each-append operandTokens (receiver-spells (isMethod (f .form)))
@@ -316,13 +307,11 @@ module _ (items : List Item) (kept : All (ItemKept items) items) where
       Spells closed
       (pickText throws (bytes "  if (error$.ptr) {\n    throw ::rust::impl<::rust::Error>::error(error$);\n  }\n") [])
       (errorTestTokens throws)
-  unfolding every
   errorTest-spells true = lit "  if (error$.ptr) {\n    throw ::rust::impl<::rust::Error>::error(error$);\n  }\n" refl
   errorTest-spells false = empty
 
   slotReturn-spells : (k : Shape) →
       Spells closed (bytes "  return " ++ slotReturn k ++ bytes ";\n") (endingTokens (slotEnding k))
-  unfolding every
   slotReturn-spells (Write.ref m t) = lit "  return " refl ▷ lit "*return$.value" refl ▷⟨ refl ⟩ lit ";\n" refl
   slotReturn-spells (Write.rustBox t) = lit "  return " refl ▷ lit "::std::move(return$.value)" refl ▷ lit ";\n" refl
   slotReturn-spells (Write.uniquePtr t) = lit "  return " refl ▷ lit "::std::move(return$.value)" refl ▷ lit ";\n" refl
@@ -351,7 +340,6 @@ module _ (items : List Item) (kept : All (ItemKept items) items) where
     locals-spell : Spells closed
         (bytes " {\n" ++ gather (heldLocal items) (f .arguments) ++ bytes "  " ++ gather roomText (slot items f))
         (λ ts. quoted "{" (eachTokens localTokens locals ts))
-    unfolding every
     locals-spell =
         as-tokens (λ ts. ap (quoted "{") (each-tokens-append localTokens (gather (heldOf items) (f .arguments)) _ ts))
         (lit " {\n" refl
@@ -382,7 +370,7 @@ module _ (items : List Item) (kept : All (ItemKept items) items) where
         (callTokens
         (record { form = callForm f; symbol = externFn items (x .namespace) f; operands = operandsOf items f })
         (errorTestTokens (f .throws) (endingTokens (endingOf (slot items f)) (quoted "}" ts))))))
-    unfolding every shimBody slot
+    unfolding shimBody slot
     body-spells =
         call-begins ▷ externFn-spells items kept x k f g ▷⟨ refl ⟩ lit "(" refl
         ▷ list-spells operandTokens (operands-spell f g) ▷⟨ refl ⟩ lit ")" refl ▷ close-spells

@@ -4,16 +4,14 @@ use mathlib.Core.List.{List, [], _∷_, _++_, append-assoc}
 use mathlib.Core.Bool.{Bool, true, false, _&&_, not, false≢true}
 use Prim.Native.Nat.{ℕ}
 use Prim.Native.String.{String}
-use lib.Dec.{eqb}
-use Rattle.lexical.specs.Bytes.{bytes, every}
-use Rattle.lexical.specs.Names.{starts, nameStart, nameChar, isName, reserved}
-use Rattle.lexical.proofs.BoolLaws.{both, and-of, or-left}
-use Rattle.lexical.proofs.ByteLaws.{every-weaken, every-snoc}
-use Rattle.lexical.proofs.NameLaws.{name-starts, name-chars}
+use Rattle.lexical.specs.Bytes.{bytes}
+use Rattle.lexical.specs.Names.{isName}
+use Rattle.lexical.proofs.BoolLaws.{both}
 use Rattle.grammar.specs.Token.{Token, word, wordChar}
-use Rattle.grammar.specs.Layout.{nonempty, wellFormed, noWordChar, Layout, token}
+use Rattle.grammar.specs.Layout.{wellFormed, noWordChar, Layout, token}
 use Rattle.grammar.proofs.Lexer.{Mode, between, inWord, afterColon, afterSlash, afterQuote, afterQuoteC, inComment, lex}
-use Rattle.grammar.proofs.LexedLayout.{allWellFormed}
+use Rattle.grammar.proofs.LexedLayout.{allSound}
+use Rattle.grammar.proofs.Pieces.{name-word, dollar-laid}
 use Rattle.grammar.proofs.Literal.{final, seam, literal}
 
 -- how a text ends: behind a word no word character may stand
@@ -97,32 +95,16 @@ ends-seam afterQuoteC r h k = absurd (false≢true h)
 ends-seam (inComment a) r h k = absurd (false≢true h)
 
 abbrev pub literalOk : List ℕ → Bool
-literalOk a = allWellFormed (lex a) && ends (final between a)
+literalOk a = allSound (lex a) && ends (final between a)
 
 pub lit : (s : String) → literalOk (bytes s) ≡ true →
     Spells (endOf (final between (bytes s))) (bytes s) (λ ts. lex (bytes s) ++ ts)
 lit s h =
     let a = bytes s in
-    let q = both (allWellFormed (lex a)) (ends (final between a)) h in
+    let q = both (allSound (lex a)) (ends (final between a)) h in
     record { laid = λ ts r k d. literal a (q .0) (ends-seam (final between a) r (q .1) k) d }
 
 -- ---- words
-
-pub starts-some : (test : ℕ → Bool) (s : List ℕ) → starts test s ≡ true → nonempty s ≡ true
-starts-some test [] e = absurd (false≢true e)
-starts-some test (c ∷ s) e = refl
-
-pub some-snoc : (s : List ℕ) (c : ℕ) → nonempty (s ++ (c ∷ [])) ≡ true
-some-snoc [] c = refl
-some-snoc (d ∷ s) c = refl
-
-pub name-wordChars : (s : List ℕ) → isName s ≡ true → every wordChar s ≡ true
-name-wordChars s h =
-    every-weaken nameChar wordChar (λ c e. or-left (nameChar c) (eqb c 36) e) s (name-chars reserved s h)
-
-name-word : (s : List ℕ) → isName s ≡ true → wellFormed (word s) ≡ true
-name-word s h =
-    and-of (nonempty s) (every wordChar s) (starts-some nameStart s (name-starts reserved s h)) (name-wordChars s h)
 
 pub word-spells : (s : List ℕ) → wellFormed (word s) ≡ true → Spells inside s (λ ts. word s ∷ ts)
 word-spells s h = record { laid = λ ts r k d. token {t = word s} h k d }
@@ -130,15 +112,14 @@ word-spells s h = record { laid = λ ts r k d. token {t = word s} h k d }
 pub name-spells : (s : List ℕ) → isName s ≡ true → Spells inside s (λ ts. word s ∷ ts)
 name-spells s h = word-spells s (name-word s h)
 
-dollar-word : (s : List ℕ) → isName s ≡ true → wellFormed (word (s ++ (36 ∷ []))) ≡ true
-dollar-word s h =
-    and-of (nonempty (s ++ (36 ∷ []))) (every wordChar (s ++ (36 ∷ []))) (some-snoc s 36)
-    (every-snoc wordChar s 36 (name-wordChars s h) refl)
-
 -- a name with a dollar behind it is one word
 pub dollar-behind : {f : End} {a b : List ℕ} {ta tb : List Token → List Token} → Spells closed a ta → (s : List ℕ) →
     isName s ≡ true → meets inside b f ≡ true → Spells f b tb →
     Spells f ((a ++ s) ++ (36 ∷ b)) (λ ts. ta (word (s ++ (36 ∷ [])) ∷ tb ts))
-dollar-behind {f} {a} {b} {ta} {tb} p s h k q =
-    let whole = p ▷ (word-spells (s ++ (36 ∷ [])) (dollar-word s h) ▷⟨ k ⟩ q) in
-    rw (append-assoc a s (36 ∷ b), ← append-assoc s (36 ∷ []) b) whole
+dollar-behind {f} {a} {b} {ta} {tb} p s h m q =
+    rw (append-assoc a s (36 ∷ b)) (p ▷ record { laid = held })
+  where
+    held : (ts : List Token) (r : List ℕ) → clear f r ≡ true → Layout ts r →
+        Layout (word (s ++ (36 ∷ [])) ∷ tb ts) ((s ++ (36 ∷ b)) ++ r)
+    held ts r k d =
+        rw (append-assoc s (36 ∷ b) r) (dollar-laid s h (meets-clear inside f b r m k) (q .laid ts r k d))

@@ -17,18 +17,15 @@ use Rattle.rules.specs.Rules.{reservedNamespace}
 use Rattle.decoded.specs.Fits.{depth, depthRet, depthTys, count, partsFit, partsFitRet, partsFitTys, typeFits}
 use Rattle.decoded.proofs.Kept.{All, ItemKept}
 use Rattle.grammar.specs.Types as Cxx
-use Rattle.grammar.specs.Types.{CxxType, suffixed, Suffix, CxxTypes}
+use Rattle.grammar.specs.Types.{CxxType, Suffix, CxxTypes}
 use Rattle.grammar.specs.Rules
 use Rattle.grammar.specs.Rules.{ofStdOrRust, fullNameOk, levels, baseLevels, deepest, partsOk, baseOk, allPartsOk}
 use Rattle.grammar.specs.Rules.{typeOk}
+use Rattle.grammar.proofs.RuleFacts.{suffix-levels, suffix-parts}
 use Rattle.spelling.specs.TypeTree.{itemPath, withSuffix, pointerTree, cxxType, fnTree, cxxTypes}
 use Rattle.spelling.proofs.TypeSpelling.{item-kept, itemPath-names}
 
 -- ---- levels
-
-pub suffix-levels : (s : Suffix) (x : CxxType) → levels (withSuffix s x) ≡ suc (levels x)
-unfolding levels
-suffix-levels s (suffixed base suffixes) = omega (arith, length-append suffixes (s ∷ []))
 
 pointer-levels : (k : Pointer) (m : Bool) (x : CxxType) → levels (pointerTree k m x) ≡ suc (levels x)
 unfolding levels
@@ -69,10 +66,6 @@ count-same : (items : List Item) (ts : Tys) → Rules.count (cxxTypes items ts) 
 unfolding Rules.count count cxxTypes
 count-same items nil = refl
 count-same items (cons t ts) = ap suc (count-same items ts)
-
-pub suffix-parts : (s : Suffix) (x : CxxType) → partsOk (withSuffix s x) ≡ partsOk x
-unfolding partsOk
-suffix-parts s (suffixed base suffixes) = refl
 
 pub itemPath-ok : {items : List Item} (x : Item) → ItemKept items x → fullNameOk (itemPath x) ≡ true
 unfolding fullNameOk

@@ -1,5 +1,5 @@
 -- A type is spelled as its tree's tokens.
-use mathlib.Core.Path.{_≡_, refl, ap}
+use mathlib.Core.Path.{_≡_, refl, sym}
 use mathlib.Core.List.{List, [], _∷_, _++_}
 use mathlib.Core.Bool.{Bool, true, false, _&&_, not}
 use Prim.Native.Nat.{ℕ}
@@ -23,16 +23,16 @@ use Rattle.decoded.specs.Fits.{partsFit, partsFitRet, partsFitTys, count}
 use Rattle.decoded.proofs.Kept.{All, all-at, ItemKept}
 use Rattle.bridge.specs.WriteType.{writeAtom, templateName, constUnless, pointerEnd, spaceAfterType, writeType}
 use Rattle.bridge.specs.WriteType.{writeRet, writeTypes, writeTypeSpace}
-use Rattle.grammar.specs.Token.{Token, word, quoted}
+use Rattle.grammar.specs.Token.{Token, quoted}
 use Rattle.grammar.specs.Types as Cxx
-use Rattle.grammar.specs.Types.{CxxType, suffixed, Suffix, CxxTypes}
-use Rattle.grammar.specs.Tokens
-use Rattle.grammar.specs.Tokens.{eachTokens, pathTokens, atomTokens, templateTokens, constTokens, suffixTokens}
-use Rattle.grammar.specs.Tokens.{typeTokens, baseTokens, typesTokens, moreTypesTokens}
+use Rattle.grammar.specs.Types.{CxxType, Suffix, CxxTypes}
+use Rattle.grammar.specs.Tokens.{pathTokens, atomTokens, templateTokens, constTokens, suffixTokens, typeTokens}
+use Rattle.grammar.specs.Tokens.{baseTokens, typesTokens, moreTypesTokens}
 use Rattle.spelling.specs.TypeTree.{atomTree, templateTree, itemPath, withSuffix, cxxType, fnTree, cxxTypes}
 use Rattle.spelling.proofs.Spells.{End, closed, inside, Spells, meets, _▷_, _▷⟨_⟩_, weaken, as-tokens, empty}
 use Rattle.spelling.proofs.Spells.{lit, word-spells, name-spells}
-use Rattle.spelling.proofs.ArrayLength.{decimal-same, decimal-word}
+use Rattle.grammar.proofs.Decimal.{decimal-word}
+use Rattle.grammar.proofs.Pieces.{suffix-tokens}
 
 -- ---- full names
 
@@ -42,7 +42,7 @@ path-meets [] = refl
 path-meets (part ∷ parts) = refl
 
 pub path-spells : (parts : List Name) → every isName parts ≡ true → Spells inside (path parts) (pathTokens parts)
-unfolding every path
+unfolding path
 path-spells [] h = empty
 path-spells (part ∷ parts) h =
     let q = every-cons isName part parts h in
@@ -51,7 +51,6 @@ path-spells (part ∷ parts) h =
 -- ---- literals
 
 atom-spells : (a : Atom) → Spells inside (writeAtom a) (atomTokens (atomTree a))
-unfolding every
 atom-spells Atom.Bool = lit "bool" refl
 atom-spells Atom.Char = lit "char" refl
 atom-spells Atom.U8 = lit "::std::uint8_t" refl
@@ -70,7 +69,6 @@ atom-spells Atom.CxxString = lit "::std::string" refl
 atom-spells Atom.RustString = lit "::rust::String" refl
 
 template-spells : (k : Template) → Spells closed (templateName k) (templateTokens (templateTree k))
-unfolding every
 template-spells RustBox = lit "::rust::Box<" refl
 template-spells RustVec = lit "::rust::Vec<" refl
 template-spells UniquePtr = lit "::std::unique_ptr<" refl
@@ -79,7 +77,6 @@ template-spells WeakPtr = lit "::std::weak_ptr<" refl
 template-spells CxxVector = lit "::std::vector<" refl
 
 const-spells : (mutable : Bool) → Spells closed (constUnless mutable (bytes "const ")) (constTokens (not mutable))
-unfolding every
 const-spells true = empty
 const-spells false = lit "const " refl
 
@@ -93,7 +90,6 @@ referenceEnd-spells mutable = const-spells mutable ▷ lit "&" refl
 
 sliceEnd-spells : (mutable : Bool) →
     Spells closed (pointerEnd SliceRef mutable) (λ ts. constTokens (not mutable) (quoted ">" ts))
-unfolding every
 sliceEnd-spells true = lit ">" refl
 sliceEnd-spells false = lit "const" refl ▷⟨ refl ⟩ lit ">" refl
 
@@ -124,18 +120,9 @@ space-spells (fn r ts) p = p ▷ lit " " refl
 space-spells (array t n) p = p ▷ lit " " refl
 
 -- a suffix behind a type
-pub suffix-tokens : (s : Suffix) (x : CxxType) (ts : List Token) →
-    typeTokens x (suffixTokens s ts) ≡ typeTokens (withSuffix s x) ts
-suffix-tokens s (suffixed base suffixes) ts = ap (baseTokens base) (go suffixes)
-  where
-    go : (ss : List Suffix) →
-        eachTokens suffixTokens ss (suffixTokens s ts) ≡ eachTokens suffixTokens (ss ++ (s ∷ [])) ts
-    go [] = refl
-    go (x ∷ ss) = ap (suffixTokens x) (go ss)
-
 pub suffix-spells : {a b : List ℕ} (s : Suffix) (x : CxxType) → Spells closed a (typeTokens x) →
     Spells closed b (suffixTokens s) → Spells closed (a ++ b) (typeTokens (withSuffix s x))
-suffix-spells s x p q = as-tokens (suffix-tokens s x) (p ▷ q)
+suffix-spells s x p q = as-tokens (λ ts. sym (suffix-tokens s x ts)) (p ▷ q)
 
 -- ---- items
 
@@ -146,10 +133,6 @@ pub fullName-spells : {items : List Item} (x : Item) → ItemKept items x →
     Spells inside (fullName x) (pathTokens (itemPath x))
 unfolding fullName
 fullName-spells x k = path-spells (itemPath x) (itemPath-names x k)
-
-length-spells : (n : ℕ) → ltb n 4294967296 ≡ true → Spells inside (decimal n) (λ ts. word (Tokens.decimal n) ∷ ts)
-length-spells n h =
-    as-tokens (λ ts. ap (λ (s : List ℕ). word s ∷ ts) (decimal-same n h)) (word-spells (decimal n) (decimal-word n))
 
 more-meets : (items : List Item) (ts : Tys) → meets inside (writeTypes items true ts) inside ≡ true
 unfolding writeTypes
@@ -164,7 +147,7 @@ module _ (items : List Item) (kept : All (ItemKept items) items) where
   item-kept i h = all-at (ItemKept items) items i _ kept (ltb-true i (length items) h)
 
   mutual
-    unfolding every writeType cxxType partsFit typeEnd
+    unfolding writeType cxxType partsFit typeEnd
 
     type-ends : (t : Ty) → partsFit (length items) t ≡ true →
         Spells (typeEnd t) (writeType items t) (typeTokens (cxxType items t))
@@ -185,8 +168,7 @@ module _ (items : List Item) (kept : All (ItemKept items) items) where
         fn-ends r (cxxTypes items ts) (g .0) (types-spell ts (g .1))
     type-ends (array t n) h =
         let q = both (ltb n 4294967296) (partsFit (length items) t) h in
-        lit "::std::array<" refl ▷ weaken (typeEnd t) (type-ends t (q .1)) ▷⟨ refl ⟩ lit ", " refl ▷ length-spells n
-        (q .0)
+        lit "::std::array<" refl ▷ weaken (typeEnd t) (type-ends t (q .1)) ▷⟨ refl ⟩ lit ", " refl ▷ word-spells (decimal n) (decimal-word n)
         ▷⟨ refl ⟩ lit ">" refl
 
     -- the types of the arguments are spelled so

@@ -91,16 +91,6 @@ declarationOf items x f =
       noexcept = true;
     }
 
--- of `sizeof` or `alignof`
-abbrev pub layoutDeclarationOf : Item → Name → Declaration
-layoutDeclarationOf x name =
-    record {
-      result = Tree.value (suffixed (Cxx.atom Cxx.usize) []);
-      symbol = operator x name;
-      parameters = [];
-      noexcept = true;
-    }
-
 abbrev pub measureName : Measure → Name
 measureName Tree.size = bytes "size"
 measureName Tree.align = bytes "align"
@@ -108,6 +98,15 @@ measureName Tree.align = bytes "align"
 abbrev pub operatorName : Measure → Name
 operatorName Tree.size = bytes "sizeof"
 operatorName Tree.align = bytes "alignof"
+
+abbrev pub layoutDeclarationOf : Item → Measure → Declaration
+layoutDeclarationOf x m =
+    record {
+      result = Tree.value (suffixed (Cxx.atom Cxx.usize) []);
+      symbol = operator x (operatorName m);
+      parameters = [];
+      noexcept = true;
+    }
 
 abbrev pub layoutDefinitionOf : Item → Measure → LayoutDefinition
 layoutDefinitionOf x m = record { owner = x .cxx; measure = m; symbol = operator x (operatorName m) }
