@@ -1,10 +1,10 @@
 -- A number comes back from its digits, and the digits are a word.
-use mathlib.Core.Path.{_≡_, refl, ap, _∙_, sym}
+use mathlib.Core.Path.{_≡_, refl}
 use mathlib.Core.List.{List, [], _∷_, _++_}
-use mathlib.Core.Bool.{Bool, true, false, cond, _&&_, _||_}
+use mathlib.Core.Bool.{true, false}
 use Prim.Native.Nat.{ℕ, zero, suc, _≤_, _<_, _+_, _*_, _-_, _/_, _%_}
 use native.Mathlib.Omega.{arith}
-use lib.Dec.{ltb, ltb→lt, nltb→le, T}
+use lib.Dec.{ltb, ltb→lt, nltb→le}
 use Rattle.lexical.specs.Bytes.{every}
 use Rattle.lexical.specs.Decimal.{pickText, digits, decimal}
 use Rattle.lexical.proofs.BoolLaws.{by-cases}

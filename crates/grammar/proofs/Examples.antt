@@ -2,17 +2,21 @@
 use mathlib.Core.Path.{_≡_, refl, subst}
 use mathlib.Core.List.{List, [], _∷_, _++_}
 use mathlib.Core.Bool.{Bool, true, false}
-use Prim.Native.Nat.{ℕ}
+use Prim.Native.Nat.{ℕ, zero, suc}
 use Rattle.lexical.specs.Bytes.{bytes, every, same, member}
+use Rattle.lexical.specs.Decimal.{digits, decimal}
 use Rattle.lexical.specs.Names.{nameShape, nameOk, keywords, alternativeTokens, reserved}
-use Rattle.grammar.specs.Types.{Name, usize, u32, reference, CxxType, suffixed, atom, full}
-use Rattle.grammar.specs.Tree.{void, value, Parameter, named, size, align, free, Operand, direct, bare, returned}
-use Rattle.grammar.specs.Tree.{noReturn, declares, defines, shim, namespace, externC, Body, bodyEnd, item, block}
+use Rattle.grammar.specs.Types.{Name, bool, usize, u32, box, reference, CxxType, suffixed, atom, full, template}
+use Rattle.grammar.specs.Types.{array, voidFn, CxxTypes, nil, cons}
+use Rattle.grammar.specs.Tree.{void, int, value, Parameter, named, slot, size, align, free, Operand, receiver, direct}
+use Rattle.grammar.specs.Tree.{slotAddress, bare, returned, Call}
+use Rattle.grammar.specs.Tree.{inFromRaw, noReturn, Item, declares, defines, shim, namespace, externC, Body, bodyEnd}
+use Rattle.grammar.specs.Tree.{item, block, Forward}
 use Rattle.grammar.specs.Tree.{structLine, forwardEnd, line, bareNamespace, Text, text}
-use Rattle.grammar.specs.Tokens.{textTokens}
 use Rattle.grammar.specs.Rules
 use Rattle.grammar.specs.Reading.{Reads, OneReading}
-use Rattle.grammar.proofs.LexedLayout.{laid}
+use Rattle.grammar.proofs.Checked.{checked}
+use Rattle.grammar.proofs.Forms.{plainShim, formsTree, forms}
 use Rattle.grammar.proofs.Unique.{one-reading}
 
 -- document 01's worked text, over the parameters and operands of its function
@@ -107,20 +111,7 @@ abbrev pub twofold : List ℕ
 twofold = bytes "namespace a { } // namespace a\nvoid f() { g(); }\n"
 
 abbrev shimAfter : List (List ℕ) → Body
-shimAfter comments =
-    item (shim (record {
-      comments = comments;
-      result = void;
-      head = free (bytes "f");
-      parameters = [];
-      isConst = false;
-      noexcept = false;
-      locals = [];
-      call = record { form = bare; symbol = bytes "g"; operands = [] };
-      errorTest = false;
-      ending = noReturn;
-    }))
-    bodyEnd
+shimAfter comments = item (plainShim comments [] (record { form = bare; symbol = bytes "g"; operands = [] })) bodyEnd
 
 abbrev pub inForward : Text
 inForward = text (bareNamespace (bytes "a") forwardEnd forwardEnd) (shimAfter (bytes " namespace a" ∷ []))
@@ -133,31 +124,123 @@ HasForward (text forwardEnd b) = ⊥
 HasForward (text (line l after) b) = Unit {0}
 HasForward (text (bareNamespace x inside after) b) = Unit {0}
 
-readings : Reads workedTree worked × Reads swappedTree swapped × Reads inForward twofold × Reads inBody twofold
-unfolding every same member nameShape nameOk keywords alternativeTokens reserved Rules.isSymbol Rules.fullNameOk Rules.levels Rules.baseLevels Rules.deepest Rules.count Rules.partsOk Rules.baseOk Rules.allPartsOk Rules.resultOk Rules.declaredOk Rules.declaredArguments Rules.declarationOk Rules.layoutOk Rules.headOk Rules.argumentOk Rules.localOk Rules.operandOk Rules.callArguments Rules.formOk Rules.callOk Rules.commentsOk Rules.shimOk Rules.itemOk Rules.bodyOk Rules.lineOk Rules.forwardOk Rules.textOk
-readings = (
-  record { keepsRules = refl; laidOut = laid worked (textTokens workedTree) refl refl },
-  record { keepsRules = refl; laidOut = laid swapped (textTokens swappedTree) refl refl },
-  record { keepsRules = refl; laidOut = laid twofold (textTokens inForward) refl refl },
-  record { keepsRules = refl; laidOut = laid twofold (textTokens inBody) refl refl },
+-- at and over the limits
+
+abbrev boxes : ℕ → CxxType
+boxes zero = suffixed (atom bool) []
+boxes (suc n) = suffixed (template box (boxes n)) []
+
+abbrev types : ℕ → CxxTypes
+types zero = nil
+types (suc n) = cons (boxes 0) (types n)
+
+abbrev copies : {X : Type 0} → ℕ → X → List X
+copies zero x = []
+copies (suc n) x = x ∷ copies n x
+
+abbrev nested : ℕ → Body
+nested zero = bodyEnd
+nested (suc n) = block (namespace (bytes "a")) (nested n) bodyEnd
+
+abbrev nestedForward : ℕ → Forward
+nestedForward zero = forwardEnd
+nestedForward (suc n) = bareNamespace (bytes "a") (nestedForward n) forwardEnd
+
+abbrev declares-main : Item
+declares-main = declares (record { result = int; symbol = bytes "main"; parameters = []; noexcept = true })
+
+-- so many arguments, with a receiver and a slot
+
+abbrev declares-with : ℕ → Item
+declares-with n =
+    declares (record {
+      result = void;
+      symbol = bytes "g";
+      parameters = named (boxes 0) (bytes "self") ∷ slot (boxes 0) ∷ copies n (named (boxes 0) (bytes "x"));
+      noexcept = true;
+    })
+
+abbrev call-with : ℕ → Call
+call-with n = record { form = bare; symbol = bytes "g"; operands = receiver ∷ slotAddress ∷ copies n (direct (bytes "x")) }
+
+abbrev shim-with : ℕ → Item
+shim-with n = plainShim [] (copies n (named (boxes 0) (bytes "x"))) (call-with 0)
+
+-- the first passes and the second does not
+abbrev Limit : Bool → Bool → Type 0
+Limit within over = (within ≡ true) × (over ≡ false)
+
+pub record Limits : Type 0 where
+  pub levels : Limit (Rules.typeOk 8 (boxes 7)) (Rules.typeOk 8 (boxes 8))
+  pub declaredLevels : Limit (Rules.declaredOk (named (boxes 8) (bytes "x"))) (Rules.declaredOk (named (boxes 9) (bytes "x")))
+  pub wrappedLevels : Limit (Rules.formOk (inFromRaw (boxes 6))) (Rules.formOk (inFromRaw (boxes 7)))
+  pub fnArguments : Limit (Rules.baseOk (voidFn (types 15))) (Rules.baseOk (voidFn (types 16)))
+  pub arrayLength : Limit (Rules.baseOk (array (boxes 0) 4294967295)) (Rules.baseOk (array (boxes 0) 4294967296))
+  pub fullName : Limit (Rules.fullNameOk (copies 8 (bytes "a"))) (Rules.fullNameOk (copies 9 (bytes "a")))
+  pub stdName : Limit (Rules.fullNameOk (bytes "std" ∷ [])) (Rules.fullNameOk (bytes "std" ∷ bytes "a" ∷ []))
+  pub namespaces : Limit (Rules.bodyOk 0 false (nested 7)) (Rules.bodyOk 0 false (nested 8))
+  pub forwardNamespaces : Limit (Rules.forwardOk 0 (nestedForward 7)) (Rules.forwardOk 0 (nestedForward 8))
+  pub declaredArguments : Limit (Rules.itemOk 0 true (declares-with 31)) (Rules.itemOk 0 true (declares-with 32))
+  pub callArguments : Limit (Rules.callOk (call-with 31)) (Rules.callOk (call-with 32))
+  pub shimArguments : Limit (Rules.itemOk 0 false (shim-with 31)) (Rules.itemOk 0 false (shim-with 32))
+  pub comments : Limit (Rules.commentsOk (copies 31 [])) (Rules.commentsOk (copies 32 []))
+  pub commentLength : Limit (Rules.commentsOk (copies 128 32 ∷ [])) (Rules.commentsOk (copies 129 32 ∷ []))
+  pub mainInRoot : Limit (Rules.itemOk 0 true declares-main) (Rules.itemOk 1 true declares-main)
+  pub inExternC : Limit (Rules.itemOk 0 true declares-main) (Rules.itemOk 0 false declares-main)
+
+computed : Reads workedTree worked × Reads swappedTree swapped × Reads inForward twofold × Reads inBody twofold × Reads formsTree forms
+    × Limits
+unfolding every same member digits decimal nameShape nameOk keywords alternativeTokens reserved Rules.isSymbol Rules.fullNameOk Rules.levels Rules.baseLevels Rules.deepest Rules.count Rules.partsOk Rules.baseOk Rules.allPartsOk Rules.resultOk Rules.declaredOk Rules.declaredArguments Rules.declarationOk Rules.layoutOk Rules.headOk Rules.argumentOk Rules.localOk Rules.operandOk Rules.callArguments Rules.formOk Rules.callOk Rules.commentsOk Rules.shimOk Rules.itemOk Rules.bodyOk Rules.lineOk Rules.forwardOk Rules.textOk
+computed = (
+  checked workedTree worked refl,
+  checked swappedTree swapped refl,
+  checked inForward twofold refl,
+  checked inBody twofold refl,
+  checked formsTree forms refl,
+  record {
+    levels = (refl, refl);
+    declaredLevels = (refl, refl);
+    wrappedLevels = (refl, refl);
+    fnArguments = (refl, refl);
+    arrayLength = (refl, refl);
+    fullName = (refl, refl);
+    stdName = (refl, refl);
+    namespaces = (refl, refl);
+    forwardNamespaces = (refl, refl);
+    declaredArguments = (refl, refl);
+    callArguments = (refl, refl);
+    shimArguments = (refl, refl);
+    comments = (refl, refl);
+    commentLength = (refl, refl);
+    mainInRoot = (refl, refl);
+    inExternC = (refl, refl);
+  },
 )
 
 -- document 01's text has this reading and no other
 pub worked-reads : Reads workedTree worked
-worked-reads = readings .0
+worked-reads = computed .0
 
 pub worked-once : OneReading worked
-unfolding same
 worked-once = one-reading workedTree worked worked-reads refl
 
 -- a text in which a call hands its operands on in another order is read too, and also has no other reading
 pub swapped-reads : Reads swappedTree swapped
-swapped-reads = readings .1
+swapped-reads = computed .1
 
 pub swapped-once : OneReading swapped
-unfolding same
 swapped-once = one-reading swappedTree swapped swapped-reads refl
 
 pub ambiguous : Reads inForward twofold × Reads inBody twofold × (inForward ≡ inBody → ⊥)
 unfolding HasForward
-ambiguous = (readings .2, readings .3, λ e. subst HasForward e tt)
+ambiguous = (computed .2, computed .3, λ e. subst HasForward e tt)
+
+-- every form of the grammar is read
+pub forms-read : Reads formsTree forms
+forms-read = computed .4
+
+pub forms-once : OneReading forms
+forms-once = one-reading formsTree forms forms-read refl
+
+pub limits : Limits
+limits = computed .5

@@ -1,18 +1,18 @@
 -- The parser gives back each declaration, layout definition and shim from its tokens.
-use mathlib.Core.Path.{_≡_, refl, ap, _∙_, sym}
+use mathlib.Core.Path.{_≡_, refl, _∙_}
 use mathlib.Core.List.{List, [], _∷_, _++_}
-use mathlib.Core.Bool.{Bool, true, false, _&&_, _||_, not, cond, false≢true}
-use mathlib.Core.Option.{Option, none, some}
-use Prim.Native.Nat.{ℕ, zero, suc, _≤_, _+_}
+use mathlib.Core.Bool.{Bool, true, false, _&&_, not, false≢true}
+use mathlib.Core.Option.{Option}
+use Prim.Native.Nat.{ℕ, suc, _≤_, _+_}
 use native.Mathlib.Omega.{arith}
 use lib.Dec.{leb}
 use lib.ListN.{length}
 use Rattle.lexical.specs.Bytes.{bytes, every, same}
 use Rattle.lexical.specs.Names.{isName}
-use Rattle.lexical.proofs.BoolLaws.{both, and-of, not-true}
+use Rattle.lexical.proofs.BoolLaws.{both, not-true}
 use Rattle.lexical.proofs.ByteLaws.{every-weaken}
-use Rattle.grammar.specs.Token.{Token, word, mark, scope, comment, quoted}
-use Rattle.grammar.specs.Types.{Name, usize, CxxType, suffixed, Base, atom, box, uniquePtr, template}
+use Rattle.grammar.specs.Token.{Token, word, scope, comment, quoted}
+use Rattle.grammar.specs.Types.{Name, usize, CxxType, suffixed, atom, box, uniquePtr, template}
 use Rattle.grammar.specs.Tree.{Result, void, ptrLen, fat, int, value, Parameter, named, slot, Declaration}
 use Rattle.grammar.specs.Tree.{Measure, size, align, LayoutDefinition, Head, free, method, Local, held, room}
 use Rattle.grammar.specs.Tree.{Operand, receiver, direct, intoRaw, release, address, heldAddress, slotAddress}
@@ -24,13 +24,13 @@ use Rattle.grammar.specs.Tokens.{resultTokens, parameterTokens, headToke
 use Rattle.grammar.specs.Tokens.{measureTokens, layoutTokens, operandTokens, localTokens, formTokens, closeTokens}
 use Rattle.grammar.specs.Tokens.{callTokens, errorTestTokens, endingTokens, commentTokens, shimTokens, itemTokens}
 use Rattle.grammar.specs.Rules.{maxLevels, maxDeclaredLevels, maxArguments, isSymbol, levels, partsOk, baseOk, typeOk}
-use Rattle.grammar.specs.Rules.{resultOk, isMain, declaredOk, declaredArguments, declarationOk, layoutOk, headOk}
+use Rattle.grammar.specs.Rules.{resultOk, isMain, declaredOk, declaredArguments, declarationOk, headOk}
 use Rattle.grammar.specs.Rules.{argumentOk, localOk, operandOk, callArguments, formOk, callOk, commentsOk, shimOk}
 use Rattle.grammar.specs.Rules.{itemOk}
-use Rattle.grammar.proofs.Parser.{begins, Parser, fork, need, flagP, wordP, commentP, pathP, manyP, listP, typeP}
-use Rattle.grammar.proofs.Parser.{typesP, startP, isComment, isLocal, nameOf, onResult, resultP, parameterP, operandP}
+use Rattle.grammar.proofs.Parser.{begins, fork, flagP, wordP, commentP, pathP, manyP, listP, typeP}
+use Rattle.grammar.proofs.Parser.{typesP, isComment, isLocal, onResult, resultP, parameterP, operandP}
 use Rattle.grammar.proofs.Parser.{localP, formP, closeP, callP, errorTestP, endingP, tailP, parametersP, namedP, itemP}
-use Rattle.grammar.proofs.TypeBack.{typeSize, baseSize, typeEnds, type-back, base-back, type-first, no-close, opened}
+use Rattle.grammar.proofs.TypeBack.{typeSize, typeEnds, type-back, base-back, type-first, no-close, no-void, opened}
 use Rattle.grammar.proofs.TypeBack.{suffixes-back, scope-free}
 use Rattle.grammar.proofs.ListBack.{listSize, many-back, list-back}
 use Rattle.grammar.proofs.RuleFacts.{name-no-slot, symbol-no-return, front-snoc, held-no-slot}
@@ -69,10 +69,6 @@ module _ (P : List Token → Type 0) (path : (r : List Token) → P (scope ∷ r
   result-first fat o r = path _
   result-first int o r = plain r .1
   result-first (value x) o r = type-first P path words x o r
-
-no-void : (x : CxxType) → partsOk x ≡ true → (r : List Token) → begins "void" (typeTokens x r) ≡ false
-unfolding same
-no-void = type-first (λ r. begins "void" r ≡ false) (λ r. refl) (λ r. (refl, refl, refl, refl))
 
 no-int : (x : CxxType) → partsOk x ≡ true → (r : List Token) → begins "int" (typeTokens x r) ≡ false
 unfolding same

@@ -1,17 +1,17 @@
 -- The tokens that the lexer finds are laid out as the text, if each mark is one and no comment splices a line.
-use mathlib.Core.Path.{_≡_, refl, ap, _∙_, sym}
+use mathlib.Core.Path.{_≡_, refl}
 use mathlib.Core.List.{List, [], _∷_, _++_, append-assoc}
-use mathlib.Core.Bool.{Bool, true, false, _&&_, _||_, not, cond, false≢true}
+use mathlib.Core.Bool.{Bool, true, _&&_, not, false≢true}
 use Prim.Native.Nat.{ℕ}
 use lib.Dec.{eqb}
-use Rattle.lexical.specs.Bytes.{bytes, elem, every}
+use Rattle.lexical.specs.Bytes.{bytes, every}
 use Rattle.lexical.proofs.BoolLaws.{both, and-of, by-cases}
 use Rattle.lexical.proofs.ByteLaws.{byte-eq, every-snoc}
-use Rattle.grammar.specs.Token.{Token, word, mark, scope, colon, linkage, comment, wordChar, markChar, spelling}
-use Rattle.grammar.specs.Layout.{blankChar, nonempty, endsIn, inLine, wellFormed, noWordChar, lineEnd, endsBefore}
+use Rattle.grammar.specs.Token.{Token, word, mark, scope, colon, linkage, comment, wordChar, markChar}
+use Rattle.grammar.specs.Layout.{blankChar, nonempty, endsIn, inLine}
 use Rattle.grammar.specs.Layout.{Layout, finished, blank, token}
 use Rattle.grammar.proofs.Lexer.{Mode, between, inWord, afterColon, afterSlash, afterQuote, afterQuoteC, inComment}
-use Rattle.grammar.proofs.Lexer.{begin, emitFirst, next, emit, flush, run, lex}
+use Rattle.grammar.proofs.Lexer.{run, lex}
 
 -- what the lexer leaves open of a token's form
 abbrev pub sound : Token → Bool
@@ -47,7 +47,8 @@ fitting afterQuoteC = true
 fitting (inComment a) = every inLine a
 
 Continues : List ℕ → Type 0
-Continues r = (mode : Mode) → fitting mode ≡ true → allSound (run mode r) ≡ true → Layout (run mode r) (pending mode ++ r)
+Continues r =
+    (mode : Mode) → fitting mode ≡ true → allSound (run mode r) ≡ true → Layout (run mode r) (pending mode ++ r)
 
 start : (c : ℕ) (r : List ℕ) → Continues r → allSound (lex (c ∷ r)) ≡ true → Layout (lex (c ∷ r)) (c ∷ r)
 unfolding every Continues pending fitting
@@ -57,7 +58,8 @@ start c r ih =
     (λ f. by-cases (eqb c 47) (λ g. rw (byte-eq c 47 g) (λ h. ih afterSlash refl h))
     (λ g. by-cases (eqb c 34) (λ k. rw (byte-eq c 34 k) (λ h. ih afterQuote refl h))
     (λ k. by-cases (blankChar c) (λ l. rw (e, f, g, k, l) (λ h. blank l (ih between refl h)))
-    (λ l. rw (e, f, g, k, l) (λ h. let p = both (markChar c) (allSound (lex r)) h in token {t = mark c} (p .0) refl (ih between refl (p .1))))))))
+    (λ l. rw (e, f, g, k, l) (λ h.
+    let p = both (markChar c) (allSound (lex r)) h in token {t = mark c} (p .0) refl (ih between refl (p .1))))))))
 
 pub some-snoc : (a : List ℕ) (c : ℕ) → nonempty (a ++ (c ∷ [])) ≡ true
 some-snoc [] c = refl
@@ -71,7 +73,9 @@ module _ (c : ℕ) (r : List ℕ) (ih : Continues r) where
   unfolding every Continues pending fitting Step
   step-word a i =
       by-cases (wordChar c)
-      (λ e. rw (e, ← append-assoc a (c ∷ []) r) (λ h. ih (inWord (a ++ (c ∷ []))) (rw (some-snoc a c) (every-snoc wordChar a c ((both (nonempty a) (every wordChar a) i) .1) e)) h))
+      (λ e. rw (e, ← append-assoc a (c ∷ []) r)
+      (λ h. ih (inWord (a ++ (c ∷ [])))
+      (rw (some-snoc a c) (every-snoc wordChar a c (both (nonempty a) (every wordChar a) i .1) e)) h))
       (λ e. let q : run (inWord a) (c ∷ r) ≡ word a ∷ lex (c ∷ r) = rw e in
       rw q (λ h. token {t = word a} {s = c ∷ r} i (rw e) (start c r ih h)))
 
@@ -79,19 +83,24 @@ module _ (c : ℕ) (r : List ℕ) (ih : Continues r) where
   unfolding every Continues pending fitting Step
   step-colon =
       by-cases (eqb c 58) (λ e. rw (byte-eq c 58 e) (λ h. token {t = scope} refl refl (ih between refl h)))
-      (λ e. let q : run afterColon (c ∷ r) ≡ colon ∷ lex (c ∷ r) = rw e in rw q (λ h. token {t = colon} {s = c ∷ r} refl (rw e) (start c r ih h)))
+      (λ e. let q : run afterColon (c ∷ r) ≡ colon ∷ lex (c ∷ r) = rw e in
+      rw q (λ h. token {t = colon} {s = c ∷ r} refl (rw e) (start c r ih h)))
 
   step-slash : Step afterSlash
   unfolding every Continues pending fitting Step
-  step-slash = by-cases (eqb c 47) (λ e. rw (byte-eq c 47 e) (λ h. ih (inComment []) refl h)) (λ e. rw e (λ h. absurd (false≢true h)))
+  step-slash =
+      by-cases (eqb c 47) (λ e. rw (byte-eq c 47 e) (λ h. ih (inComment []) refl h)) (λ e. rw e (λ h. absurd (false≢true h)))
 
   step-quote : Step afterQuote
   unfolding every Continues pending fitting Step
-  step-quote = by-cases (eqb c 67) (λ e. rw (byte-eq c 67 e) (λ h. ih afterQuoteC refl h)) (λ e. rw e (λ h. absurd (false≢true h)))
+  step-quote =
+      by-cases (eqb c 67) (λ e. rw (byte-eq c 67 e) (λ h. ih afterQuoteC refl h)) (λ e. rw e (λ h. absurd (false≢true h)))
 
   step-quote-c : Step afterQuoteC
   unfolding every Continues pending fitting Step
-  step-quote-c = by-cases (eqb c 34) (λ e. rw (byte-eq c 34 e) (λ h. token {t = linkage} refl refl (ih between refl h))) (λ e. rw e (λ h. absurd (false≢true h)))
+  step-quote-c =
+      by-cases (eqb c 34) (λ e. rw (byte-eq c 34 e) (λ h. token {t = linkage} refl refl (ih between refl h)))
+      (λ e. rw e (λ h. absurd (false≢true h)))
 
   step-line : (a : List ℕ) → fitting (inComment a) ≡ true → Step (inComment a)
   unfolding every Continues pending fitting Step
@@ -100,7 +109,8 @@ module _ (c : ℕ) (r : List ℕ) (ih : Continues r) where
       (λ e. rw (byte-eq c 10 e) (λ h.
       let p = both (sound (comment a)) (allSound (lex r)) h in
       token {t = comment a} (and-of (every inLine a) (not (endsIn 92 a)) i (p .0)) refl (blank refl (ih between refl (p .1)))))
-      (λ e. rw (e, ← append-assoc a (c ∷ []) r) (λ h. ih (inComment (a ++ (c ∷ []))) (every-snoc inLine a c i (rw e)) h))
+      (λ e. rw (e, ← append-assoc a (c ∷ []) r)
+      (λ h. ih (inComment (a ++ (c ∷ []))) (every-snoc inLine a c i (rw e)) h))
 
 laid-all : (r : List ℕ) → Continues r
 unfolding every Continues pending fitting Step
@@ -111,7 +121,8 @@ laid-all [] afterSlash i h = absurd (false≢true h)
 laid-all [] afterQuote i h = absurd (false≢true h)
 laid-all [] afterQuoteC i h = absurd (false≢true h)
 laid-all [] (inComment a) i h =
-    token {t = comment a} (and-of (every inLine a) (not (endsIn 92 a)) i (both (sound (comment a)) true h .0)) refl finished
+    token {t = comment a} (and-of (every inLine a) (not (endsIn 92 a)) i (both (sound (comment a)) true h .0)) refl
+    finished
 laid-all (c ∷ r) between i h = start c r (laid-all r) h
 laid-all (c ∷ r) (inWord a) i h = step-word c r (laid-all r) a i h
 laid-all (c ∷ r) afterColon i h = step-colon c r (laid-all r) h

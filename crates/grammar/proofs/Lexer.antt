@@ -1,14 +1,14 @@
 -- A lexer, one step a byte: it finds the tokens that are laid out as a text.
 use mathlib.Core.Path.{_≡_, refl, ap, _∙_, sym}
 use mathlib.Core.List.{List, [], _∷_, _++_, append-assoc, append-nil}
-use mathlib.Core.Bool.{Bool, true, false, _&&_, _||_, not, cond, false≢true}
+use mathlib.Core.Bool.{true, _||_, not, cond, false≢true}
 use Prim.Native.Nat.{ℕ}
 use lib.Dec.{eqb}
-use Rattle.lexical.specs.Bytes.{bytes, elem, every}
+use Rattle.lexical.specs.Bytes.{bytes, every}
 use Rattle.lexical.proofs.BoolLaws.{not-true, both}
 use Rattle.lexical.proofs.ByteLaws.{byte-eq, each}
-use Rattle.grammar.specs.Token.{Token, word, mark, scope, colon, linkage, comment, wordChar, markChar, spelling}
-use Rattle.grammar.specs.Layout.{blankChar, nonempty, endsIn, inLine, wellFormed, noWordChar, noColon, lineEnd}
+use Rattle.grammar.specs.Token.{Token, word, mark, scope, colon, linkage, comment, wordChar, spelling}
+use Rattle.grammar.specs.Layout.{blankChar, endsIn, inLine, wellFormed, noWordChar, noColon, lineEnd}
 use Rattle.grammar.specs.Layout.{endsBefore, Layout, finished, blank, token}
 
 pub data Mode : Type 0 where
@@ -19,7 +19,9 @@ pub data Mode : Type 0 where
 
 -- the mode after a byte that begins a token, and what it emits
 abbrev pub begin : ℕ → Mode
-begin c = cond (wordChar c) (inWord (c ∷ [])) (cond (eqb c 58) afterColon (cond (eqb c 47) afterSlash (cond (eqb c 34) afterQuote between)))
+begin c =
+    cond (wordChar c) (inWord (c ∷ []))
+    (cond (eqb c 58) afterColon (cond (eqb c 47) afterSlash (cond (eqb c 34) afterQuote between)))
 
 -- a byte that is no blank and begins nothing is a mark, well-formed or not
 abbrev pub emitFirst : ℕ → List Token → List Token
@@ -68,14 +70,16 @@ colon-end [] e = refl
 colon-end (c ∷ r) e = rw (not-true (eqb c 58) e)
 
 -- a layout's tokens are what the lexer finds
-word-run : (u a r : List ℕ) → every wordChar u ≡ true → noWordChar r ≡ true → run (inWord a) (u ++ r) ≡ word (a ++ u) ∷ run between r
+word-run : (u a r : List ℕ) → every wordChar u ≡ true → noWordChar r ≡ true →
+    run (inWord a) (u ++ r) ≡ word (a ++ u) ∷ run between r
 unfolding every
 word-run [] a r h e = rw append-nil (word-end a r e)
 word-run (c ∷ u) a r h e =
     let p = both (wordChar c) (every wordChar u) h in
     rw (p .0) (word-run u (a ++ (c ∷ [])) r (p .1) e ∙ simp append-assoc)
 
-line-run : (u a r : List ℕ) → every inLine u ≡ true → lineEnd r ≡ true → run (inComment a) (u ++ r) ≡ comment (a ++ u) ∷ run between r
+line-run : (u a r : List ℕ) → every inLine u ≡ true → lineEnd r ≡ true →
+    run (inComment a) (u ++ r) ≡ comment (a ++ u) ∷ run between r
 unfolding every
 line-run [] a [] h e = rw append-nil
 line-run [] a (c ∷ r) h e = rw (append-nil, byte-eq c 10 e)
@@ -83,13 +87,16 @@ line-run (c ∷ u) a r h e =
     let p = both (inLine c) (every inLine u) h in
     rw (not-true (eqb c 10) (p .0)) (line-run u (a ++ (c ∷ [])) r (p .1) e ∙ simp append-assoc)
 
-pub token-run : (t : Token) (r : List ℕ) → wellFormed t ≡ true → endsBefore t r ≡ true → lex (spelling t ++ r) ≡ t ∷ lex r
+pub token-run : (t : Token) (r : List ℕ) → wellFormed t ≡ true → endsBefore t r ≡ true →
+    lex (spelling t ++ r) ≡ t ∷ lex r
 unfolding every
 token-run (word []) r h e = absurd (false≢true h)
 token-run (word (c ∷ u)) r h e =
     let p = both (wordChar c) (every wordChar u) h in
     rw (p .0) (word-run u (c ∷ []) r (p .1) e)
-token-run (mark c) r h e = each (λ c. lex (c ∷ r) ≡ mark c ∷ lex r) (bytes "(){}<>,;&*=.") (refl, (refl, (refl, (refl, (refl, (refl, (refl, (refl, (refl, (refl, (refl, (refl, tt)))))))))))) c h
+token-run (mark c) r h e =
+    each (λ c. lex (c ∷ r) ≡ mark c ∷ lex r) (bytes "(){}<>,;&*=.")
+    (refl, (refl, (refl, (refl, (refl, (refl, (refl, (refl, (refl, (refl, (refl, (refl, tt)))))))))))) c h
 token-run scope r h e = refl
 token-run colon r h e = colon-end r e
 token-run linkage r h e = refl

@@ -1,6 +1,7 @@
+-- In reading order. A layout has one list of tokens:
 pub mod Lexer
 pub mod LexedLayout
-pub mod Literal
+-- and tokens have one tree:
 pub mod Parser
 pub mod Decimal
 pub mod TypeBack
@@ -8,6 +9,12 @@ pub mod RuleFacts
 pub mod ListBack
 pub mod ItemBack
 pub mod TextBack
-pub mod Pieces
+pub mod Braces
 pub mod Unique
+-- Readings by computation:
+pub mod Literal
+pub mod Checked
+pub mod Forms
 pub mod Examples
+-- Readings by composition:
+pub mod Pieces

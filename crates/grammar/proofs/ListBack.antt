@@ -1,13 +1,13 @@
 -- The parsers of lists give back each list whose elements they give back.
-use mathlib.Core.Path.{_≡_, refl, ap, _∙_, sym}
-use mathlib.Core.List.{List, [], _∷_, _++_}
-use mathlib.Core.Bool.{Bool, true, false, _&&_, _||_, not}
-use mathlib.Core.Option.{Option, none, some}
+use mathlib.Core.Path.{_≡_, refl, _∙_}
+use mathlib.Core.List.{List, [], _∷_}
+use mathlib.Core.Bool.{Bool, true, false}
+use mathlib.Core.Option.{Option}
 use Prim.Native.Nat.{ℕ, zero, suc, _≤_, _+_}
 use native.Mathlib.Omega.{arith}
-use Rattle.lexical.specs.Bytes.{bytes, every, same}
+use Rattle.lexical.specs.Bytes.{every, same}
 use Rattle.lexical.proofs.ByteLaws.{every-cons}
-use Rattle.grammar.specs.Token.{Token, mark, quoted}
+use Rattle.grammar.specs.Token.{Token, quoted}
 use Rattle.grammar.specs.Tokens.{eachTokens, commaTokens, listTokens}
 use Rattle.grammar.proofs.Parser.{begins, Parser, fork, manyP, commaP, listP}
 

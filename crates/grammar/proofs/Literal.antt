@@ -1,7 +1,7 @@
 -- A literal in front of a text that is laid out: what the lexer finds in it, and then the text's tokens.
 use mathlib.Core.Path.{_≡_, refl, ap, _∙_, sym}
-use mathlib.Core.List.{List, [], _∷_, _++_}
-use mathlib.Core.Bool.{Bool, true, false, _&&_, _||_, not, cond, false≢true}
+use mathlib.Core.List.{List, [], _∷_, _++_, append-assoc}
+use mathlib.Core.Bool.{Bool, true, false, _||_, not, cond, false≢true}
 use Prim.Native.Nat.{ℕ}
 use lib.Dec.{eqb}
 use Rattle.lexical.proofs.BoolLaws.{both, and-of}
@@ -10,7 +10,7 @@ use Rattle.grammar.specs.Token.{Token, word, mark, scope, colon, linkage
 use Rattle.lexical.specs.Bytes.{every}
 use Rattle.grammar.specs.Layout.{blankChar, endsIn, inLine, wellFormed, noWordChar, noColon, lineEnd, Layout, finished, blank, token}
 use Rattle.grammar.proofs.Lexer.{Mode, between, inWord, afterColon, afterSlash, afterQuote, afterQuoteC, inComment}
-use Rattle.grammar.proofs.Lexer.{emitFirst, next, emit, flush, run, lex, lexed, word-end, colon-end}
+use Rattle.grammar.proofs.Lexer.{emitFirst, next, emit, run, lex, lexed, word-end, colon-end}
 use Rattle.grammar.proofs.LexedLayout.{sound, allSound, laid}
 
 abbrev pub final : Mode → List ℕ → Mode
@@ -34,20 +34,27 @@ cond-append false x y z = refl
 begin-append : (c : ℕ) (x y : List Token) → emitFirst c x ++ y ≡ emitFirst c (x ++ y)
 begin-append c x y = cond-append (wordChar c || eqb c 58 || eqb c 47 || eqb c 34 || blankChar c) x (mark c ∷ x) y
 
+-- a token that ends before c, or with it
+late-append : (ends : Bool) (us vs : List Token) (c : ℕ) (x y : List Token) →
+    cond ends (us ++ x) (vs ++ emitFirst c x) ++ y ≡ cond ends (us ++ (x ++ y)) (vs ++ emitFirst c (x ++ y))
+late-append true us vs c x y = append-assoc us x y
+late-append false us vs c x y = append-assoc vs (emitFirst c x) y ∙ ap (λ (z : List Token). vs ++ z) (begin-append c x y)
+
 emit-append : (mode : Mode) (c : ℕ) (x y : List Token) → emit mode c x ++ y ≡ emit mode c (x ++ y)
 emit-append between c x y = begin-append c x y
-emit-append (inWord a) c x y = cond-append (wordChar c) x (word a ∷ emitFirst c x) y ∙ ap (λ (z : List Token). cond (wordChar c) (x ++ y) (word a ∷ z)) (begin-append c x y)
-emit-append afterColon c x y = cond-append (eqb c 58) (scope ∷ x) (colon ∷ emitFirst c x) y ∙ ap (λ (z : List Token). cond (eqb c 58) (scope ∷ (x ++ y)) (colon ∷ z)) (begin-append c x y)
-emit-append afterSlash c x y = cond-append (eqb c 47) x (mark 47 ∷ emitFirst c x) y ∙ ap (λ (z : List Token). cond (eqb c 47) (x ++ y) (mark 47 ∷ z)) (begin-append c x y)
-emit-append afterQuote c x y = cond-append (eqb c 67) x (mark 34 ∷ emitFirst c x) y ∙ ap (λ (z : List Token). cond (eqb c 67) (x ++ y) (mark 34 ∷ z)) (begin-append c x y)
-emit-append afterQuoteC c x y = cond-append (eqb c 34) (linkage ∷ x) (mark 34 ∷ mark 67 ∷ emitFirst c x) y ∙ ap (λ (z : List Token). cond (eqb c 34) (linkage ∷ (x ++ y)) (mark 34 ∷ mark 67 ∷ z)) (begin-append c x y)
+emit-append (inWord a) c x y = late-append (wordChar c) [] (word a ∷ []) c x y
+emit-append afterColon c x y = late-append (eqb c 58) (scope ∷ []) (colon ∷ []) c x y
+emit-append afterSlash c x y = late-append (eqb c 47) [] (mark 47 ∷ []) c x y
+emit-append afterQuote c x y = late-append (eqb c 67) [] (mark 34 ∷ []) c x y
+emit-append afterQuoteC c x y = late-append (eqb c 34) (linkage ∷ []) (mark 34 ∷ mark 67 ∷ []) c x y
 emit-append (inComment a) c x y = cond-append (eqb c 10) (comment a ∷ x) x y
 
 line-end : (a r : List ℕ) → lineEnd r ≡ true → run (inComment a) r ≡ comment a ∷ lex r
 line-end a [] h = refl
 line-end a (c ∷ r) h = rw (byte-eq c 10 h)
 
-run-append : (a : List ℕ) (mode : Mode) (r : List ℕ) → seam (final mode a) r ≡ true → run mode (a ++ r) ≡ run mode a ++ lex r
+run-append : (a : List ℕ) (mode : Mode) (r : List ℕ) → seam (final mode a) r ≡ true →
+    run mode (a ++ r) ≡ run mode a ++ lex r
 run-append [] between r h = refl
 run-append [] (inWord a) r h = word-end a r h
 run-append [] afterColon r h = colon-end r h
@@ -55,7 +62,8 @@ run-append [] afterSlash r h = absurd (false≢true h)
 run-append [] afterQuote r h = absurd (false≢true h)
 run-append [] afterQuoteC r h = absurd (false≢true h)
 run-append [] (inComment a) r h = line-end a r h
-run-append (c ∷ a) mode r h = ap (emit mode c) (run-append a (next mode c) r h) ∙ sym (emit-append mode c (run (next mode c) a) (lex r))
+run-append (c ∷ a) mode r h =
+    ap (emit mode c) (run-append a (next mode c) r h) ∙ sym (emit-append mode c (run (next mode c) a) (lex r))
 
 sound-append : (x y : List Token) → allSound x ≡ true → allSound y ≡ true → allSound (x ++ y) ≡ true
 sound-append [] y h e = e
@@ -74,6 +82,10 @@ laid-sound finished = refl
 laid-sound (blank h d) = laid-sound d
 laid-sound (token {t} {ts} h e d) = and-of (sound t) (allSound ts) (sound-of t h) (laid-sound d)
 
-pub literal : (a : List ℕ) {ts : List Token} {r : List ℕ} → allSound (lex a) ≡ true → seam (final between a) r ≡ true → Layout ts r → Layout (lex a ++ ts) (a ++ r)
+-- `literal (bytes "...") refl refl` where the text ends in a mark or a blank; where it ends in a word, the second is
+-- a proof that no word character follows
+pub literal : (a : List ℕ) {ts : List Token} {r : List ℕ} → allSound (lex a) ≡ true → seam (final between a) r ≡ true →
+    Layout ts r → Layout (lex a ++ ts) (a ++ r)
 literal a {ts} {r} h e d =
-    laid (a ++ r) (lex a ++ ts) (sound-append (lex a) ts h (laid-sound d)) (run-append a between r e ∙ ap (λ (x : List Token). lex a ++ x) (lexed d))
+    laid (a ++ r) (lex a ++ ts) (sound-append (lex a) ts h (laid-sound d))
+    (run-append a between r e ∙ ap (λ (x : List Token). lex a ++ x) (lexed d))

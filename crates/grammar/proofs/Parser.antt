@@ -4,18 +4,17 @@ use mathlib.Core.Bool.{Bool, true, false, _&&_, _||_, not, cond}
 use mathlib.Core.Option.{Option, none, some}
 use Prim.Native.Nat.{ℕ, zero, suc, _+_, _*_, _-_}
 use Prim.Native.String.{String}
-use lib.Dec.{eqb}
 use Rattle.lexical.specs.Bytes.{bytes, same}
 use Rattle.grammar.specs.Token.{Token, word, mark, scope, colon, linkage, comment, quoted}
 use Rattle.grammar.specs.Types.{Name, Atom, bool, char, u8, u16, u32, u64, usize, i8, i16, i32, i64, isize}
 use Rattle.grammar.specs.Types.{f32, f64, cxxString, rustString, Template, box, vec, uniquePtr, sharedPtr}
 use Rattle.grammar.specs.Types.{weakPtr, vector, Suffix, reference, pointer, CxxType, suffixed, Base, atom, str}
 use Rattle.grammar.specs.Types.{full, template, slice, array, voidFn, fn, CxxTypes, nil, cons}
-use Rattle.grammar.specs.Tree.{Result, void, ptrLen, fat, int, value, Parameter, named, slot, Declaration}
-use Rattle.grammar.specs.Tree.{Measure, size, align, LayoutDefinition, Head, free, method, Local, held, room}
+use Rattle.grammar.specs.Tree.{Result, void, ptrLen, fat, int, value, Parameter, named, slot}
+use Rattle.grammar.specs.Tree.{size, align, Head, free, method, Local, held, room}
 use Rattle.grammar.specs.Tree.{Operand, receiver, direct, intoRaw, release, address, heldAddress, slotAddress}
 use Rattle.grammar.specs.Tree.{CallForm, bare, error, returned, dereferenced, inFromRaw, inUniquePtr}
-use Rattle.grammar.specs.Tree.{inNewUnchecked, inSlice, Call, Ending, noReturn, returnSlot, moveSlot, Shim, Item}
+use Rattle.grammar.specs.Tree.{inNewUnchecked, inSlice, Call, Ending, noReturn, returnSlot, moveSlot, Item}
 use Rattle.grammar.specs.Tree.{declares, defines, shim, Block, namespace, externC, Body, bodyEnd, item, block}
 use Rattle.grammar.specs.Tree.{Line, structLine, enumLine, usingLine, Forward, forwardEnd, line, bareNamespace}
 use Rattle.grammar.specs.Tree.{Text, text}

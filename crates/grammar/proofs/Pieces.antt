@@ -2,17 +2,17 @@
 -- A piece that is spelled out whole is one use of `literal`.
 use mathlib.Core.Path.{_≡_, refl, ap, _∙_, sym}
 use mathlib.Core.List.{List, [], _∷_, _++_, append-assoc, map}
-use mathlib.Core.Bool.{Bool, true, false, _&&_, _||_, not, false≢true}
+use mathlib.Core.Bool.{Bool, true, false, _&&_, not, false≢true}
 use Prim.Native.Nat.{ℕ}
 use lib.Dec.{eqb}
 use Rattle.lexical.specs.Bytes.{bytes, every, member}
 use Rattle.lexical.specs.Decimal.{decimal}
 use Rattle.lexical.specs.Names.{nameStart, nameChar, starts, reserved, isName}
-use Rattle.lexical.proofs.BoolLaws.{both, and-of, or-left, not-true, by-cases}
+use Rattle.lexical.proofs.BoolLaws.{both, and-of, by-cases}
 use Rattle.lexical.proofs.ByteLaws.{byte-eq, every-cons, every-snoc, every-weaken}
 use Rattle.lexical.proofs.NameLaws.{name-starts, name-chars}
-use Rattle.grammar.specs.Token.{Token, word, mark, comment, wordChar, quoted}
-use Rattle.grammar.specs.Layout.{nonempty, endsIn, inLine, wellFormed, noWordChar, lineEnd, Layout, blank, token}
+use Rattle.grammar.specs.Token.{Token, word, comment, wordChar, quoted}
+use Rattle.grammar.specs.Layout.{nonempty, endsIn, inLine, wellFormed, noWordChar, Layout, blank, token}
 use Rattle.grammar.specs.Types.{Name, Atom, bool, char, u8, u16, u32, u64, usize, i8, i16, i32, i64, isize}
 use Rattle.grammar.specs.Types.{f32, f64, cxxString, rustString, Template, box, vec, uniquePtr, sharedPtr}
 use Rattle.grammar.specs.Types.{weakPtr, vector, Suffix, reference, pointer, CxxType, suffixed}
@@ -21,10 +21,11 @@ use Rattle.grammar.specs.Tree.{Block, namespace, externC}
 use Rattle.grammar.specs.Tokens.{eachTokens, commaTokens, listTokens, pathTokens, atomTokens, templateTokens}
 use Rattle.grammar.specs.Tokens.{constTokens, suffixTokens, typeTokens, operandTokens, blockTokens}
 use Rattle.grammar.specs.Tokens.{closingComment}
-use Rattle.grammar.specs.Rules.{isSymbol, operandOk}
+use Rattle.grammar.specs.Rules.{symbolStart, isSymbol, operandOk}
 use Rattle.grammar.proofs.LexedLayout.{some-snoc}
 use Rattle.grammar.proofs.Literal.{literal}
 use Rattle.grammar.proofs.Decimal.{decimal-word}
+use Rattle.grammar.proofs.RuleFacts.{name-to-word, withSuffix}
 
 -- words
 
@@ -35,13 +36,13 @@ starts-some test (c ∷ s) h = refl
 pub name-word : (s : List ℕ) → isName s ≡ true → wellFormed (word s) ≡ true
 name-word s h =
     and-of (nonempty s) (every wordChar s) (starts-some nameStart s (name-starts reserved s h))
-    (every-weaken nameChar wordChar (λ c e. or-left (nameChar c) (eqb c 36) e) s (name-chars reserved s h))
+    (every-weaken nameChar wordChar name-to-word s (name-chars reserved s h))
 
 pub symbol-word : (s : List ℕ) → isSymbol s ≡ true → wellFormed (word s) ≡ true
 unfolding isSymbol
 symbol-word s h =
-    let p = both (starts (λ c. nameStart c || eqb c 36) s) (every wordChar s && not (member s reserved)) h in
-    and-of (nonempty s) (every wordChar s) (starts-some (λ c. nameStart c || eqb c 36) s (p .0))
+    let p = both (starts symbolStart s) (every wordChar s && not (member s reserved)) h in
+    and-of (nonempty s) (every wordChar s) (starts-some symbolStart s (p .0))
     (both (every wordChar s) (not (member s reserved)) (p .1) .0)
 
 pub word-laid : (s : List ℕ) {ts : List Token} {r : List ℕ} → wellFormed (word s) ≡ true → noWordChar r ≡ true →
@@ -156,10 +157,6 @@ suffixBytes (pointer c) r = constBytes c ++ (bytes "*" ++ r)
 pub suffix-laid : (s : Suffix) {ts : List Token} {r : List ℕ} → Layout ts r → Layout (suffixTokens s ts) (suffixBytes s r)
 suffix-laid (reference c) d = const-laid c (literal (bytes "&") refl refl d)
 suffix-laid (pointer c) d = const-laid c (literal (bytes "*") refl refl d)
-
--- a type with one more suffix
-abbrev pub withSuffix : Suffix → CxxType → CxxType
-withSuffix s (suffixed base suffixes) = suffixed base (suffixes ++ (s ∷ []))
 
 pub suffix-tokens : (s : Suffix) (x : CxxType) (ts : List Token) → typeTokens (withSuffix s x) ts ≡ typeTokens x (suffixTokens s ts)
 suffix-tokens s (suffixed base suffixes) ts = ap (λ (q : List Token). typeTokens (suffixed base []) q) (go suffixes)

@@ -1,14 +1,20 @@
--- What the name rule says of the words that a reader must tell apart.
-use mathlib.Core.Path.{_≡_, refl, ap, _∙_, sym, subst}
+-- What the rules say of words: which differ, and which are symbols; and of types with one more suffix.
+use mathlib.Core.Path.{_≡_, refl, ap, _∙_, sym}
 use mathlib.Core.List.{List, [], _∷_, _++_}
-use mathlib.Core.Bool.{Bool, true, false, _&&_, _||_, not, false≢true}
-use Prim.Native.Nat.{ℕ}
+use mathlib.Core.Bool.{Bool, true, false, _&&_, not, false≢true}
+use Prim.Native.Nat.{ℕ, suc}
+use native.Mathlib.Omega.{arith}
+use lib.Dec.{eqb}
+use lib.ListN.{length-append}
 use Rattle.lexical.specs.Bytes.{bytes, every, same, member}
-use Rattle.lexical.specs.Names.{nameShape, nameOk, keywords, alternativeTokens, reserved, isName}
-use Rattle.lexical.proofs.BoolLaws.{by-cases}
-use Rattle.lexical.proofs.ByteLaws.{same-eq}
-use Rattle.grammar.specs.Types.{Name}
-use Rattle.grammar.specs.Rules.{isSymbol}
+use Rattle.lexical.specs.Names.{nameStart, nameChar, starts, nameShape, nameOk, keywords, alternativeTokens, reserved}
+use Rattle.lexical.specs.Names.{isName}
+use Rattle.lexical.proofs.BoolLaws.{and-of, by-cases, or-left}
+use Rattle.lexical.proofs.ByteLaws.{same-eq, every-append, every-weaken}
+use Rattle.lexical.proofs.NameLaws.{name-starts, name-chars, reserved-chars, unlike-table}
+use Rattle.grammar.specs.Token.{wordChar}
+use Rattle.grammar.specs.Types.{Name, Suffix, CxxType, suffixed}
+use Rattle.grammar.specs.Rules.{symbolStart, isSymbol, levels, partsOk}
 use Rattle.grammar.proofs.Parser.{front}
 
 -- a word that fails a test is no word that passes it
@@ -44,3 +50,40 @@ held-no-slot x h =
     let q : x ≡ bytes "return" = sym (front-snoc x 36) ∙ ap front (same-eq (x ++ (36 ∷ [])) (bytes "return$") e) in
     absurd (false≢true (sym return-no-name ∙ ap isName (sym q) ∙ h)))
     (λ e. e)
+
+-- a name, a dollar and word characters are a symbol
+
+pub name-to-word : (c : ℕ) → nameChar c ≡ true → wordChar c ≡ true
+name-to-word c e = or-left (nameChar c) _ e
+
+dollar-inside : (a b : List ℕ) → every nameChar (a ++ (36 ∷ b)) ≡ false
+unfolding every
+dollar-inside [] b = refl
+dollar-inside (c ∷ a) b = by-cases (nameChar c) (λ e. rw e (dollar-inside a b)) (λ e. rw e)
+
+starts-too : (a b : List ℕ) → starts nameStart a ≡ true → starts symbolStart (a ++ b) ≡ true
+starts-too [] b h = absurd (false≢true h)
+starts-too (c ∷ a) b h = or-left (nameStart c) (eqb c 36) h
+
+pub joined-symbol : (a b : List ℕ) → isName a ≡ true → every wordChar b ≡ true → isSymbol (a ++ (36 ∷ b)) ≡ true
+unfolding every isSymbol
+joined-symbol a b h e =
+    let s : List ℕ = a ++ (36 ∷ b) in
+    let chars : every wordChar s ≡ true =
+    every-append wordChar a (36 ∷ b) (every-weaken nameChar wordChar name-to-word a (name-chars reserved a h)) e in
+    let free : member s reserved ≡ false = unlike-table nameChar reserved s reserved-chars (dollar-inside a b) in
+    and-of (starts symbolStart s) (every wordChar s && not (member s reserved)) (starts-too a (36 ∷ b) (name-starts reserved a h))
+    (and-of (every wordChar s) (not (member s reserved)) chars (rw free))
+
+-- a type with one more suffix
+
+abbrev pub withSuffix : Suffix → CxxType → CxxType
+withSuffix s (suffixed base suffixes) = suffixed base (suffixes ++ (s ∷ []))
+
+pub suffix-levels : (s : Suffix) (x : CxxType) → levels (withSuffix s x) ≡ suc (levels x)
+unfolding levels
+suffix-levels s (suffixed base suffixes) = rw (length-append suffixes (s ∷ [])) (omega arith)
+
+pub suffix-parts : (s : Suffix) (x : CxxType) → partsOk (withSuffix s x) ≡ partsOk x
+unfolding partsOk
+suffix-parts s (suffixed base suffixes) = refl

@@ -1,23 +1,22 @@
 -- The parser gives back each text from its tokens.
 use mathlib.Core.Path.{_≡_, refl, ap, _∙_, sym}
-use mathlib.Core.List.{List, [], _∷_, _++_}
-use mathlib.Core.Bool.{Bool, true, false, _&&_, _||_, not, false≢true}
+use mathlib.Core.List.{List, [], _∷_}
+use mathlib.Core.Bool.{Bool, true, false, _&&_, false≢true}
 use mathlib.Core.Option.{Option, none, some}
 use Prim.Native.Nat.{ℕ, zero, suc, _≤_, _+_}
 use native.Mathlib.Omega.{arith}
 use lib.Dec.{ltb}
-use Rattle.lexical.specs.Bytes.{bytes, same}
+use Rattle.lexical.specs.Bytes.{same}
 use Rattle.lexical.specs.Names.{isName}
 use Rattle.lexical.proofs.BoolLaws.{both}
-use Rattle.grammar.specs.Token.{Token, word, mark, comment, quoted}
-use Rattle.grammar.specs.Types.{Name, Atom}
+use Rattle.grammar.specs.Token.{Token, comment, quoted}
 use Rattle.grammar.specs.Tree.{Item, Block, namespace, externC, Body, bodyEnd, item, block, Line, structLine}
 use Rattle.grammar.specs.Tree.{enumLine, usingLine, Forward, forwardEnd, line, bareNamespace, Text, text}
-use Rattle.grammar.specs.Tokens.{pathTokens, atomTokens, itemTokens, blockTokens, closingComment, bodyTokens}
+use Rattle.grammar.specs.Tokens.{itemTokens, blockTokens, closingComment, bodyTokens}
 use Rattle.grammar.specs.Tokens.{lineTokens, forwardTokens, textTokens}
 use Rattle.grammar.specs.Rules.{maxNamespaces, itemOk, bodyOk, forwardOk, textOk}
-use Rattle.grammar.proofs.Parser.{sameToken, begins, Parser, fork, need, wordP, commentP, pathP, startP, onAtom, itemP, Next}
-use Rattle.grammar.proofs.Parser.{nextEnd, nextBlock, nextItem, next, onNext, blockP, bodyP, atHead, isForward}
+use Rattle.grammar.proofs.Parser.{need, commentP}
+use Rattle.grammar.proofs.Parser.{nextEnd, nextItem, next, bodyP, atHead, isForward}
 use Rattle.grammar.proofs.Parser.{lineP, forwardP, textP}
 use Rattle.grammar.proofs.TypeBack.{path-back, atom-back}
 use Rattle.grammar.proofs.ItemBack.{itemSize, item-back, item-first}
@@ -35,7 +34,7 @@ item-next =
     item-first (λ r. next r ≡ nextItem) (λ r. refl) (λ r. (refl, refl, refl, refl)) (λ r. (refl, refl)) (λ s r. refl)
 
 -- the rules of the two bodies of a block
-block-rules : (b : Block) (inside after : Body) (depth : ℕ) (c : Bool) → bodyOk depth c (block b inside after) ≡ true →
+pub block-rules : (b : Block) (inside after : Body) (depth : ℕ) (c : Bool) → bodyOk depth c (block b inside after) ≡ true →
     (d : ℕ) × (e : Bool) × (bodyOk d e inside ≡ true) × (bodyOk depth c after ≡ true)
 unfolding bodyOk
 block-rules (namespace x) inside after depth c o =
@@ -93,16 +92,17 @@ body-not-forward (block externC inside after) depth c o r h = refl
 
 -- forward parts
 
--- at some depth a namespace has a line
-abbrev pub HasLine : Forward → Type 0
-HasLine forwardEnd = ⊥
-HasLine (line l after) = Unit {0}
-HasLine (bareNamespace x inside after) = HasLine inside
+-- each namespace has content
 
-abbrev pub Filled : Forward → Type 0
-Filled forwardEnd = Unit {0}
-Filled (line l after) = Filled after
-Filled (bareNamespace x inside after) = HasLine inside × Filled inside × Filled after
+abbrev pub hasLines : Forward → Bool
+hasLines forwardEnd = false
+hasLines (line l after) = true
+hasLines (bareNamespace x inside after) = true
+
+abbrev pub forwardFilled : Forward → Bool
+forwardFilled forwardEnd = true
+forwardFilled (line l after) = forwardFilled after
+forwardFilled (bareNamespace x inside after) = hasLines inside && (forwardFilled inside && forwardFilled after)
 
 abbrev pub forwardSize : Forward → ℕ
 forwardSize forwardEnd = 1
@@ -115,11 +115,15 @@ line-forward (structLine x) r = refl
 line-forward (enumLine x a) r = refl
 line-forward (usingLine x p) r = refl
 
-has-line : (f : Forward) (r : List Token) → HasLine f → isForward atHead (forwardTokens f r) ≡ true
+-- so a line comes next, perhaps behind the heads of namespaces
+has-line : (f : Forward) (r : List Token) → hasLines f ≡ true → forwardFilled f ≡ true →
+    isForward atHead (forwardTokens f r) ≡ true
 unfolding same
-has-line forwardEnd r h = absurd h
-has-line (line l after) r h = line-forward l (forwardTokens after r)
-has-line (bareNamespace x inside after) r h = has-line inside (quoted "}" (forwardTokens after r)) h
+has-line forwardEnd r h o = absurd (false≢true h)
+has-line (line l after) r h o = line-forward l (forwardTokens after r)
+has-line (bareNamespace x inside after) r h o =
+    let p = both (hasLines inside) (forwardFilled inside && forwardFilled after) o in
+    has-line inside (quoted "}" (forwardTokens after r)) (p .0) (both (forwardFilled inside) (forwardFilled after) (p .1) .0)
 
 module _ {A : Type 0} where
   line-back : (l : Line) (r : List Token) (k : Line → List Token → Option A) → lineP (lineTokens l r) k ≡ k l r
@@ -135,7 +139,7 @@ module _ {A : Type 0} where
   line-step (enumLine x a) n r k = refl
   line-step (usingLine x p) n r k = refl
 
-  forward-back : (f : Forward) (n : ℕ) → forwardSize f ≤ n → Filled f → (r : List Token) → isForward atHead r ≡ false →
+  forward-back : (f : Forward) (n : ℕ) → forwardSize f ≤ n → forwardFilled f ≡ true → (r : List Token) → isForward atHead r ≡ false →
       (k : Forward → List Token → Option A) → forwardP n (forwardTokens f r) k ≡ k f r
   unfolding same
   forward-back forwardEnd zero l o r h k = absurd (omega arith)
@@ -145,27 +149,29 @@ module _ {A : Type 0} where
       line-step x n (forwardTokens after r) k ∙ line-back x (forwardTokens after r) _ ∙ forward-back after n (omega arith) o r h _
   forward-back (bareNamespace x inside after) zero l o r h k = absurd (omega arith)
   forward-back (bareNamespace x inside after) (suc n) l o r h k =
-      rw (has-line inside (quoted "}" (forwardTokens after r)) (o .0), forwardP)
-      (forward-back inside n (omega arith) (o .1) (quoted "}" (forwardTokens after r)) refl _
-      ∙ forward-back after n (omega arith) (o .2) r h _)
+      let p = both (hasLines inside) (forwardFilled inside && forwardFilled after) o in
+      let q = both (forwardFilled inside) (forwardFilled after) (p .1) in
+      rw (has-line inside (quoted "}" (forwardTokens after r)) (p .0) (q .0), forwardP)
+      (forward-back inside n (omega arith) (q .0) (quoted "}" (forwardTokens after r)) refl _
+      ∙ forward-back after n (omega arith) (q .1) r h _)
 
 -- the whole
 
 abbrev pub textSize : Text → ℕ
 textSize (text f b) = forwardSize f + bodySize b
 
-abbrev pub TextFilled : Text → Type 0
-TextFilled (text f b) = Filled f
+abbrev pub forwardOf : Text → Forward
+forwardOf (text f b) = f
 
-text-back : (t : Text) (n : ℕ) → textSize t ≤ n → textOk t ≡ true → TextFilled t → textP n (textTokens t) ≡ some t
+text-back : (t : Text) (n : ℕ) → textSize t ≤ n → textOk t ≡ true → forwardFilled (forwardOf t) ≡ true → textP n (textTokens t) ≡ some t
 unfolding same textP textOk
 text-back (text f b) n l o h =
     let q : bodyOk 0 false b ≡ true = both (forwardOk 0 f) (bodyOk 0 false b) o .1 in
     forward-back f n (omega arith) h (bodyTokens b []) (body-not-forward b 0 false q [] refl) _
     ∙ body-back b n 0 false (omega arith) q [] refl _
 
-pub told-by-tokens : (t u : Text) → textOk t ≡ true → textOk u ≡ true → TextFilled t → TextFilled u →
-    textTokens t ≡ textTokens u → t ≡ u
+pub told-by-tokens : (t u : Text) → textOk t ≡ true → textOk u ≡ true → forwardFilled (forwardOf t) ≡ true →
+    forwardFilled (forwardOf u) ≡ true → textTokens t ≡ textTokens u → t ≡ u
 told-by-tokens t u o p h i e =
     let n : ℕ = textSize t + textSize u in
     let f = text-back t n (omega arith) o h in

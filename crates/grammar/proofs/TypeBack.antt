@@ -1,8 +1,8 @@
 -- The parser gives back each type from its tokens.
-use mathlib.Core.Path.{_≡_, refl, ap, _∙_, sym}
-use mathlib.Core.List.{List, [], _∷_, _++_}
-use mathlib.Core.Bool.{Bool, true, false, _&&_, _||_, not, false≢true}
-use mathlib.Core.Option.{Option, none, some}
+use mathlib.Core.Path.{_≡_, refl, _∙_}
+use mathlib.Core.List.{List, [], _∷_}
+use mathlib.Core.Bool.{Bool, true, false, _&&_, not, false≢true}
+use mathlib.Core.Option.{Option}
 use Prim.Native.Nat.{ℕ, zero, suc, _≤_, _+_}
 use native.Mathlib.Omega.{arith}
 use lib.Dec.{leb, ltb}
@@ -16,13 +16,13 @@ use Rattle.grammar.specs.Types.{Name, Atom, bool, char, u8, u16, u32, u6
 use Rattle.grammar.specs.Types.{f32, f64, cxxString, rustString, Template, box, vec, uniquePtr, sharedPtr}
 use Rattle.grammar.specs.Types.{weakPtr, vector, Suffix, reference, pointer, CxxType, suffixed, Base, atom, str}
 use Rattle.grammar.specs.Types.{full, template, slice, array, voidFn, fn, CxxTypes, nil, cons}
-use Rattle.grammar.specs.Tokens.{eachTokens, pathTokens, atomTokens, templateTokens, constTokens, suffixTokens}
+use Rattle.grammar.specs.Tokens.{eachTokens, pathTokens, atomTokens, templateTokens, suffixTokens}
 use Rattle.grammar.specs.Tokens.{typeTokens, baseTokens, typesTokens, moreTypesTokens}
 use Rattle.grammar.specs.Rules.{maxNamespaces, maxFnArguments, arrayLengths, ofStdOrRust, fullNameOk, count, partsOk}
 use Rattle.grammar.specs.Rules.{baseOk, allPartsOk}
 use Rattle.grammar.proofs.Parser.{sameToken, begins, Parser, fork, need, pathP, isSuffix, suffixesP, opening}
-use Rattle.grammar.proofs.Parser.{Start, based, startPtrLen, startFat, insideP, startP, suffixedP, typeP, typesP}
-use Rattle.grammar.proofs.Parser.{moreTypesP, number}
+use Rattle.grammar.proofs.Parser.{Start, based, insideP, startP, suffixedP, typeP, typesP}
+use Rattle.grammar.proofs.Parser.{moreTypesP}
 use Rattle.grammar.proofs.Decimal.{number-decimal}
 
 -- how deep the parser goes
@@ -172,7 +172,7 @@ pub no-close : (x : CxxType) → partsOk x ≡ true → (r : List Token) → beg
 unfolding same
 no-close = type-first (λ r. begins ")" r ≡ false) (λ r. refl) (λ r. (refl, refl, refl, refl))
 
-no-void : (x : CxxType) → partsOk x ≡ true → (r : List Token) → begins "void" (typeTokens x r) ≡ false
+pub no-void : (x : CxxType) → partsOk x ≡ true → (r : List Token) → begins "void" (typeTokens x r) ≡ false
 unfolding same
 no-void = type-first (λ r. begins "void" r ≡ false) (λ r. refl) (λ r. (refl, refl, refl, refl))
 

@@ -1,7 +1,7 @@
 -- What a tree must keep: the name rule and the limits of document 01's grammar.
 use mathlib.Core.List.{List, [], _∷_}
 use mathlib.Core.Bool.{Bool, true, false, _&&_, _||_, not}
-use Prim.Native.Nat.{ℕ, zero, suc, _+_, max}
+use Prim.Native.Nat.{ℕ, suc, _+_, max}
 use lib.Dec.{leb, ltb, eqb}
 use lib.ListN.{length}
 use Rattle.lexical.specs.Bytes.{bytes, within, every, same, member}
@@ -13,7 +13,7 @@ use Rattle.grammar.specs.Tree.{Result, void, ptrLen, fat, int, value, Pa
 use Rattle.grammar.specs.Tree.{LayoutDefinition, Head, free, method, Local, held, room, Operand, receiver, direct}
 use Rattle.grammar.specs.Tree.{intoRaw, release, address, heldAddress, slotAddress, CallForm, bare, error}
 use Rattle.grammar.specs.Tree.{returned, dereferenced, inFromRaw, inUniquePtr, inNewUnchecked, inSlice, Call}
-use Rattle.grammar.specs.Tree.{Shim, Item, declares, defines, shim, Block, namespace, externC, Body, bodyEnd}
+use Rattle.grammar.specs.Tree.{Shim, Item, declares, defines, shim, namespace, externC, Body, bodyEnd}
 use Rattle.grammar.specs.Tree.{item, block, Line, structLine, enumLine, usingLine, Forward, forwardEnd, line}
 use Rattle.grammar.specs.Tree.{bareNamespace, Text, text}
 
@@ -43,9 +43,12 @@ maxComments = 31
 abbrev pub maxCommentLength : ℕ
 maxCommentLength = 128
 
--- an identifier of ISO C++ [lex.name], with `$` as a letter
+abbrev pub symbolStart : ℕ → Bool
+symbolStart c = nameStart c || eqb c 36
+
+-- an identifier of ISO C++ [lex.name], where "`$` counts as a letter"
 unfoldable pub isSymbol : List ℕ → Bool
-isSymbol s = starts (λ c. nameStart c || eqb c 36) s && (every wordChar s && not (member s reserved))
+isSymbol s = starts symbolStart s && (every wordChar s && not (member s reserved))
 
 -- types
 

@@ -1,11 +1,11 @@
 -- Laws of bytes and lists of bytes.
-use mathlib.Core.Path.{_≡_, refl, sym, ap₂}
+use mathlib.Core.Path.{_≡_, refl, ap₂}
 use mathlib.Core.List.{List, [], _∷_, _++_}
-use mathlib.Core.Bool.{Bool, true, false, _&&_, _||_, not, false≢true}
+use mathlib.Core.Bool.{Bool, true, false, false≢true}
 use Prim.Native.Nat.{ℕ}
 use lib.Dec.{T, eqb, eqb→eq, eqb-refl}
-use Rattle.lexical.specs.Bytes.{bytes, within, elem, every, same, member}
-use Rattle.lexical.proofs.BoolLaws.{both, and-of, by-cases, or-left, or-right}
+use Rattle.lexical.specs.Bytes.{elem, every, same, member}
+use Rattle.lexical.proofs.BoolLaws.{both, and-of, by-cases, or-right}
 
 pub byte-eq : (c d : ℕ) → eqb c d ≡ true → c ≡ d
 byte-eq c d e = eqb→eq c d (rw e tt)

@@ -1,13 +1,14 @@
 -- Laws of the name rule.
-use mathlib.Core.Path.{_≡_, refl, sym}
+use mathlib.Core.Path.{_≡_, refl, ap, _∙_, sym}
 use mathlib.Core.List.{List, [], _∷_, _++_}
-use mathlib.Core.Bool.{Bool, true, false, _&&_, _||_, not, false≢true}
+use mathlib.Core.Bool.{Bool, true, false, not, false≢true}
 use Prim.Native.Nat.{ℕ}
 use lib.ListN.{length}
-use Rattle.lexical.specs.Bytes.{bytes, every, same, member}
-use Rattle.lexical.specs.Names.{nameStart, nameChar, starts, nameShape, nameOk, keywords, alternativeTokens, reserved}
-use Rattle.lexical.proofs.BoolLaws.{both, and-of, not-true, fails-too}
-use Rattle.lexical.proofs.ByteLaws.{member-append-left}
+use Rattle.lexical.specs.Bytes.{every, same, member}
+use Rattle.lexical.specs.Names.{nameStart, nameChar, starts, nameShape, nameOk, keywords, alternativeTokens}
+use Rattle.lexical.specs.Names.{reserved}
+use Rattle.lexical.proofs.BoolLaws.{both, and-of, not-true, fails-too, by-cases}
+use Rattle.lexical.proofs.ByteLaws.{same-eq, member-append-left}
 
 -- the standard's tables have 73 and 11 words
 pub keyword-count : length keywords ≡ 73
@@ -40,3 +41,19 @@ unfolding nameOk
 name-smaller table more s h =
     and-of (nameShape s) (not (member s table)) (name-shape (table ++ more) s h)
     (rw (fails-too (member s table) (member s (table ++ more)) (member-append-left s table more) (name-free (table ++ more) s h)))
+
+-- the reserved words are made of name characters
+pub reserved-chars : every (λ word. every nameChar word) reserved ≡ true
+unfolding every keywords alternativeTokens reserved
+reserved-chars = refl
+
+-- what is not made of them is no word of such a table
+pub unlike-table : (test : ℕ → Bool) (table : List (List ℕ)) (s : List ℕ) → every (λ word. every test word) table ≡ true →
+    every test s ≡ false → member s table ≡ false
+unfolding every member
+unlike-table test [] s h f = refl
+unlike-table test (word ∷ table) s h f =
+    let q = both (every test word) (every (λ word. every test word) table) h in
+    by-cases (same s word)
+    (λ e. absurd (false≢true (sym f ∙ ap (every test) (same-eq s word e) ∙ q .0)))
+    (λ e. rw e (unlike-table test table s (q .1) f))
