@@ -11,7 +11,7 @@ use Rattle.syntax.specs.Items.{itemAt, path, fullName}
 use Rattle.syntax.specs.Symbol.{pushAll, join}
 use Rattle.syntax.specs.Mangle.{externFn, operator}
 use Rattle.syntax.specs.Types.{needsIndirectAbi}
-use Rattle.toposort.specs.Sort.{visitAll, visit, sort, ringed, order, unmarked}
+use Rattle.toposort.specs.Sort.{visitAll, visit, sort, ringed, order}
 use Rattle.rules.specs.Rules.{any, twice, gather, anyNamed, anyNamedRet, anyNamedTys, wrongPart, taken, unfit}
 use Rattle.rules.specs.Rules.{unfitArgument, holds, structsFrom, ring}
 use Rattle.rules.specs.Judge.{ruled, judge, check}
@@ -24,7 +24,9 @@ use Rattle.bridge.specs.Write.{externArg, slot, externParameters, functionDecl,
 use Rattle.bridge.specs.Write.{writeOpaqueTypeLayoutDecls, layoutDefinition, writeOpaqueTypeLayout, writeDoc, isMain}
 use Rattle.bridge.specs.Write.{localName, shimDecl, isHeld, heldLocal, direct, operand, operands, shimBody}
 use Rattle.bridge.specs.Write.{functionShim, writeRustFunctionShim, forEach, writeFunctions, content, text}
+use Rattle.agreement.specs.Agreement.{rustFunctions, parameterNames, headNames, declarations, shims, ofFunctions}
+use Rattle.agreement.specs.Agreement.{argumentOperands, fitting}
 
 unfoldable pub computes : Unit {0}
-unfolding every same member nameShape nameOk keywords alternativeTokens reserved Decimal-digits decimal many bitAt bitsAt bits bit Bits-digits widthOf index name nameOf atomOf kindOf typeAt type lineOk line argument form functionBody structBody enumBody partOf namespace item tail itemTable nameTable sheet decode itemAt path fullName pushAll join externFn operator needsIndirectAbi visitAll visit sort ringed order unmarked any twice gather anyNamed anyNamedRet anyNamedTys wrongPart taken unfit unfitArgument holds structsFrom ring ruled judge check nextSection push pushBlockBoundary endNamespaces beginNamespaces setNamespace flushAll flushBlocks write flush filter nth directContent inner distinct names nestedNames writeType writeRet writeTypes writeTypeSpace writeDirect writeEntries forwardDeclarations commas indirectReturn externReturn externArg slot externParameters functionDecl writeRustFunctionDecl layoutDecl writeOpaqueTypeLayoutDecls layoutDefinition writeOpaqueTypeLayout writeDoc isMain localName shimDecl isHeld heldLocal direct operand operands shimBody functionShim writeRustFunctionShim forEach writeFunctions content text
+unfolding every same member nameShape nameOk keywords alternativeTokens reserved Decimal-digits decimal many bitAt bitsAt bits bit Bits-digits widthOf index name nameOf atomOf kindOf typeAt type lineOk line argument form functionBody structBody enumBody partOf namespace item tail itemTable nameTable sheet decode itemAt path fullName pushAll join externFn operator needsIndirectAbi visitAll visit sort ringed order any twice gather anyNamed anyNamedRet anyNamedTys wrongPart taken unfit unfitArgument holds structsFrom ring ruled judge check nextSection push pushBlockBoundary endNamespaces beginNamespaces setNamespace flushAll flushBlocks write flush filter nth directContent inner distinct names nestedNames writeType writeRet writeTypes writeTypeSpace writeDirect writeEntries forwardDeclarations commas indirectReturn externReturn externArg slot externParameters functionDecl writeRustFunctionDecl layoutDecl writeOpaqueTypeLayoutDecls layoutDefinition writeOpaqueTypeLayout writeDoc isMain localName shimDecl isHeld heldLocal direct operand operands shimBody functionShim writeRustFunctionShim forEach writeFunctions content text rustFunctions parameterNames headNames declarations shims ofFunctions argumentOperands fitting
 computes = tt

@@ -61,7 +61,8 @@ join-symbol ns rest h g = rw (append-assoc ns version rest) (go ns h)
     go (n ∷ (m ∷ ns)) h =
         let q = both (isName n) (every isName (m ∷ ns)) h in
         two-segments n m (ns ++ (version ++ rest)) (q .0)
-        (every-append segmentOk (m ∷ ns) (version ++ rest) (every-weaken isName segmentOk name-segment (m ∷ ns) (q .1)) g)
+        (every-append segmentOk (m ∷ ns) (version ++ rest)
+        (every-weaken isName segmentOk name-segment (m ∷ ns) (q .1)) g)
 
 symbol-spells : (s : List ℕ) → isSymbol s ≡ true → Spells inside s (λ ts. word s ∷ ts)
 symbol-spells s h = word-spells s (symbol-word s h)

@@ -168,8 +168,8 @@ module _ (items : List Item) (kept : All (ItemKept items) items) where
         fn-ends r (cxxTypes items ts) (g .0) (types-spell ts (g .1))
     type-ends (array t n) h =
         let q = both (ltb n 4294967296) (partsFit (length items) t) h in
-        lit "::std::array<" refl ▷ weaken (typeEnd t) (type-ends t (q .1)) ▷⟨ refl ⟩ lit ", " refl ▷ word-spells (decimal n) (decimal-word n)
-        ▷⟨ refl ⟩ lit ">" refl
+        lit "::std::array<" refl ▷ weaken (typeEnd t) (type-ends t (q .1)) ▷⟨ refl ⟩ lit ", " refl
+        ▷ word-spells (decimal n) (decimal-word n) ▷⟨ refl ⟩ lit ">" refl
 
     -- the types of the arguments are spelled so
     fn-ends : (r : Ret) {s : List ℕ} (xs : CxxTypes) → partsFitRet (length items) r ≡ true →

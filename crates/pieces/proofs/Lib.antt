@@ -1,0 +1,11 @@
+pub mod Boundaries
+pub mod Machine
+pub mod TextPieces
+pub mod BodyTree
+pub mod BodyFacts
+pub mod BodyLayout
+pub mod ForwardTree
+pub mod ForwardRules
+pub mod SheetEntries
+pub mod SheetReading
+pub mod SheetAgreement

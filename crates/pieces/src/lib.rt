@@ -1,0 +1,1 @@
+// The text of a sheet as pieces with blocks around them, and the tree of those pieces. Definitions and proofs alone: see specs/ and proofs/.
