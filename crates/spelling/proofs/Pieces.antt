@@ -1,17 +1,12 @@
--- The pieces of a text in front of any rest: each is laid out as its tree, which keeps the rules, and none is empty.
+-- The pieces of a text in front of any rest: each is laid out as its tree, which keeps the rules.
 use mathlib.Core.Path.{_≡_, refl}
-use mathlib.Core.List.{List, [], _∷_, _++_}
-use mathlib.Core.Bool.{Bool, true, false}
+use mathlib.Core.List.{List, _++_}
+use mathlib.Core.Bool.{true, false}
 use Prim.Native.Nat.{ℕ}
 use lib.ListN.{length}
-use Rattle.lexical.specs.Bytes.{bytes}
-use Rattle.lexical.specs.Decimal.{pickText}
 use Rattle.format.specs.Sheet.{Function, Item, Sheet}
-use Rattle.syntax.specs.Mangle.{externFn}
 use Rattle.decoded.proofs.Kept.{All, ItemKept, FunctionKept}
-use Rattle.bridge.specs.Out.{some}
-use Rattle.bridge.specs.Write.{commas, externReturn, externParameters, functionDecl, layoutDecl, layoutDefinition}
-use Rattle.bridge.specs.Write.{writeDoc, isFree, shimDecl, shimBody, functionShim}
+use Rattle.bridge.specs.Write.{functionDecl, layoutDecl, layoutDefinition, functionShim}
 use Rattle.grammar.specs.Token.{Token}
 use Rattle.grammar.specs.Layout.{Layout}
 use Rattle.grammar.specs.Tree.{Measure, declares, defines, shim}
@@ -25,39 +20,6 @@ use Rattle.spelling.proofs.DeclarationSpelling.{layoutDefinition-spells
 use Rattle.spelling.proofs.DeclarationRules.{declaration-ok, layoutDeclaration-ok, layoutDefinition-ok}
 use Rattle.spelling.proofs.ShimSpelling.{shim-spells}
 use Rattle.spelling.proofs.ShimRules.{shim-ok}
-
--- ---- none is empty
-
-some-behind : (a b : List ℕ) → some b ≡ true → some (a ++ b) ≡ true
-some-behind [] b h = h
-some-behind (c ∷ a) b h = refl
-
-pub declaration-some : (items : List Item) (x : Item) (f : Function) → some (functionDecl items x f) ≡ true
-unfolding functionDecl
-declaration-some items x f =
-    some-behind
-    (externReturn items f ++ externFn items (x .namespace) f ++ bytes "(" ++ commas false (externParameters items f))
-    (bytes ") noexcept;\n") refl
-
-pub layoutDeclaration-some : (x : Item) (name : List ℕ) → some (layoutDecl x name) ≡ true
-unfolding layoutDecl
-layoutDeclaration-some x name = refl
-
-pub layoutDefinition-some : (x : Item) (member name : List ℕ) → some (layoutDefinition x member name) ≡ true
-unfolding layoutDefinition
-layoutDefinition-some x member name = refl
-
-pub shim-some : (s : Sheet) (x : Item) (f : Function) → some (functionShim s x f) ≡ true
-unfolding functionShim shimBody
-shim-some s x f =
-    some-behind (pickText (isFree (f .form)) (writeDoc (s .doxygen) (f .comment)) [] ++ shimDecl (s .items) x f)
-    (pickText (s .header) (bytes ";\n") (shimBody (s .items) x f)) (go (s .header))
-  where
-    go : (header : Bool) → some (pickText header (bytes ";\n") (shimBody (s .items) x f)) ≡ true
-    go true = refl
-    go false = refl
-
--- ---- pieces of a sheet whose items keep the limits and rules
 
 module _ (s : Sheet) (kept : All (ItemKept (s .items)) (s .items)) (x : Item) (k : ItemKept (s .items) x) where
   -- ---- declarations
