@@ -1,0 +1,5 @@
+pub mod BitLaws
+pub mod FieldLaws
+pub mod WidthLaws
+pub mod CheckLaws
+pub mod TableLaws
