@@ -5,16 +5,18 @@ use mathlib.Core.Bool.{Bool, true, false}
 use Prim.Native.Nat.{ℕ, _+_, _*_, _^_, _<_, _≤_}
 use native.Mathlib.Omega.{arith}
 use lib.ListN.{length}
-use lib.Dec.{leb}
+use lib.Dec.{leb, eqb}
 use borrow.Author.Tests.{le-leb, lt-leb}
 use Rattle.refusal.specs.declared.Refusal.the-variants.{CutSheet}
 use Rattle.format.specs.Decode.{Got, fault, got, pick}
-use Rattle.format.specs.Bits.{bitsAt, bits}
+use Rattle.format.specs.Bits.{bitsAt, bits, bit}
 use Rattle.cursor.specs.declared.Cursor.{Cursor}
 use Rattle.cursor.specs.declared.Field.{Field}
 use Rattle.cursor.specs.declared.Field.the-variants.{Value, Cut}
-use Rattle.cursor.specs.Checking.{Limited, fieldOf, Reads}
+use Rattle.cursor.specs.declared.Step.{Step}
+use Rattle.cursor.specs.Checking.{Limited, fieldOf, Reads, Checks}
 use Rattle.cursor.proofs.BitLaws.{bits-lt}
+use Rattle.cursor.proofs.CheckLaws.{tail}
 
 module _ (n : ℕ) (s : List ℕ) (at : ℕ) where
   -- what the code answers is the field
@@ -72,3 +74,19 @@ value {p = got x n} {r} {v} {c} h t =
 -- a field that the definition reads is what the code gets
 pub read-value : {p : Got ℕ} {r : Field} {v m : ℕ} → Reads p r → p ≡ got v m → r ≡ Value v (record { at = m })
 read-value h e = h .field ∙ ap fieldOf e
+
+-- ---- a field of one bit
+
+module _ (s : List ℕ) (at : ℕ) where
+  pub bit-value : {r : Field} {v : ℕ} {c : Cursor} → Reads (bits 1 s at) r → r ≡ Value v c →
+      bit s at ≡ got (eqb v 1) (c .at)
+  unfolding bit
+  bit-value h t = rw (value h t)
+
+  pub bit-cut : {r : Field} → Reads (bits 1 s at) r → r ≡ Cut → bit s at ≡ fault CutSheet
+  unfolding bit
+  bit-cut h t = rw (cut 1 s at h t)
+
+  pub bit-checks : {r : Step} → Checks (bits 1 s at) r → Checks (bit s at) r
+  unfolding bit
+  bit-checks h = tail _ h
