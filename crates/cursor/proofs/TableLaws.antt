@@ -5,13 +5,13 @@ use Prim.Native.Nat.{ℕ, zero, suc, _+_, _-_, _<_, _≤_}
 use native.Mathlib.Omega.{arith}
 use native.Mathlib.Numerals.{add-one}
 use lib.ListN.{length, take, set, getD}
-use lib.Seq.{take-suc-set}
+use lib.Seq.{take-suc-set, getD-take}
 use Rattle.refusal.specs.declared.Refusal.{Refusal}
 use Rattle.format.specs.Decode.{Got, fault, got, Dec, after, many}
 use Rattle.cursor.specs.declared.Cursor.{Cursor}
 use Rattle.cursor.specs.declared.Step.{Step}
 use Rattle.cursor.specs.declared.Step.the-variants.{At, Fault}
-use Rattle.cursor.specs.Checking.{stepOf, Checks, placed, filledOf, Fills}
+use Rattle.cursor.specs.Checking.{stepOf, Checks, placed, filledOf, Fills, Table}
 use Rattle.cursor.proofs.CheckLaws.{checks-like}
 
 -- ---- a loop that fills a table
@@ -92,10 +92,10 @@ placed-checks d n s at h = checks-like d (placed d) s (λ m. placed-step m (d s 
 
 -- ---- random access: entry i of a table of positions is where value i stands
 
-pub record Located {A : Type 0} (d : Dec A) (s : List ℕ) (n at : ℕ) (os : List ℕ) (e : ℕ) : Type 0 where
+pub record Located {A : Type 0} (d : Dec A) (s : List ℕ) (n at : ℕ) (offsets : List ℕ) (e : ℕ) : Type 0 where
   pub values : List A
   pub decoded : many n d s at ≡ got values e
-  pub each : (i : ℕ) (z : A) → i < n → (m : ℕ) × (d s (getD os i 0) ≡ got (getD values i z) m)
+  pub table : Table d s n offsets values
 
 module _ {A : Type 0} (d : Dec A) (s : List ℕ) where
   located-more : (n at m : ℕ) (x : A) (os : List ℕ) (e : ℕ) → d s at ≡ got x m → Located d s n m os e →
@@ -104,22 +104,22 @@ module _ {A : Type 0} (d : Dec A) (s : List ℕ) where
   located-more n at m x os e q l = record {
     values = x ∷ l .values;
     decoded = rw (q, l .decoded);
-    each = λ i z h. at-each i z h;
+    table = record { count = ap suc (l .table .count); each = λ i z h. at-each i z h };
   }
     where
       at-each : (i : ℕ) (z : A) → i < suc n →
           (k : ℕ) × (d s (getD (at ∷ os) i 0) ≡ got (getD (x ∷ l .values) i z) k)
       at-each zero z h = (m, q)
-      at-each (suc i) z h = l .each i z (omega arith)
+      at-each (suc i) z h = l .table .each i z (omega arith)
 
-  pub located : (n at : ℕ) {os : List ℕ} {e : ℕ} → many n (placed d) s at ≡ got os e → Located d s n at os e
+  positions : (n at : ℕ) {os : List ℕ} {e : ℕ} → many n (placed d) s at ≡ got os e → Located d s n at os e
   unfolding many
-  located zero at {os} {e} h = record {
+  positions zero at {os} {e} h = record {
     values = [];
     decoded = (let z : at ≡ e = cc in rw z);
-    each = λ i z l. absurd (omega arith);
+    table = record { count = refl; each = λ i z l. absurd (omega arith) };
   }
-  located (suc n) at {os} {e} h = by-first (λ m os′ e′ g. located n m g) (d s at) refl h
+  positions (suc n) at {os} {e} h = by-first (λ m os′ e′ g. positions n m g) (d s at) refl h
     where
       by-rest : (m : ℕ) (x : A) → d s at ≡ got x m →
           ((os′ : List ℕ) (e′ : ℕ) → many n (placed d) s m ≡ got os′ e′ → Located d s n m os′ e′) →
@@ -137,3 +137,17 @@ module _ {A : Type 0} (d : Dec A) (s : List ℕ) where
           got os e → Located d s (suc n) at os e
       by-first ih (fault x) q h = absurd (let z : _≡_ {A = ℕ} 0 1 = cc in omega arith)
       by-first ih (got x m) q h = by-rest m x q (ih m) (many n (placed d) s m) refl h
+
+  -- the values, and the table that was filled
+  pub located : (n at : ℕ) {r : Step} {b : List ℕ} {c : Cursor} → Fills (many n (placed d) s at) r n b → r ≡ At c →
+      Located d s n at b (c .at)
+  located n at {b} f t =
+      let l = positions n at (filled-at f t) in
+      record {
+        values = l .values;
+        decoded = l .decoded;
+        table = record {
+          count = l .table .count;
+          each = λ i z h. (l .table .each i z h .0, rw (getD-take) at (l .table .each i z h .1));
+        };
+      }

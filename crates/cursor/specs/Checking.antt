@@ -1,8 +1,8 @@
 -- What the code that walks a sheet promises, by the decoder of the definition that it stands for.
 use mathlib.Core.Path.{_≡_}
 use mathlib.Core.List.{List}
-use Prim.Native.Nat.{ℕ, _≤_}
-use lib.ListN.{length, take}
+use Prim.Native.Nat.{ℕ, _≤_, _<_}
+use lib.ListN.{length, take, getD}
 use Rattle.format.specs.Decode.{Got, fault, got, Dec, after}
 use Rattle.cursor.specs.declared.Field.{Field}
 use Rattle.cursor.specs.declared.Field.the-variants.{Value, Cut}
@@ -48,3 +48,8 @@ filledOf (Fault e) n b = fault e
 -- the first n entries of b are the decoder's p
 pub record Fills (p : Got (List ℕ)) (r : Step) (n : ℕ) (b : List ℕ) : Type 0 where
   pub filled : p ≡ filledOf r n b
+
+-- random access: n values, and at the i-th of the offsets d reads the i-th value
+pub record Table {A : Type 0} (d : Dec A) (s : List ℕ) (n : ℕ) (offsets : List ℕ) (values : List A) : Type 0 where
+  pub count : length values ≡ n
+  pub each : (i : ℕ) (z : A) → i < n → (m : ℕ) × (d s (getD offsets i 0) ≡ got (getD values i z) m)
