@@ -63,7 +63,8 @@ fn decode_items(s: &[u8], c: Cursor, header: bool, doxygen: bool, n: u32, items:
     requires { ⌜ Limited (now s) × (255 ≤ length (now items)) ⌝ }
     ensures {
         λ r. ⌜ ForNames n (λ ns.
-            AnswersItems (now (s .entry)) ns (behindNames header doxygen ns (now (s .entry)) (c .at)) r (now (items .exit))) ⌝
+            AnswersItems (now (s .entry)) ns (behindNames header doxygen ns (now (s .entry)) (c .at)) r
+                (now (items .exit))) ⌝
     }
 {
     let f = read(s, c, 8);
@@ -113,15 +114,15 @@ fn decode_tables(
     }
 }
 
-// A sheet that is not too long.
-fn decode_limited(s: &[u8], names: &mut [u32], items: &mut [u32]) -> Decoded
+// The sheet at c.
+fn decode_fields(s: &[u8], c: Cursor, names: &mut [u32], items: &mut [u32]) -> Decoded
     requires { ⌜ Limited (now s) × (1023 ≤ length (now names)) × (255 ≤ length (now items)) ⌝ }
     ensures {
-        λ r. ⌜ Answers (now (s .entry)) (sheetOf (now (s .entry)) 0) r
+        λ r. ⌜ Answers (now (s .entry)) (sheetOf (now (s .entry)) (c .at)) r
             (now (names .exit)) (now (items .exit)) ⌝
     }
 {
-    let f = read(s, Cursor::new(0), 4);
+    let f = read(s, c, 4);
     match f {
         Field::Cut => Decoded::Refused(Refusal::CutSheet),
         Field::Value(e, c1) => {
@@ -157,5 +158,5 @@ pub fn decode(
     if Cursor::SHEET < sheet.len() {
         return Decoded::Refused(Refusal::CutSheet);
     }
-    decode_limited(sheet, names, items)
+    decode_fields(sheet, Cursor::new(0), names, items)
 }
