@@ -18,8 +18,8 @@ bits-split s at m (suc k) =
     let z : m + suc k ≡ suc (m + k) = omega arith in
     let y : at + (m + k) ≡ at + m + k = omega arith in
     let p : bitsAt s at m * 2 ^ suc k ≡ 2 * (bitsAt s at m * 2 ^ k) =
-        ap (λ (x : ℕ). bitsAt s at m * x) (pow-suc 2 k) ∙ sym (mul-assoc (bitsAt s at m) (2 ^ k) 2) ∙
-        mul-comm (bitsAt s at m * 2 ^ k) 2 in
+    ap (λ (x : ℕ). bitsAt s at m * x) (pow-suc 2 k) ∙ sym (mul-assoc (bitsAt s at m) (2 ^ k) 2) ∙
+    mul-comm (bitsAt s at m * 2 ^ k) 2 in
     rw (z, p, y) (omega (arith, bits-split s at m k))
 
 -- bits of one byte
@@ -49,8 +49,12 @@ bits-lt s at (suc n) = omega (arith, bits-lt s at n, pow-suc 2 n)
 -- n bits, read out of a longer run that starts r bits before them and ends d bits behind them
 bits-within : (s : List ℕ) (p r n d : ℕ) → bitsAt s p (r + n + d) / 2 ^ d % 2 ^ n ≡ bitsAt s (p + r) n
 bits-within s p r n d =
-    rw (bits-split s p (r + n) d, high (bitsAt s p (r + n)) d (bits-lt s (p + (r + n)) d), bits-split s p r n,
-    low (bitsAt s p r) n (bits-lt s (p + r) n))
+    rw (
+      bits-split s p (r + n) d,
+      high (bitsAt s p (r + n)) d (bits-lt s (p + (r + n)) d),
+      bits-split s p r n,
+      low (bitsAt s p r) n (bits-lt s (p + r) n),
+    )
 
 abbrev IsByte : List ℕ → ℕ → ℕ → Type 0
 IsByte s b x = (x ≡ getD s b 0) × (x < 256)

@@ -42,8 +42,10 @@ module _ (d : Dec ℕ) (s : List ℕ) (n : ℕ) (at₀ : ℕ) where
   fill-turn {i} {at} {m} {x} {b} f h l e =
       let z : n - i ≡ suc (n - (i + 1)) = omega arith in
       let y : take (suc i) (set b i x) ≡ take i b ++ (x ∷ []) = take-suc-set b i x l in
-      record { so-far = f .so-far ∙ (rw (add-one i, y)
-          (rw (← add-one i) (rw (z, e) (prefixed-one (take i b) x (many (n - (i + 1)) d s m))))) }
+      record {
+        so-far = f .so-far ∙ (rw (add-one i, y)
+            (rw (← add-one i) (rw (z, e) (prefixed-one (take i b) x (many (n - (i + 1)) d s m)))));
+      }
 
   pub fill-stop : {i at : ℕ} {e : Refusal} {b c : List ℕ} → Filling i b at → i < n → d s at ≡ fault e →
       Fills (many n d s at₀) (Fault e) n c

@@ -1,1 +1,2 @@
-pub mod SheetLaws
+mod SheetLaws
+pub mod AnswerLaws

@@ -78,16 +78,18 @@ module _ (s : List ℕ) (h d : Bool) (names : List Name) (at : ℕ) {b : List �
       items-whole {n} {c′} e w =
           let l = located (item names k) s k m f t in
           let x : Sheet = record { header = h; doxygen = d; items = l .values } in
-          record { says = record {
-            sheet = x;
-            end = c′ .at;
-            decoded = rw (q, l .decoded) (tail-keeps x s (c .at) (stepped (g x) w .1));
-            header = refl;
-            doxygen = refl;
-            named = sym e;
-            few = omega (arith, field-lt 8 s at q);
-            table = l .table;
-          } }
+          record {
+            says = record {
+              sheet = x;
+              end = c′ .at;
+              decoded = rw (q, l .decoded) (tail-keeps x s (c .at) (stepped (g x) w .1));
+              header = refl;
+              doxygen = refl;
+              named = sym e;
+              few = omega (arith, field-lt 8 s at q);
+              table = l .table;
+            };
+          }
 
 -- ---- both tables
 
@@ -118,9 +120,11 @@ module _ (s : List ℕ) (h d : Bool) (at : ℕ) {b i : List ℕ} where
         by-answer (Refused e) l a = record { says = behind-is s h d at q (l .decoded) ∙ a .says }
         by-answer (Whole o) l a =
             let z : n ≡ o .names = sym (l .table .count) ∙ sym (a .says .named) in
-            record { says = record {
-              names = l .values;
-              few = omega (arith, field-lt 10 s at q);
-              table = rw z at (l .table);
-              items = rw (behind-is s h d at q (l .decoded)) (a .says);
-            } }
+            record {
+              says = record {
+                names = l .values;
+                few = omega (arith, field-lt 10 s at q);
+                table = rw z at (l .table);
+                items = rw (behind-is s h d at q (l .decoded)) (a .says);
+              };
+            }

@@ -59,13 +59,18 @@ fn check_tail(s: &[u8], c: Cursor) -> Step
 }
 
 // The item table and the tail at c, behind so many names.
-fn decode_items(s: &[u8], c: Cursor, header: bool, doxygen: bool, n: u32, items: &mut [u32]) -> Decoded
+fn decode_items(
+    s: &[u8],
+    c: Cursor,
+    header: bool,
+    doxygen: bool,
+    n: u32,
+    items: &mut [u32],
+) -> Decoded
     requires { ⌜ Limited (now s) × (255 ≤ length (now items)) ⌝ }
-    ensures {
-        λ r. ⌜ ForNames n (λ ns.
-            AnswersItems (now (s .entry)) ns (behindNames header doxygen ns (now (s .entry)) (c .at)) r
-                (now (items .exit))) ⌝
-    }
+    ensures { λ r. ⌜ ForNames n (λ ns.
+        AnswersItems (now (s .entry)) ns (behindNames header doxygen ns (now (s .entry)) (c .at)) r
+        (now (items .exit))) ⌝ }
 {
     let f = read(s, c, 8);
     match f {
@@ -78,7 +83,12 @@ fn decode_items(s: &[u8], c: Cursor, header: bool, doxygen: bool, n: u32, items:
                     let b = check_tail(s, c1);
                     match b {
                         Step::Fault(e) => Decoded::Refused(e),
-                        Step::At(_) => Decoded::Whole(Outline { header, doxygen, names: n, items: k }),
+                        Step::At(_) => Decoded::Whole(Outline {
+                            header,
+                            doxygen,
+                            names: n,
+                            items: k,
+                        }),
                     }
                 }
             }
@@ -96,10 +106,8 @@ fn decode_tables(
     items: &mut [u32],
 ) -> Decoded
     requires { ⌜ Limited (now s) × (1023 ≤ length (now names)) × (255 ≤ length (now items)) ⌝ }
-    ensures {
-        λ r. ⌜ Answers (now (s .entry)) (behindBits header doxygen (now (s .entry)) (c .at)) r
-            (now (names .exit)) (now (items .exit)) ⌝
-    }
+    ensures { λ r. ⌜ Answers (now (s .entry)) (behindBits header doxygen (now (s .entry)) (c .at)) r
+        (now (names .exit)) (now (items .exit)) ⌝ }
 {
     let f = read(s, c, 10);
     match f {
@@ -117,10 +125,8 @@ fn decode_tables(
 // The sheet at c.
 fn decode_fields(s: &[u8], c: Cursor, names: &mut [u32], items: &mut [u32]) -> Decoded
     requires { ⌜ Limited (now s) × (1023 ≤ length (now names)) × (255 ≤ length (now items)) ⌝ }
-    ensures {
-        λ r. ⌜ Answers (now (s .entry)) (sheetOf (now (s .entry)) (c .at)) r
-            (now (names .exit)) (now (items .exit)) ⌝
-    }
+    ensures { λ r. ⌜ Answers (now (s .entry)) (sheetOf (now (s .entry)) (c .at)) r
+        (now (names .exit)) (now (items .exit)) ⌝ }
 {
     let f = read(s, c, 4);
     match f {
@@ -150,10 +156,8 @@ pub fn decode(
     names: &mut [u32; Outline::NAMES],
     items: &mut [u32; Outline::ITEMS],
 ) -> Decoded
-    ensures {
-        λ r. ⌜ Answers (now (sheet .entry)) (decodeOf (now (sheet .entry))) r
-            (now (names .exit)) (now (items .exit)) ⌝
-    }
+    ensures { λ r. ⌜ Answers (now (sheet .entry)) (decodeOf (now (sheet .entry))) r
+        (now (names .exit)) (now (items .exit)) ⌝ }
 {
     if Cursor::SHEET < sheet.len() {
         return Decoded::Refused(Refusal::CutSheet);

@@ -79,10 +79,8 @@ fn check_form(s: &[u8], c: Cursor, items: u32) -> Step
 // Past a function's return type, arguments and comment.
 fn check_signature(s: &[u8], c: Cursor, names: u32, items: u32) -> Step
     requires { ⌜ Limited (now s) ⌝ }
-    ensures {
-        λ r. ⌜ ((make : Ret → List Argument → List (List ℕ) → Body) →
-            ForNames names (λ ns. Checks (signature make ns items (now (s .entry)) (c .at)) r)) ⌝
-    }
+    ensures { λ r. ⌜ ((make : Ret → List Argument → List (List ℕ) → Body) →
+        ForNames names (λ ns. Checks (signature make ns items (now (s .entry)) (c .at)) r)) ⌝ }
 {
     let a = check_return(s, c, items);
     match a {
@@ -283,10 +281,8 @@ fn check_item(s: &[u8], c: Cursor, names: u32, items: u32) -> Step
 // Past all items, with the position of each in offsets.
 pub fn check_items(s: &[u8], c: Cursor, names: u32, items: u32, offsets: &mut [u32]) -> Step
     requires { ⌜ Limited (now s) × (items ≤ length (now offsets)) ⌝ }
-    ensures {
-        λ r. ⌜ ForNames names (λ ns.
-            Fills (many items (placed (item ns items)) (now (s .entry)) (c .at)) r items (now (offsets .exit))) ⌝
-    }
+    ensures { λ r. ⌜ ForNames names (λ ns.
+        Fills (many items (placed (item ns items)) (now (s .entry)) (c .at)) r items (now (offsets .exit))) ⌝ }
 {
     let mut next = c;
     let mut i: u32 = 0;

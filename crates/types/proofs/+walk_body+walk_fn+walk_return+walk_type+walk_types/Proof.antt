@@ -87,15 +87,15 @@ walk-types-below t =
 
 abbrev K-walk-body : ℕ → walk-body-lts.Claims
 K-walk-body t = (
-      skip-reads.Asked,
-      skip-reads.Learnt,
-      check-index-reads.Asked,
-      check-index-reads.Learnt,
-      walk-type-below t,
-      walk-type.Post,
-      walk-fn-below t,
-      walk-fn.Post,
-    )
+  skip-reads.Asked,
+  skip-reads.Learnt,
+  check-index-reads.Asked,
+  check-index-reads.Learnt,
+  walk-type-below t,
+  walk-type.Post,
+  walk-fn-below t,
+  walk-fn.Post,
+)
 
 walk-body-returns : (t : ℕ) → walk-body-lts.Need-returns (K-walk-body t) (walk-body-at t) walk-body.Post
 walk-body-returns t c = rw (c .before .enum-told .given .1) (tail _ (c .skip .ensures))
@@ -129,13 +129,13 @@ walk-body-returns-10 t c = rw (c .enum-told8 .given .1) record { step = refl }
 
 abbrev K-walk-fn : ℕ → walk-fn-lts.Claims
 K-walk-fn t = (
-      walk-return-below t,
-      walk-return.Post,
-      read-reads.Asked,
-      read-reads.Learnt,
-      walk-types-below t,
-      walk-types.Post,
-    )
+  walk-return-below t,
+  walk-return.Post,
+  read-reads.Asked,
+  read-reads.Learnt,
+  walk-types-below t,
+  walk-types.Post,
+)
 
 walk-fn-returns : (t : ℕ) → walk-fn-lts.Need-returns (K-walk-fn t) (walk-fn-at t) walk-fn.Post
 walk-fn-returns t c = rw (stopped (c .before .before .before .walk-return .ensures) (c .before .r .given .1)) record { step = refl }
@@ -148,11 +148,11 @@ walk-fn-returns-3 t c = rw (stepped (c .before .before .before .before .before .
 
 abbrev K-walk-return : ℕ → walk-return-lts.Claims
 K-walk-return t = (
-      read-reads.Asked,
-      read-reads.Learnt,
-      walk-type-below t,
-      walk-type.Post,
-    )
+  read-reads.Asked,
+  read-reads.Learnt,
+  walk-type-below t,
+  walk-type.Post,
+)
 
 walk-return-returns : (t : ℕ) → walk-return-lts.Need-returns (K-walk-return t) (walk-return-at t) walk-return.Post
 walk-return-returns t c = rw (bit-value _ _ (c .before .before .before .before .before .read .ensures) (c .before .before .before .f .given .1), eq-eqb _ _ (c .before .if1 .taken)) (tail _ (c .walk-type .ensures))
@@ -165,15 +165,15 @@ walk-return-returns-3 t c = rw (bit-value _ _ (c .before .before .before .before
 
 abbrev K-walk-type : ℕ → walk-type-lts.Claims
 K-walk-type t = (
-      read-reads.Asked,
-      read-reads.Learnt,
-      kind-of-reads.Asked,
-      kind-of-reads.Learnt,
-      too-deep-reads.Asked,
-      too-deep-reads.Learnt,
-      walk-body-below t,
-      walk-body.Post,
-    )
+  read-reads.Asked,
+  read-reads.Learnt,
+  kind-of-reads.Asked,
+  kind-of-reads.Learnt,
+  too-deep-reads.Asked,
+  too-deep-reads.Learnt,
+  walk-body-below t,
+  walk-body.Post,
+)
 
 walk-type-returns : (t : ℕ) → walk-type-lts.Need-returns (K-walk-type t) (walk-type-at t) walk-type.Post
 walk-type-returns t c = rw (type-deep _ _ _ _ (value (c .before .before .before .before .before .before .read .ensures) (c .before .before .before .before .f .given .1)) (c .before .if1 .taken), c .too-deep .ensures, c .before .before .kind-of .ensures) record { step = refl }
@@ -214,73 +214,73 @@ pub +walk-body+walk-fn+walk-return+walk-type+walk-types-spec : {M : Type 1} → 
     μ-walk-type
     μ-walk-types
     (λ t. walk-body-lts.spec (K-walk-body t) (walk-body-at t) walk-body.Post
-        (λ c. search needs)
-        (λ c κs. search needs)
-        (λ c. search needs)
-        (λ c κs. search needs)
-        (λ c. search needs)
-        (λ c κs. (omega arith, omega arith))
-        (λ c. search needs)
-        (λ c κs. search needs)
-        (λ c. search needs)
-        (λ c κs. (omega arith, omega arith))
-        (λ c. search needs)
-        (λ c. search needs)
-        (λ c. search needs)
-        (λ c κs. (omega arith, omega arith))
-        (λ c. search needs)
-        (λ c κs. (omega arith, omega arith))
-        (λ c. search needs)
-        (λ c κs. search needs)
-        (λ c. search needs)
-        (λ c. search needs)
-        (walk-body-returns t)
-        (walk-body-returns-2 t)
-        (walk-body-returns-3 t)
-        (walk-body-returns-4 t)
-        (walk-body-returns-5 t)
-        (walk-body-returns-6 t)
-        (walk-body-returns-7 t)
-        (walk-body-returns-8 t)
-        (walk-body-returns-9 t)
-        (walk-body-returns-10 t))
+    (λ c. search needs)
+    (λ c κs. search needs)
+    (λ c. search needs)
+    (λ c κs. search needs)
+    (λ c. search needs)
+    (λ c κs. (omega arith, omega arith))
+    (λ c. search needs)
+    (λ c κs. search needs)
+    (λ c. search needs)
+    (λ c κs. (omega arith, omega arith))
+    (λ c. search needs)
+    (λ c. search needs)
+    (λ c. search needs)
+    (λ c κs. (omega arith, omega arith))
+    (λ c. search needs)
+    (λ c κs. (omega arith, omega arith))
+    (λ c. search needs)
+    (λ c κs. search needs)
+    (λ c. search needs)
+    (λ c. search needs)
+    (walk-body-returns t)
+    (walk-body-returns-2 t)
+    (walk-body-returns-3 t)
+    (walk-body-returns-4 t)
+    (walk-body-returns-5 t)
+    (walk-body-returns-6 t)
+    (walk-body-returns-7 t)
+    (walk-body-returns-8 t)
+    (walk-body-returns-9 t)
+    (walk-body-returns-10 t))
     (λ t. walk-fn-lts.spec (K-walk-fn t) (walk-fn-at t) walk-fn.Post
-        (λ c κs. (omega arith, omega arith))
-        (λ c. search needs)
-        (λ c. search needs)
-        (λ c κs. search needs)
-        (λ c. search needs)
-        (λ c. search needs)
-        (λ c κs. (omega arith, omega arith))
-        (walk-fn-returns t)
-        (walk-fn-returns-2 t)
-        (walk-fn-returns-3 t))
+    (λ c κs. (omega arith, omega arith))
+    (λ c. search needs)
+    (λ c. search needs)
+    (λ c κs. search needs)
+    (λ c. search needs)
+    (λ c. search needs)
+    (λ c κs. (omega arith, omega arith))
+    (walk-fn-returns t)
+    (walk-fn-returns-2 t)
+    (walk-fn-returns-3 t))
     (λ t. walk-return-lts.spec (K-walk-return t) (walk-return-at t) walk-return.Post
-        (λ c κs. search needs)
-        (λ c. search needs)
-        (λ c. search needs)
-        (λ c κs. (omega arith, omega arith))
-        (walk-return-returns t)
-        (walk-return-returns-2 t)
-        (walk-return-returns-3 t))
+    (λ c κs. search needs)
+    (λ c. search needs)
+    (λ c. search needs)
+    (λ c κs. (omega arith, omega arith))
+    (walk-return-returns t)
+    (walk-return-returns-2 t)
+    (walk-return-returns-3 t))
     (λ t. walk-type-lts.spec (K-walk-type t) (walk-type-at t) walk-type.Post
-        (λ c κs. search needs)
-        (λ c. search needs)
-        (λ c. search needs)
-        (λ c κs. search needs)
-        (λ c κs. search needs)
-        (walk-type-returns t)
-        (λ c. omega arith)
-        (λ c κs. (omega arith, omega arith))
-        (walk-type-returns-2 t)
-        (walk-type-returns-3 t))
+    (λ c κs. search needs)
+    (λ c. search needs)
+    (λ c. search needs)
+    (λ c κs. search needs)
+    (λ c κs. search needs)
+    (walk-type-returns t)
+    (λ c. omega arith)
+    (λ c κs. (omega arith, omega arith))
+    (walk-type-returns-2 t)
+    (walk-type-returns-3 t))
     (λ t. walk-types-lts.spec (K-walk-types t) (walk-types-at t) walk-types.Post walk-types-Inv-loop walk-types-μ-loop
-        (walk-types-loop-holds t)
-        (λ c κs. (omega arith, omega arith))
-        (λ c. search needs)
-        (λ c. search needs)
-        (walk-types-returns t)
-        (λ c. omega arith)
-        (λ c. omega arith)
-        (walk-types-loop-again t)
-        (walk-types-returns-2 t))
+    (walk-types-loop-holds t)
+    (λ c κs. (omega arith, omega arith))
+    (λ c. search needs)
+    (λ c. search needs)
+    (walk-types-returns t)
+    (λ c. omega arith)
+    (λ c. omega arith)
+    (walk-types-loop-again t)
+    (walk-types-returns-2 t))
