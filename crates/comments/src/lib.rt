@@ -3,9 +3,9 @@ use cursor::Cursor;
 use cursor::Field;
 use cursor::Step;
 use cursor::read;
-use names::chars;
-use names::in_range;
 use refusal::Refusal;
+use text::in_range;
+use text::read_text;
 ghost use mathlib.Core.Path.{_≡_};
 ghost use mathlib.Core.List.{List};
 ghost use Prim.Native.Nat.{ℕ};
@@ -61,23 +61,17 @@ fn check_line(s: &[u8], c: Cursor) -> Step
     requires { ⌜ Limited (now s) ⌝ }
     ensures { λ r. ⌜ Checks (line (now (s .entry)) (c .at)) r ⌝ }
 {
-    let f = read(s, c, 7);
+    let mut buf = [0u8; Line::LONGEST];
+    let f = read_text(s, c, 7, &mut buf);
     match f {
         Field::Cut => Step::Fault(Refusal::CutSheet),
-        Field::Value(n, first) => {
-            let mut buf = [0u8; Line::LONGEST];
-            let r = chars(s, first, n, &mut buf);
-            match r {
-                Step::Fault(e) => Step::Fault(e),
-                Step::At(next) => {
-                    let k = n as usize;
-                    let good = is_line(&buf[..k]);
-                    if good {
-                        return Step::At(next);
-                    }
-                    Step::Fault(Refusal::BadComment)
-                }
+        Field::Value(n, next) => {
+            let k = n as usize;
+            let good = is_line(&buf[..k]);
+            if good {
+                return Step::At(next);
             }
+            Step::Fault(Refusal::BadComment)
         }
     }
 }

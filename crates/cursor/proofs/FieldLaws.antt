@@ -7,6 +7,7 @@ use native.Mathlib.Omega.{arith}
 use lib.ListN.{length}
 use lib.Dec.{leb, eqb}
 use borrow.Author.Tests.{le-leb, lt-leb}
+use Rattle.refusal.specs.declared.Refusal.{Refusal}
 use Rattle.refusal.specs.declared.Refusal.the-variants.{CutSheet}
 use Rattle.format.specs.Decode.{Got, fault, got, pick}
 use Rattle.format.specs.Bits.{bitsAt, bits, bit}
@@ -51,15 +52,21 @@ module _ (n : ℕ) (s : List ℕ) (at : ℕ) where
       next-of true e = cc
       next-of false e = absurd (let z : _≡_ {A = ℕ} 0 1 = cc in omega arith)
 
+  pub field-fault : {f : Refusal} → bits n s at ≡ fault f → f ≡ CutSheet
+  unfolding bits
+  field-fault {f} e = fault-of (leb (at + n) (8 * length s)) e
+    where
+      fault-of : (b : Bool) → pick b (got (bitsAt s at n) (at + n)) (fault CutSheet) ≡ fault f → f ≡ CutSheet
+      fault-of true e = absurd (let z : _≡_ {A = ℕ} 0 1 = cc in omega arith)
+      fault-of false e = cc
+
   -- a field that the code found cut
   pub cut : {r : Field} → Reads (bits n s at) r → r ≡ Cut → bits n s at ≡ fault CutSheet
-  unfolding bits
-  cut h t = cut-of (leb (at + n) (8 * length s)) (sym (h .field) ∙ t)
+  cut h t = by-field (bits n s at) refl (sym (h .field) ∙ t)
     where
-      cut-of : (b : Bool) → fieldOf (pick b (got (bitsAt s at n) (at + n)) (fault CutSheet)) ≡ Cut →
-          pick b (got (bitsAt s at n) (at + n)) (fault CutSheet) ≡ fault CutSheet
-      cut-of true t = absurd (let z : _≡_ {A = ℕ} 0 1 = cc in omega arith)
-      cut-of false t = refl
+      by-field : (p : Got ℕ) → bits n s at ≡ p → fieldOf p ≡ Cut → p ≡ fault CutSheet
+      by-field (fault f) q t = ap fault (field-fault q)
+      by-field (got v m) q t = absurd (let z : _≡_ {A = ℕ} 0 1 = cc in omega arith)
 
 -- a field that the code read
 pub value : {p : Got ℕ} {r : Field} {v : ℕ} {c : Cursor} → Reads p r → r ≡ Value v c → p ≡ got v (c .at)

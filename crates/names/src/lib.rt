@@ -2,15 +2,16 @@
 use cursor::Cursor;
 use cursor::Field;
 use cursor::Step;
-use cursor::read;
 use refusal::Refusal;
+use text::equal;
+use text::in_range;
+use text::read_text;
 ghost use mathlib.Core.Path.{_≡_};
 ghost use Prim.Native.Nat.{_≤_};
 ghost use lib.ListN.{length};
-ghost use Rattle.lexical.specs.Bytes.{within, every, same, member};
+ghost use Rattle.lexical.specs.Bytes.{every, member};
 ghost use Rattle.lexical.specs.Names.{letter, nameStart, nameChar, reserved, isName};
 ghost use Rattle.format.specs.Decode.{many};
-ghost use Rattle.format.specs.Bits.{bits};
 ghost use Rattle.format.specs.Decoding.{name};
 ghost use Rattle.cursor.specs.Checking.{Limited, Checks, placed, Fills};
 ghost use Rattle.names.specs.Words.{wordsOf, total};
@@ -26,15 +27,6 @@ pub struct Name {
 impl Name {
     // The characters of the longest name.
     pub const LONGEST: usize = 63;
-}
-
-pub fn in_range(lo: u8, hi: u8, c: u8) -> bool
-    ensures { λ r. ⌜ r ≡ within lo hi c ⌝ }
-{
-    if c < lo {
-        return false;
-    }
-    c <= hi
 }
 
 fn is_letter(c: u8) -> bool
@@ -74,23 +66,6 @@ fn all_name_chars(w: &[u8]) -> bool
     while i < w.len() {
         let ok = is_name_char(w[i]);
         if !ok {
-            return false;
-        }
-        i = i + 1;
-    }
-    true
-}
-
-// Whether two lists of bytes are the same.
-pub fn equal(a: &[u8], b: &[u8]) -> bool
-    ensures { λ r. ⌜ r ≡ same (now (a .entry)) (now (b .entry)) ⌝ }
-{
-    if a.len() != b.len() {
-        return false;
-    }
-    let mut i: usize = 0;
-    while i < a.len() {
-        if a[i] != b[i] {
             return false;
         }
         i = i + 1;
@@ -150,53 +125,22 @@ fn is_name(w: &[u8]) -> bool
     !word
 }
 
-// The n characters at c, into the front of buf.
-pub fn chars(s: &[u8], c: Cursor, n: u32, buf: &mut [u8]) -> Step
-    requires { ⌜ Limited (now s) × (n ≤ length (now buf)) ⌝ }
-    ensures { λ r. ⌜ Fills (many n (bits 7) (now (s .entry)) (c .at)) r n (now (buf .exit)) ⌝ }
-{
-    let mut next = c;
-    let mut i: u32 = 0;
-    while i < n {
-        let f = read(s, next, 7);
-        match f {
-            Field::Value(v, p) => {
-                let b = v as u8;
-                let k = i as usize;
-                buf[k] = b;
-                next = p;
-            }
-            Field::Cut => {
-                return Step::Fault(Refusal::CutSheet);
-            }
-        }
-        i = i + 1;
-    }
-    Step::At(next)
-}
-
 // Past the name at c.
 fn check_name(s: &[u8], c: Cursor) -> Step
     requires { ⌜ Limited (now s) ⌝ }
     ensures { λ r. ⌜ Checks (name (now (s .entry)) (c .at)) r ⌝ }
 {
-    let f = read(s, c, 6);
+    let mut buf = [0u8; Name::LONGEST];
+    let f = read_text(s, c, 6, &mut buf);
     match f {
         Field::Cut => Step::Fault(Refusal::CutSheet),
-        Field::Value(n, first) => {
-            let mut buf = [0u8; Name::LONGEST];
-            let r = chars(s, first, n, &mut buf);
-            match r {
-                Step::Fault(e) => Step::Fault(e),
-                Step::At(next) => {
-                    let k = n as usize;
-                    let good = is_name(&buf[..k]);
-                    if good {
-                        return Step::At(next);
-                    }
-                    Step::Fault(Refusal::BadName)
-                }
+        Field::Value(n, next) => {
+            let k = n as usize;
+            let good = is_name(&buf[..k]);
+            if good {
+                return Step::At(next);
             }
+            Step::Fault(Refusal::BadName)
         }
     }
 }
@@ -231,15 +175,9 @@ pub fn fetch(s: &[u8], at: u32, buf: &mut [u8]) -> Name
     requires { ⌜ Limited (now s) × (63 ≤ length (now buf)) ⌝ }
     ensures { λ r. ⌜ Fetched (name (now (s .entry)) at) (r .length) (now (buf .exit)) ⌝ }
 {
-    let f = read(s, Cursor { at }, 6);
+    let f = read_text(s, Cursor::new(at), 6, buf);
     match f {
         Field::Cut => Name { length: 0 },
-        Field::Value(n, first) => {
-            let r = chars(s, first, n, buf);
-            match r {
-                Step::Fault(_) => Name { length: 0 },
-                Step::At(_) => Name { length: n as usize },
-            }
-        }
+        Field::Value(n, _) => Name { length: n as usize },
     }
 }

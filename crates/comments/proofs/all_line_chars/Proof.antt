@@ -6,7 +6,7 @@ use lib.ListN.{length, drop}
 use borrow.Author.Tests.{not-true, not-false}
 use Rattle.lexical.specs.Bytes.{within, every}
 use Rattle.cursor.proofs.CheckLaws.{known}
-use Rattle.names.proofs.WordLaws.{every-turn, every-no, every-end}
+use Rattle.text.proofs.ByteLoops.{every-turn, every-no, every-end}
 use Rattle.comments.proofs.all_line_chars.Statement.{statement}
 use Rattle.comments.proofs.all_line_chars.Tie as tie
 

@@ -7,7 +7,7 @@ use borrow.Author.Tests.{not-true, not-false}
 use Rattle.cursor.proofs.CheckLaws.{known}
 use Rattle.lexical.specs.Names.{nameChar}
 use Rattle.lexical.specs.Bytes.{every}
-use Rattle.names.proofs.WordLaws.{every-turn, every-no, every-end}
+use Rattle.text.proofs.ByteLoops.{every-turn, every-no, every-end}
 use Rattle.names.proofs.all_name_chars.Statement.{statement}
 use Rattle.names.proofs.all_name_chars.Tie as tie
 

@@ -1,36 +1,25 @@
 use borrow.Author.Needs.{needs}
-use native.Mathlib.Omega.{arith}
-use Rattle.cursor.proofs.FieldLaws.{field-lt, value, cut}
-use Rattle.cursor.proofs.TableLaws.{filled-at, filled-fault}
-use Rattle.names.proofs.FetchLaws.{fetch-cut, fetch-short, fetch-whole}
+use mathlib.Core.Path.{ap}
+use Rattle.names.proofs.FetchLaws.{fetch-none, fetch-value}
 use Rattle.names.proofs.fetch.Statement.{statement}
 use Rattle.names.proofs.fetch.Tie as tie
 
-chars-requires : tie.Need-chars-requires
-chars-requires c κs = omega (arith, field-lt 6 _ _ (value (c .before .before .before .before .read .ensures) (c .before .before .f .given .1)), c .before .before .before .before .before .before .before .pre)
-
 returns : tie.Need-returns
-returns c = fetch-cut _ _ (cut _ _ _ (c .before .before .read .ensures) (c .enum-told .given .1))
+returns c = fetch-none _ _ (rw (c .before .before .before .before .before .before .new .ensures) at (c .before .before .before .before .read-text .ensures)) (c .enum-told .given .1)
 
 returns-2 : tie.Need-returns-2
-returns-2 c = fetch-short _ _ (value (c .before .before .before .before .before .before .before .before .before .read .ensures) (c .before .before .before .before .before .before .before .f .given .1)) (filled-fault (c .before .before .before .before .chars .ensures) (c .enum-told2 .given .1))
-
-returns-3 : tie.Need-returns-3
-returns-3 c = fetch-whole _ _ (value (c .before .before .before .before .before .before .before .before .before .read .ensures) (c .before .before .before .before .before .before .before .f .given .1)) (filled-at (c .before .before .before .before .chars .ensures) (c .enum-told3 .given .1))
+returns-2 c = fetch-value _ _ (rw (c .before .before .before .before .before .before .before .new .ensures) at (c .before .before .before .before .before .read-text .ensures)) (c .before .f .given .1)
 
 pub fetch-spec : {M : Type 1} → statement M
 fetch-spec =
     tie.close
     (tie.spec
     (λ c κs. search needs)
+    (λ c κs. search needs)
     (λ c. search needs)
-    (λ c. search needs)
-    chars-requires
     (λ c. search needs)
     (λ c. search needs)
     (λ c. search needs)
     returns
     (λ c. search needs)
-    returns-2
-    (λ c. search needs)
-    returns-3)
+    returns-2)

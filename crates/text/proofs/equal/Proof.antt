@@ -4,9 +4,9 @@ use mathlib.Core.Path.{_≡_, refl, sym, _∙_}
 use Prim.Native.Nat.{_-_, _≤_}
 use lib.ListN.{length, drop}
 use Rattle.lexical.specs.Bytes.{same}
-use Rattle.names.proofs.WordLaws.{same-length, same-turn, same-no, same-end}
-use Rattle.names.proofs.equal.Statement.{statement}
-use Rattle.names.proofs.equal.Tie as tie
+use Rattle.text.proofs.ByteLoops.{same-length, same-turn, same-no, same-end}
+use Rattle.text.proofs.equal.Statement.{statement}
+use Rattle.text.proofs.equal.Tie as tie
 
 abbrev Inv-loop : tie.InvT-loop
 Inv-loop a b i₀ i = (i ≤ length a) × (same a b ≡ same (drop i a) (drop i b))

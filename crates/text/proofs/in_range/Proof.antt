@@ -1,7 +1,7 @@
 use borrow.Author.Needs.{needs}
 use borrow.Author.Tests.{le-leb, lt-leb}
-use Rattle.names.proofs.in_range.Statement.{statement}
-use Rattle.names.proofs.in_range.Tie as tie
+use Rattle.text.proofs.in_range.Statement.{statement}
+use Rattle.text.proofs.in_range.Tie as tie
 
 returns : tie.Need-returns
 returns c = rw (lt-leb _ _ (c .if1 .taken))

@@ -6,8 +6,8 @@ use lib.ListN.{length, length-set}
 use Rattle.format.specs.Bits.{bits}
 use Rattle.cursor.proofs.FieldLaws.{value, cut, field-lt}
 use Rattle.cursor.proofs.TableLaws.{Filling, fill-none, fill-turn, fill-stop, fill-done}
-use Rattle.names.proofs.chars.Statement.{statement}
-use Rattle.names.proofs.chars.Tie as tie
+use Rattle.text.proofs.chars.Statement.{statement}
+use Rattle.text.proofs.chars.Tie as tie
 
 abbrev Inv-loop : tie.InvT-loop
 Inv-loop s n buf₀ next₀ i₀ buf next i = (i ≤ n) × (length buf ≡ length buf₀) × Filling (bits 7) s n (next₀ .at) i buf (next .at)
