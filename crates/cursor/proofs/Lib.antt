@@ -3,3 +3,4 @@ pub mod FieldLaws
 pub mod WidthLaws
 pub mod CheckLaws
 pub mod TableLaws
+pub mod ReadLaws
