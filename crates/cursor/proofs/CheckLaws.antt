@@ -9,7 +9,7 @@ use Rattle.format.specs.Decode.{Got, fault, got, Dec, after, many}
 use Rattle.cursor.specs.declared.Cursor.{Cursor}
 use Rattle.cursor.specs.declared.Step.{Step}
 use Rattle.cursor.specs.declared.Step.the-variants.{At, Fault}
-use Rattle.cursor.specs.Checking.{stepOf, Checks, placed}
+use Rattle.cursor.specs.Checking.{stepOf, Checks}
 
 -- what is made of the value does not matter
 pub step-map : {A B : Type 0} (f : A → B) (p : Got A) → stepOf (after p (λ x n. got (f x) n)) ≡ stepOf p

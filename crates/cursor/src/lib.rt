@@ -2,7 +2,7 @@
 use refusal::Refusal;
 ghost use mathlib.Core.Path.{_≡_};
 ghost use Prim.Native.Nat.{_+_, _*_, _≤_, _<_};
-ghost use lib.ListN.{length, getD};
+ghost use lib.ListN.{getD};
 ghost use Rattle.format.specs.Bits.{bitsAt, bits, widthOf, index};
 ghost use Rattle.cursor.specs.Checking.{Limited, Reads, Checks};
 

@@ -1,8 +1,8 @@
 -- Laws of the sheet's end, of both tables, and of the answer to a sheet.
-use mathlib.Core.Path.{_≡_, refl, sym, ap, _∙_}
+use mathlib.Core.Path.{_≡_, refl, sym, _∙_}
 use mathlib.Core.List.{List}
 use mathlib.Core.Bool.{Bool, true, false, _&&_}
-use Prim.Native.Nat.{ℕ, _+_, _-_, _*_, _/_, _%_, _≤_}
+use Prim.Native.Nat.{ℕ, _+_, _-_, _*_, _/_, _%_}
 use native.Mathlib.Omega.{arith}
 use lib.ListN.{length}
 use lib.Dec.{eqb}
@@ -16,15 +16,14 @@ use Rattle.format.specs.Decoding.{name, item, nameTable, itemTable, tail}
 use Rattle.cursor.specs.declared.Cursor.{Cursor}
 use Rattle.cursor.specs.declared.Step.{Step}
 use Rattle.cursor.specs.declared.Step.the-variants.{At, Fault}
-use Rattle.cursor.specs.Checking.{Checks, placed, Fills, Table}
+use Rattle.cursor.specs.Checking.{Checks, placed, Fills}
 use Rattle.cursor.proofs.FieldLaws.{field-lt}
 use Rattle.cursor.proofs.CheckLaws.{stepped, stopped}
 use Rattle.cursor.proofs.TableLaws.{fills-checks, placed-checks, Located, located}
 use Rattle.items.specs.Parts.{ForNames}
-use Rattle.decode.specs.declared.Outline.{Outline}
 use Rattle.decode.specs.declared.Decoded.{Decoded}
 use Rattle.decode.specs.declared.Decoded.the-variants.{Whole, Refused}
-use Rattle.decode.specs.Tables.{behindNames, behindBits, Items, Tables, AnswersItems, Answers}
+use Rattle.decode.specs.Tables.{behindNames, behindBits, AnswersItems, Answers}
 
 -- ---- the end of the sheet
 

@@ -6,7 +6,6 @@ use cursor::read;
 use items::check_items;
 use names::check_names;
 use refusal::Refusal;
-ghost use mathlib.Core.Path.{_≡_};
 ghost use Prim.Native.Nat.{_≤_};
 ghost use lib.ListN.{length};
 ghost use Rattle.format.specs.Sheet.{Sheet};

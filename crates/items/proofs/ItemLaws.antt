@@ -4,13 +4,13 @@ use mathlib.Core.List.{List, []}
 use mathlib.Core.Bool.{Bool}
 use Prim.Native.Nat.{ℕ}
 use lib.ListN.{length, getD}
-use Rattle.format.specs.Decode.{after, got, many}
+use Rattle.format.specs.Decode.{many}
 use Rattle.format.specs.Bits.{index}
 use Rattle.format.specs.Sheet.{Name}
 use Rattle.format.specs.declared.ItemKind.{ItemKind}
 use Rattle.format.specs.Decoding.{nameOf, isBad}
 use Rattle.cursor.specs.declared.Step.{Step}
-use Rattle.cursor.specs.Checking.{stepOf, Checks}
+use Rattle.cursor.specs.Checking.{Checks}
 use Rattle.cursor.proofs.CheckLaws.{step-map, tail, checks-like}
 
 module _ (names : List Name) {n : ℕ} (e : length names ≡ n) (s : List ℕ) (at : ℕ) where

@@ -1,6 +1,6 @@
 -- Laws of a text at a position.
 use mathlib.Core.Path.{_≡_, refl, sym, ap, _∙_}
-use mathlib.Core.List.{List, [], _∷_}
+use mathlib.Core.List.{List, _∷_}
 use mathlib.Core.Bool.{Bool}
 use Prim.Native.Nat.{ℕ, zero, suc, _^_, _<_}
 use native.Mathlib.Omega.{arith}
@@ -14,7 +14,7 @@ use Rattle.cursor.specs.declared.Cursor.{Cursor}
 use Rattle.cursor.specs.declared.Field.{Field}
 use Rattle.cursor.specs.declared.Field.the-variants.{Value, Cut}
 use Rattle.cursor.proofs.FieldLaws.{field-lt, field-fault}
-use Rattle.text.specs.Text.{ruled, textOf, lengthOf, Spelled}
+use Rattle.text.specs.Text.{ruled, textOf, Spelled}
 
 -- fields in a row are refused in one way only
 fields-cut : (w n : ℕ) (s : List ℕ) (at : ℕ) {e : Refusal} → many n (bits w) s at ≡ fault e → e ≡ CutSheet

@@ -1,5 +1,4 @@
 use borrow.Author.Needs.{needs}
-use mathlib.Core.Path.{ap}
 use Rattle.names.proofs.FetchLaws.{fetch-none, fetch-value}
 use Rattle.names.proofs.fetch.Statement.{statement}
 use Rattle.names.proofs.fetch.Tie as tie

@@ -1,5 +1,4 @@
 use borrow.Author.Needs.{needs}
-use native.Mathlib.Omega.{arith}
 use Rattle.names.specs.Words.{wordsOf, total}
 use Rattle.lexical.specs.Names.{reserved, keywords, alternativeTokens}
 use Rattle.names.proofs.is_reserved.Statement.{statement}

@@ -2,8 +2,7 @@ use borrow.Author.Needs.{needs}
 use native.Mathlib.Omega.{arith}
 use mathlib.Core.Path.{_≡_, refl, sym, ap, _∙_}
 use Prim.Native.Nat.{ℕ, _+_, _-_, _≤_}
-use lib.ListN.{length, drop, getD}
-use Rattle.cursor.proofs.CheckLaws.{known}
+use lib.ListN.{length, drop}
 use Rattle.lexical.specs.Bytes.{member}
 use Rattle.names.specs.Words.{wordsOf, total}
 use Rattle.names.proofs.WordLaws.{words-turn, words-yes, words-end, total-step, word-is}

@@ -1,4 +1,3 @@
-use borrow.Author.Needs.{needs}
 use borrow.Author.Tests.{le-leb, lt-leb}
 use Rattle.text.proofs.in_range.Statement.{statement}
 use Rattle.text.proofs.in_range.Tie as tie
