@@ -1,0 +1,6 @@
+pub mod BitLaws
+pub mod FieldLaws
+pub mod WidthLaws
+pub mod CheckLaws
+pub mod TableLaws
+pub mod ReadLaws

@@ -1,0 +1,134 @@
+// Fields of a sheet at bit positions (document 01, "The sheet").
+use refusal::Refusal;
+ghost use mathlib.Core.Path.{_≡_};
+ghost use Prim.Native.Nat.{_+_, _*_, _≤_, _<_};
+ghost use lib.ListN.{getD};
+ghost use Rattle.format.specs.Bits.{bitsAt, bits, widthOf, index};
+ghost use Rattle.cursor.specs.Checking.{Limited, Reads, Checks};
+
+// A bit position.
+pub struct Cursor {
+    pub at: u32,
+}
+
+impl Cursor {
+    // The bytes of the longest sheet.
+    pub const SHEET: usize = 32768;
+    // The last position in a sheet: behind the last bit of the longest.
+    pub const LAST: u32 = 262144;
+
+    pub fn new(at: u32) -> Cursor
+        ensures { λ r. ⌜ r ≡ record { at = at } ⌝ }
+    {
+        Cursor { at }
+    }
+}
+
+// A field that was read and the position behind it, or the end of the sheet before it was whole.
+pub enum Field {
+    Value(u32, Cursor),
+    Cut,
+}
+
+// A checker's answer: the position behind what it checked, or the refusal.
+pub enum Step {
+    At(Cursor),
+    Fault(Refusal),
+}
+
+fn wide(b: u8) -> u64
+    ensures { λ r. ⌜ r ≡ b ⌝ }
+{
+    b as u64
+}
+
+// A byte, and 0 past the end.
+fn byte_at(s: &[u8], i: usize) -> u64
+    ensures { λ r. ⌜ (r ≡ getD (now (s .entry)) i 0) × (r < 256) ⌝ }
+{
+    if i < s.len() {
+        return wide(s[i]);
+    }
+    0
+}
+
+// The 40 bits from a byte on.
+fn window(s: &[u8], b: usize) -> u64
+    requires { ⌜ b ≤ 32768 ⌝ }
+    ensures { λ r. ⌜ r ≡ bitsAt (now (s .entry)) (8 * b) 40 ⌝ }
+{
+    let b0 = byte_at(s, b);
+    let b1 = byte_at(s, b + 1);
+    let b2 = byte_at(s, b + 2);
+    let b3 = byte_at(s, b + 3);
+    let b4 = byte_at(s, b + 4);
+    b0 * 4294967296 + (b1 * 16777216 + (b2 * 65536 + (b3 * 256 + b4)))
+}
+
+// The value of n bits.
+fn gather(s: &[u8], at: u32, n: u32) -> u32
+    requires { ⌜ (n ≤ 32) × (at ≤ 262144) ⌝ }
+    ensures { λ r. ⌜ r ≡ bitsAt (now (s .entry)) at n ⌝ }
+{
+    let b = (at / 8) as usize;
+    let w = window(s, b);
+    let down = 40 - (at % 8 + n);
+    let one: u64 = 1;
+    ((w >> down) % (one << n)) as u32
+}
+
+// The field of n bits at c.
+pub fn read(s: &[u8], c: Cursor, n: u32) -> Field
+    requires { ⌜ Limited (now s) × (n ≤ 32) ⌝ }
+    ensures { λ r. ⌜ Reads (bits n (now (s .entry)) (c .at)) r ⌝ }
+{
+    let at = c.at;
+    if Cursor::LAST < at {
+        return Field::Cut;
+    }
+    let end = at + n;
+    let bytes = ((end + 7) / 8) as usize;
+    if s.len() < bytes {
+        return Field::Cut;
+    }
+    Field::Value(gather(s, at, n), Cursor { at: end })
+}
+
+// Past a field of n bits.
+pub fn skip(s: &[u8], c: Cursor, n: u32) -> Step
+    requires { ⌜ Limited (now s) × (n ≤ 32) ⌝ }
+    ensures { λ r. ⌜ Checks (bits n (now (s .entry)) (c .at)) r ⌝ }
+{
+    let f = read(s, c, n);
+    match f {
+        Field::Cut => Step::Fault(Refusal::CutSheet),
+        Field::Value(_, next) => Step::At(next),
+    }
+}
+
+// The bits of an index into a table of n entries.
+pub fn width(n: u32) -> u32
+    ensures { λ r. ⌜ r ≡ widthOf n ⌝ }
+{
+    if n == 0 {
+        return 0;
+    }
+    32 - u32::leading_zeros(n - 1)
+}
+
+// Past an index into a table of n entries.
+pub fn check_index(s: &[u8], c: Cursor, n: u32) -> Step
+    requires { ⌜ Limited (now s) ⌝ }
+    ensures { λ r. ⌜ Checks (index n (now (s .entry)) (c .at)) r ⌝ }
+{
+    let f = read(s, c, width(n));
+    match f {
+        Field::Cut => Step::Fault(Refusal::CutSheet),
+        Field::Value(i, next) => {
+            if i < n {
+                return Step::At(next);
+            }
+            Step::Fault(Refusal::LooseIndex)
+        }
+    }
+}

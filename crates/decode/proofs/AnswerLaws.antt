@@ -1,0 +1,60 @@
+-- Laws for those who use the answer to a sheet and the tables.
+use mathlib.Core.Path.{_≡_, refl}
+use mathlib.Core.List.{List, []}
+use mathlib.Core.Bool.{Bool, true, false}
+use Prim.Native.Nat.{ℕ, _<_}
+use native.Mathlib.Omega.{arith}
+use lib.ListN.{length, take, getD}
+use lib.Dec.{leb}
+use borrow.Author.Tests.{leb-true}
+use Rattle.refusal.specs.declared.Refusal.{Refusal}
+use Rattle.refusal.specs.declared.Refusal.the-variants.{CutSheet}
+use Rattle.format.specs.Decode.{Got, fault, got, pick}
+use Rattle.format.specs.Sheet.{Sheet}
+use Rattle.format.specs.Decoding.{name, sheet, decode}
+use Rattle.cursor.specs.Checking.{Limited}
+use Rattle.names.specs.Fetching.{Fetched}
+use Rattle.decode.specs.declared.Outline.{Outline}
+use Rattle.decode.specs.declared.Decoded.{Decoded}
+use Rattle.decode.specs.declared.Decoded.the-variants.{Whole, Refused}
+use Rattle.decode.specs.Tables.{Tables, saysOf, Answers}
+
+module _ {s : List ℕ} {p : Got Sheet} {r : Decoded} {b i : List ℕ} where
+  -- what an answer says of the definition
+
+  pub refused : {e : Refusal} → Answers s p r b i → r ≡ Refused e → p ≡ fault e
+  refused {e} a t = rw t at (a .says)
+
+  pub whole : {o : Outline} → Answers s p r b i → r ≡ Whole o → Tables s p o b i
+  whole {o} a t = rw t at (a .says)
+
+  -- what the definition says of the answer
+
+  pub must-refuse : {e : Refusal} → Answers s p r b i → p ≡ fault e → r ≡ Refused e
+  must-refuse {e} a q = by-answer r (a .says)
+    where
+      by-answer : (u : Decoded) → saysOf (λ o. Tables s p o b i) p u → u ≡ Refused e
+      by-answer (Refused f) h = let z : f ≡ e = cc in rw z
+      by-answer (Whole o) h =
+          let d = h .items .decoded in absurd (let z : _≡_ {A = ℕ} 0 1 = cc in omega arith)
+
+  pub must-accept : {x : Sheet} {m : ℕ} → Answers s p r b i → p ≡ got x m → (o : Outline) × (r ≡ Whole o)
+  must-accept {x} {m} a q = by-answer r (a .says)
+    where
+      by-answer : (u : Decoded) → saysOf (λ o. Tables s p o b i) p u → (o : Outline) × (u ≡ Whole o)
+      by-answer (Refused f) h = absurd (let z : _≡_ {A = ℕ} 0 1 = cc in omega arith)
+      by-answer (Whole o) h = (o, refl)
+
+-- a sheet that is decoded is not too long
+pub decoded-limited : (s : List ℕ) {x : Sheet} {m : ℕ} → decode s ≡ got x m → Limited s
+unfolding decode
+decoded-limited s {x} {m} e = by-test (leb (length s) 32768) refl e
+  where
+    by-test : (t : Bool) → leb (length s) 32768 ≡ t → pick t (sheet s 0) (fault CutSheet) ≡ got x m → Limited s
+    by-test true h e = leb-true (length s) 32768 h
+    by-test false h e = absurd (let z : _≡_ {A = ℕ} 0 1 = cc in omega arith)
+
+-- a name that is fetched from where the table says
+pub fetched : {s : List ℕ} {p : Got Sheet} {o : Outline} {b i : List ℕ} (t : Tables s p o b i) (j : ℕ) → j < o .names →
+    {n : ℕ} {buf : List ℕ} → Fetched (name s (getD b j 0)) n buf → take n buf ≡ getD (t .names) j []
+fetched t j h f = f .chars _ _ (t .table .each j [] h .1)

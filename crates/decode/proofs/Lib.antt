@@ -1,0 +1,2 @@
+mod SheetLaws
+pub mod AnswerLaws

@@ -1,0 +1,129 @@
+-- Laws of the sheet's end, of both tables, and of the answer to a sheet.
+use mathlib.Core.Path.{_≡_, refl, sym, _∙_}
+use mathlib.Core.List.{List}
+use mathlib.Core.Bool.{Bool, true, false, _&&_}
+use Prim.Native.Nat.{ℕ, _+_, _-_, _*_, _/_, _%_}
+use native.Mathlib.Omega.{arith}
+use lib.ListN.{length}
+use lib.Dec.{eqb}
+use borrow.Author.Tests.{eq-eqb, ne-eqb}
+use Rattle.refusal.specs.declared.Refusal.{Refusal}
+use Rattle.refusal.specs.declared.Refusal.the-variants.{CutSheet, Tail}
+use Rattle.format.specs.Decode.{Got, fault, got, pick, after, many}
+use Rattle.format.specs.Bits.{bits}
+use Rattle.format.specs.Sheet.{Name, Sheet}
+use Rattle.format.specs.Decoding.{name, item, nameTable, itemTable, tail}
+use Rattle.cursor.specs.declared.Cursor.{Cursor}
+use Rattle.cursor.specs.declared.Step.{Step}
+use Rattle.cursor.specs.declared.Step.the-variants.{At, Fault}
+use Rattle.cursor.specs.Checking.{Checks, placed, Fills}
+use Rattle.cursor.proofs.FieldLaws.{field-lt}
+use Rattle.cursor.proofs.CheckLaws.{stepped, stopped}
+use Rattle.cursor.proofs.TableLaws.{fills-checks, placed-checks, Located, located}
+use Rattle.items.specs.Parts.{ForNames}
+use Rattle.decode.specs.declared.Decoded.{Decoded}
+use Rattle.decode.specs.declared.Decoded.the-variants.{Whole, Refused}
+use Rattle.decode.specs.Tables.{behindNames, behindBits, AnswersItems, Answers}
+
+-- ---- the end of the sheet
+
+module _ (s : List ℕ) (at : ℕ) {n : ℕ} where
+  pub at-end : n ≡ at + (8 - at % 8) % 8 → n / 8 ≡ length s → eqb n (8 * length s) ≡ true
+  at-end e h = eq-eqb n (8 * length s) (omega arith)
+
+  pub past-end : n ≡ at + (8 - at % 8) % 8 → (n / 8 ≡ length s → ⊥) → eqb n (8 * length s) ≡ false
+  past-end e h = ne-eqb n (8 * length s) (λ z. h (omega arith))
+
+-- the tail keeps the value
+tail-keeps : {A : Type 0} (x : A) (s : List ℕ) (at : ℕ) {y : A} {m : ℕ} → tail x s at ≡ got y m → tail x s at ≡ got x m
+unfolding tail
+tail-keeps {A} x s at {y} {m} e = by-field (bits ((8 - at % 8) % 8) s at) e
+  where
+    by-test : (b : Bool) (n : ℕ) → pick b (got x n) (fault Tail) ≡ got y m → pick b (got x n) (fault Tail) ≡ got x m
+    by-test true n e = let z : n ≡ m = cc in rw z
+    by-test false n e = absurd (let z : _≡_ {A = ℕ} 0 1 = cc in omega arith)
+
+    by-field : (p : Got ℕ) →
+        after p (λ z n. pick (eqb z 0 && eqb n (8 * length s)) (got x n) (fault Tail)) ≡ got y m →
+        after p (λ z n. pick (eqb z 0 && eqb n (8 * length s)) (got x n) (fault Tail)) ≡ got x m
+    by-field (fault f) e = absurd (let z : _≡_ {A = ℕ} 0 1 = cc in omega arith)
+    by-field (got z n) e = by-test (eqb z 0 && eqb n (8 * length s)) n e
+
+-- ---- the item table
+
+module _ (s : List ℕ) (h d : Bool) (names : List Name) (at : ℕ) {b : List ℕ} where
+  pub items-cut : bits 8 s at ≡ fault CutSheet →
+      AnswersItems s names (behindNames h d names s at) (Refused CutSheet) b
+  unfolding behindNames itemTable
+  items-cut e = record { says = rw e }
+
+  module _ {k m : ℕ} (q : bits 8 s at ≡ got k m) {r : Step} (f : Fills (many k (placed (item names k)) s m) r k b) where
+    pub items-fault : {e : Refusal} → r ≡ Fault e → AnswersItems s names (behindNames h d names s at) (Refused e) b
+    unfolding behindNames itemTable
+    items-fault t =
+        record { says = rw (q, stopped (placed-checks (item names k) k s m (fills-checks f)) t) }
+
+    module _ {c : Cursor} (t : r ≡ At c) {u : Step} (g : (x : Sheet) → Checks (tail x s (c .at)) u) where
+      pub tail-fault : {e : Refusal} → u ≡ Fault e → AnswersItems s names (behindNames h d names s at) (Refused e) b
+      unfolding behindNames itemTable
+      tail-fault w =
+          let l = located (item names k) s k m f t in
+          record { says = rw (q, l .decoded, stopped (g (record { header = h; doxygen = d; items = l .values })) w) }
+
+      pub items-whole : {n : ℕ} {c′ : Cursor} → length names ≡ n → u ≡ At c′ →
+          AnswersItems s names (behindNames h d names s at)
+          (Whole (record { header = h; doxygen = d; names = n; items = k })) b
+      unfolding behindNames itemTable
+      items-whole {n} {c′} e w =
+          let l = located (item names k) s k m f t in
+          let x : Sheet = record { header = h; doxygen = d; items = l .values } in
+          record {
+            says = record {
+              sheet = x;
+              end = c′ .at;
+              decoded = rw (q, l .decoded) (tail-keeps x s (c .at) (stepped (g x) w .1));
+              header = refl;
+              doxygen = refl;
+              named = sym e;
+              few = omega (arith, field-lt 8 s at q);
+              table = l .table;
+            };
+          }
+
+-- ---- both tables
+
+behind-is : (s : List ℕ) (h d : Bool) (at : ℕ) {n m k : ℕ} {ns : List Name} → bits 10 s at ≡ got n m →
+    many n name s m ≡ got ns k → behindBits h d s at ≡ behindNames h d ns s k
+unfolding behindBits nameTable
+behind-is s h d at q e = rw (q, e)
+
+module _ (s : List ℕ) (h d : Bool) (at : ℕ) {b i : List ℕ} where
+  pub tables-cut : bits 10 s at ≡ fault CutSheet → Answers s (behindBits h d s at) (Refused CutSheet) b i
+  unfolding behindBits nameTable
+  tables-cut e = record { says = rw e }
+
+  module _ {n m : ℕ} (q : bits 10 s at ≡ got n m) {r : Step} (f : Fills (many n (placed name) s m) r n b) where
+    pub tables-fault : {e : Refusal} → r ≡ Fault e → Answers s (behindBits h d s at) (Refused e) b i
+    unfolding behindBits nameTable
+    tables-fault t = record { says = rw (q, stopped (placed-checks name n s m (fills-checks f)) t) }
+
+    pub tables-rest : {c : Cursor} {u : Decoded} → r ≡ At c →
+        ForNames n (λ ns. AnswersItems s ns (behindNames h d ns s (c .at)) u i) →
+        Answers s (behindBits h d s at) u b i
+    tables-rest {c} {u} t g =
+        let l = located name s n m f t in
+        by-answer u l (g (l .values) (l .table .count))
+      where
+        by-answer : (u : Decoded) (l : Located name s n m b (c .at)) →
+            AnswersItems s (l .values) (behindNames h d (l .values) s (c .at)) u i → Answers s (behindBits h d s at) u b i
+        by-answer (Refused e) l a = record { says = behind-is s h d at q (l .decoded) ∙ a .says }
+        by-answer (Whole o) l a =
+            let z : n ≡ o .names = sym (l .table .count) ∙ sym (a .says .named) in
+            record {
+              says = record {
+                names = l .values;
+                few = omega (arith, field-lt 10 s at q);
+                table = rw z at (l .table);
+                items = rw (behind-is s h d at q (l .decoded)) (a .says);
+              };
+            }

@@ -1,0 +1,52 @@
+-- What is promised of a decoded sheet: its value, and where its names and its items stand.
+use mathlib.Core.Path.{_≡_}
+use mathlib.Core.List.{List}
+use mathlib.Core.Bool.{Bool}
+use Prim.Native.Nat.{ℕ, _≤_}
+use lib.ListN.{length}
+use Rattle.format.specs.Decode.{Got, fault, got, Dec, _>>_}
+use Rattle.format.specs.Sheet.{Name, Sheet}
+use Rattle.format.specs.Decoding.{name, item, nameTable, itemTable, tail}
+use Rattle.cursor.specs.Checking.{Table}
+use Rattle.decode.specs.declared.Outline.{Outline}
+use Rattle.decode.specs.declared.Decoded.{Decoded}
+use Rattle.decode.specs.declared.Decoded.the-variants.{Whole, Refused}
+
+-- what stands behind the name table, in a sheet with the header bit h and the Doxygen bit d
+unfoldable pub behindNames : Bool → Bool → List Name → Dec Sheet
+behindNames h d names = itemTable names >> λ is. tail (record { header = h; doxygen = d; items = is })
+
+-- what stands behind both bits
+unfoldable pub behindBits : Bool → Bool → Dec Sheet
+behindBits h d = nameTable >> λ names. behindNames h d names
+
+-- the decoder's p is a sheet, its items read with these names, and offsets tells where each item stands
+pub record Items (s : List ℕ) (names : List Name) (p : Got Sheet) (o : Outline) (offsets : List ℕ) : Type 0 where
+  pub sheet : Sheet
+  pub end : ℕ
+  pub decoded : p ≡ got sheet end
+  pub header : o .header ≡ sheet .header
+  pub doxygen : o .doxygen ≡ sheet .doxygen
+  pub named : o .names ≡ length names
+  pub few : o .items ≤ 255
+  pub table : Table (item names (o .items)) s (o .items) offsets (sheet .items)
+
+-- and nameOffsets tells where each of the names stands
+pub record Tables (s : List ℕ) (p : Got Sheet) (o : Outline) (nameOffsets itemOffsets : List ℕ) : Type 0 where
+  pub names : List Name
+  pub few : o .names ≤ 1023
+  pub table : Table name s (o .names) nameOffsets names
+  pub items : Items s names p o itemOffsets
+
+-- what an answer says of the decoder's p, where a decoded sheet is to be as P says
+abbrev pub saysOf : (Outline → Type 0) → Got Sheet → Decoded → Type 0
+saysOf P p (Whole o) = P o
+saysOf P p (Refused e) = p ≡ fault e
+
+-- the answer to what stands behind the names
+pub record AnswersItems (s : List ℕ) (names : List Name) (p : Got Sheet) (r : Decoded) (offsets : List ℕ) : Type 0 where
+  pub says : saysOf (λ o. Items s names p o offsets) p r
+
+-- the answer to a sheet: its refusal, or where the names and the items of the decoded sheet stand
+pub record Answers (s : List ℕ) (p : Got Sheet) (r : Decoded) (nameOffsets itemOffsets : List ℕ) : Type 0 where
+  pub says : saysOf (λ o. Tables s p o nameOffsets itemOffsets) p r

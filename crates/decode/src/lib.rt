@@ -1,0 +1,165 @@
+// A sheet, checked for the refusals 1 to 8, with tables of where its names and its items stand.
+use cursor::Cursor;
+use cursor::Field;
+use cursor::Step;
+use cursor::read;
+use items::check_items;
+use names::check_names;
+use refusal::Refusal;
+ghost use Prim.Native.Nat.{_≤_};
+ghost use lib.ListN.{length};
+ghost use Rattle.format.specs.Sheet.{Sheet};
+ghost use Rattle.format.specs.Decoding.{tail, sheet as sheetOf, decode as decodeOf};
+ghost use Rattle.cursor.specs.Checking.{Limited, Checks};
+ghost use Rattle.items.specs.Parts.{ForNames};
+ghost use Rattle.decode.specs.Tables.{behindNames, behindBits, AnswersItems, Answers};
+
+// What a decoded sheet begins with, and how much it has.
+pub struct Outline {
+    pub header: bool,
+    pub doxygen: bool,
+    pub names: u32,
+    pub items: u32,
+}
+
+impl Outline {
+    // The most names of a sheet.
+    pub const NAMES: usize = 1023;
+    // The most items of a sheet.
+    pub const ITEMS: usize = 255;
+}
+
+// The answer to a sheet.
+pub enum Decoded {
+    Whole(Outline),
+    Refused(Refusal),
+}
+
+// Zero bits up to the byte's end, and no byte more.
+fn check_tail(s: &[u8], c: Cursor) -> Step
+    requires { ⌜ Limited (now s) ⌝ }
+    ensures { λ r. ⌜ ((x : Sheet) → Checks (tail x (now (s .entry)) (c .at)) r) ⌝ }
+{
+    let pad = (8 - c.at % 8) % 8;
+    let f = read(s, c, pad);
+    match f {
+        Field::Cut => Step::Fault(Refusal::CutSheet),
+        Field::Value(z, end) => {
+            if z != 0 {
+                return Step::Fault(Refusal::Tail);
+            }
+            let bytes = (end.at / 8) as usize;
+            if bytes == s.len() {
+                return Step::At(end);
+            }
+            Step::Fault(Refusal::Tail)
+        }
+    }
+}
+
+// The item table and the tail at c, behind so many names.
+fn decode_items(
+    s: &[u8],
+    c: Cursor,
+    header: bool,
+    doxygen: bool,
+    n: u32,
+    items: &mut [u32],
+) -> Decoded
+    requires { ⌜ Limited (now s) × (255 ≤ length (now items)) ⌝ }
+    ensures { λ r. ⌜ ForNames n (λ ns.
+        AnswersItems (now (s .entry)) ns (behindNames header doxygen ns (now (s .entry)) (c .at)) r
+        (now (items .exit))) ⌝ }
+{
+    let f = read(s, c, 8);
+    match f {
+        Field::Cut => Decoded::Refused(Refusal::CutSheet),
+        Field::Value(k, first) => {
+            let a = check_items(s, first, n, k, items);
+            match a {
+                Step::Fault(e) => Decoded::Refused(e),
+                Step::At(c1) => {
+                    let b = check_tail(s, c1);
+                    match b {
+                        Step::Fault(e) => Decoded::Refused(e),
+                        Step::At(_) => Decoded::Whole(Outline {
+                            header,
+                            doxygen,
+                            names: n,
+                            items: k,
+                        }),
+                    }
+                }
+            }
+        }
+    }
+}
+
+// Both tables and the tail at c.
+fn decode_tables(
+    s: &[u8],
+    c: Cursor,
+    header: bool,
+    doxygen: bool,
+    names: &mut [u32],
+    items: &mut [u32],
+) -> Decoded
+    requires { ⌜ Limited (now s) × (1023 ≤ length (now names)) × (255 ≤ length (now items)) ⌝ }
+    ensures { λ r. ⌜ Answers (now (s .entry)) (behindBits header doxygen (now (s .entry)) (c .at)) r
+        (now (names .exit)) (now (items .exit)) ⌝ }
+{
+    let f = read(s, c, 10);
+    match f {
+        Field::Cut => Decoded::Refused(Refusal::CutSheet),
+        Field::Value(n, first) => {
+            let a = check_names(s, first, n, names);
+            match a {
+                Step::Fault(e) => Decoded::Refused(e),
+                Step::At(c1) => decode_items(s, c1, header, doxygen, n, items),
+            }
+        }
+    }
+}
+
+// The sheet at c.
+fn decode_fields(s: &[u8], c: Cursor, names: &mut [u32], items: &mut [u32]) -> Decoded
+    requires { ⌜ Limited (now s) × (1023 ≤ length (now names)) × (255 ≤ length (now items)) ⌝ }
+    ensures { λ r. ⌜ Answers (now (s .entry)) (sheetOf (now (s .entry)) (c .at)) r
+        (now (names .exit)) (now (items .exit)) ⌝ }
+{
+    let f = read(s, c, 4);
+    match f {
+        Field::Cut => Decoded::Refused(Refusal::CutSheet),
+        Field::Value(e, c1) => {
+            if e != 1 {
+                return Decoded::Refused(Refusal::Edition);
+            }
+            let g = read(s, c1, 1);
+            match g {
+                Field::Cut => Decoded::Refused(Refusal::CutSheet),
+                Field::Value(h, c2) => {
+                    let k = read(s, c2, 1);
+                    match k {
+                        Field::Cut => Decoded::Refused(Refusal::CutSheet),
+                        Field::Value(d, c3) => decode_tables(s, c3, h == 1, d == 1, names, items),
+                    }
+                }
+            }
+        }
+    }
+}
+
+// A sheet: the first refusal of 1 to 8, or both tables filled.
+pub fn decode(
+    sheet: &[u8],
+    names: &mut [u32; Outline::NAMES],
+    items: &mut [u32; Outline::ITEMS],
+) -> Decoded
+    ensures { λ r. ⌜ Answers (now (sheet .entry)) (decodeOf (now (sheet .entry))) r
+        (now (names .exit)) (now (items .exit)) ⌝ }
+{
+    if Cursor::SHEET < sheet.len() {
+        return Decoded::Refused(Refusal::CutSheet);
+    }
+    decode_fields(sheet, Cursor::new(0), names, items)
+}

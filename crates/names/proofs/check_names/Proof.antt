@@ -1,0 +1,80 @@
+use borrow.Author.Needs.{needs}
+use native.Mathlib.Omega.{arith}
+use mathlib.Core.Path.{_≡_, refl}
+use Prim.Native.Nat.{_-_, _≤_}
+use lib.ListN.{length, length-set}
+use Rattle.cursor.specs.Checking.{placed}
+use Rattle.cursor.proofs.CheckLaws.{stepped, stopped}
+use Rattle.cursor.proofs.TableLaws.{placed-got, placed-fault, Filling, fill-none, fill-turn, fill-stop, fill-done}
+use Rattle.format.specs.Decoding.{name}
+use Rattle.names.proofs.check_names.Statement.{statement}
+use Rattle.names.proofs.check_names.Tie as tie
+
+abbrev Inv-loop : tie.InvT-loop
+Inv-loop s n offsets₀ next₀ i₀ offsets next i = (i ≤ n) × (length offsets ≡ length offsets₀) × Filling (placed name) s n (next₀ .at) i offsets (next .at)
+
+abbrev μ-loop : tie.MeasureT-loop
+μ-loop s n offsets₀ next₀ i₀ offsets next i = n - i
+
+loop-holds : tie.Need-loop-holds Inv-loop μ-loop
+loop-holds c = (omega arith, refl, fill-none _ _ _ _ _)
+
+check-name-requires : tie.Need-check-name-requires Inv-loop μ-loop
+check-name-requires c κs = search needs
+
+enum-known-r : tie.Need-enum-known-r Inv-loop μ-loop
+enum-known-r c = search needs
+
+cast-k : tie.Need-cast-k Inv-loop μ-loop
+cast-k c = search needs
+
+mul-offsets : tie.Need-mul-offsets Inv-loop μ-loop
+mul-offsets c = omega (arith, c .before .before .before .before .before .before .before .before .good .1 .1)
+
+slice-write-offsets : tie.Need-slice-write-offsets Inv-loop μ-loop
+slice-write-offsets c = omega arith
+
+enum-known-r-2 : tie.Need-enum-known-r-2 Inv-loop μ-loop
+enum-known-r-2 c = search needs
+
+same-length : tie.Need-same-length Inv-loop μ-loop
+same-length c = search needs
+
+returns : tie.Need-returns Inv-loop μ-loop
+returns c = fill-stop (placed name) _ _ _ (c .before .before .before .before .before .loop .inv .2) (c .before .before .before .before .loop-test .taken) (placed-fault name (stopped (c .before .before .before .check-name .ensures) (c .before .r2 .given .1)))
+
+add-i : tie.Need-add-i Inv-loop μ-loop
+add-i c = omega arith
+
+loop-less : tie.Need-loop-less Inv-loop μ-loop
+loop-less c = omega arith
+
+loop-again : tie.Need-loop-again Inv-loop μ-loop
+loop-again c = (omega arith, simp length-set (omega arith), fill-turn (placed name) _ _ _ (c .before .before .before .before .before .loop .inv .2) (c .before .before .before .before .loop-test .taken) (omega arith) (placed-got name (stepped (c .before .before .before .check-name .ensures) (c .before .r .given .1) .1)))
+
+same-length-2 : tie.Need-same-length-2 Inv-loop μ-loop
+same-length-2 c = search needs
+
+returns-2 : tie.Need-returns-2 Inv-loop μ-loop
+returns-2 c = fill-done (placed name) _ _ _ (c .before .loop .inv .2) (omega arith) (omega arith)
+
+pub check-names-spec : {M : Type 1} → statement M
+check-names-spec =
+    tie.close
+    (tie.spec
+    Inv-loop
+    μ-loop
+    loop-holds
+    check-name-requires
+    enum-known-r
+    cast-k
+    mul-offsets
+    slice-write-offsets
+    enum-known-r-2
+    same-length
+    returns
+    add-i
+    loop-less
+    loop-again
+    same-length-2
+    returns-2)

@@ -1,0 +1,75 @@
+use borrow.Author.Needs.{needs}
+use native.Mathlib.Omega.{arith}
+use mathlib.Core.Path.{_≡_, refl, sym, ap, _∙_}
+use Prim.Native.Nat.{ℕ, _+_, _-_, _≤_}
+use lib.ListN.{length, drop}
+use Rattle.lexical.specs.Bytes.{member}
+use Rattle.names.specs.Words.{wordsOf, total}
+use Rattle.names.proofs.WordLaws.{words-turn, words-yes, words-end, total-step, word-is}
+use Rattle.names.proofs.listed.Statement.{statement}
+use Rattle.names.proofs.listed.Tie as tie
+
+abbrev Inv-loop : tie.InvT-loop
+Inv-loop lengths bytes w at₀ i₀ at i = (i ≤ length lengths) × (at + total (drop i lengths) ≤ length bytes) × (member w (wordsOf lengths bytes) ≡ member w (wordsOf (drop i lengths) (drop at bytes)))
+
+abbrev μ-loop : tie.MeasureT-loop
+μ-loop lengths bytes w at₀ i₀ at i = length lengths - i
+
+loop-holds : tie.Need-loop-holds Inv-loop μ-loop
+loop-holds c = (omega arith, omega (arith, c .before .before .before .pre), refl)
+
+shared-slice-read-wide : tie.Need-shared-slice-read-wide Inv-loop μ-loop
+shared-slice-read-wide c = omega arith
+
+wide-requires : tie.Need-wide-requires Inv-loop μ-loop
+wide-requires c κs = search needs
+
+add-end : tie.Need-add-end Inv-loop μ-loop
+add-end c = omega (arith, total-step (c .before .before .before .before .before .before .before .args .lengths .now) (c .before .before .before .loop .i) (c .before .before .loop-test .taken), c .wide .ensures)
+
+sub-equal : tie.Need-sub-equal Inv-loop μ-loop
+sub-equal c = omega arith
+
+part-equal-start : tie.Need-part-equal-start Inv-loop μ-loop
+part-equal-start c = omega arith
+
+part-equal-end : tie.Need-part-equal-end Inv-loop μ-loop
+part-equal-end c = omega (arith, total-step (c .before .before .before .before .before .before .before .args .lengths .now) (c .before .before .before .loop .i) (c .before .before .loop-test .taken), c .wide .ensures)
+
+equal-requires : tie.Need-equal-requires Inv-loop μ-loop
+equal-requires c κs = search needs
+
+returns : tie.Need-returns Inv-loop μ-loop
+returns c = sym (c .before .before .before .before .before .before .loop .inv .2 ∙ words-yes (c .before .before .before .before .before .before .before .before .before .before .args .w .now) (c .before .before .before .before .before .before .before .before .before .before .args .lengths .now) (c .before .before .before .before .before .before .before .before .before .before .args .bytes .now) (c .before .before .before .before .before .before .loop .i) (c .before .before .before .before .before .before .loop .at) (c .before .before .before .before .before .loop-test .taken) (word-is (c .before .before .before .before .before .before .before .before .before .before .args .w .now) (c .before .before .before .before .before .before .before .before .before .before .args .bytes .now) (c .before .before .before .before .before .before .loop .at) (c .before .before .before .wide .ensures) (c .before .equal .ensures) (c .if1 .taken)))
+
+add-i : tie.Need-add-i Inv-loop μ-loop
+add-i c = omega arith
+
+loop-less : tie.Need-loop-less Inv-loop μ-loop
+loop-less c = omega arith
+
+loop-again : tie.Need-loop-again Inv-loop μ-loop
+loop-again c = (omega arith, omega (arith, total-step (c .before .before .before .before .before .before .before .before .before .before .args .lengths .now) (c .before .before .before .before .before .before .loop .i) (c .before .before .before .before .before .loop-test .taken), c .before .before .before .wide .ensures), c .before .before .before .before .before .before .loop .inv .2 ∙ words-turn (c .before .before .before .before .before .before .before .before .before .before .args .w .now) (c .before .before .before .before .before .before .before .before .before .before .args .lengths .now) (c .before .before .before .before .before .before .before .before .before .before .args .bytes .now) (c .before .before .before .before .before .before .loop .i) (c .before .before .before .before .before .before .loop .at) (c .before .before .before .before .before .loop-test .taken) (word-is (c .before .before .before .before .before .before .before .before .before .before .args .w .now) (c .before .before .before .before .before .before .before .before .before .before .args .bytes .now) (c .before .before .before .before .before .before .loop .at) (c .before .before .before .wide .ensures) (c .before .equal .ensures) (c .if1 .left)) ∙ ap (λ (k : ℕ). member (c .before .before .before .before .before .before .before .before .before .before .args .w .now) (wordsOf (drop (c .before .before .before .before .before .before .loop .i + 1) (c .before .before .before .before .before .before .before .before .before .before .args .lengths .now)) (drop (c .before .before .before .before .before .before .loop .at + k) (c .before .before .before .before .before .before .before .before .before .before .args .bytes .now)))) (sym (c .before .before .before .wide .ensures)))
+
+returns-2 : tie.Need-returns-2 Inv-loop μ-loop
+returns-2 c = sym (c .before .loop .inv .2 ∙ words-end (c .before .before .before .before .before .args .w .now) (c .before .before .before .before .before .args .lengths .now) (c .before .before .before .before .before .args .bytes .now) (c .before .loop .i) (c .before .loop .at) (c .loop-test .left))
+
+pub listed-spec : {M : Type 1} → statement M
+listed-spec =
+    tie.close
+    (tie.spec
+    Inv-loop
+    μ-loop
+    loop-holds
+    shared-slice-read-wide
+    wide-requires
+    add-end
+    sub-equal
+    part-equal-start
+    part-equal-end
+    equal-requires
+    returns
+    add-i
+    loop-less
+    loop-again
+    returns-2)

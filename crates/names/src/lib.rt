@@ -1,0 +1,183 @@
+// The names of a sheet: the name rule, the table of their positions, and access to a name by its position.
+use cursor::Cursor;
+use cursor::Field;
+use cursor::Step;
+use refusal::Refusal;
+use text::equal;
+use text::in_range;
+use text::read_text;
+ghost use mathlib.Core.Path.{_≡_};
+ghost use Prim.Native.Nat.{_≤_};
+ghost use lib.ListN.{length};
+ghost use Rattle.lexical.specs.Bytes.{every, member};
+ghost use Rattle.lexical.specs.Names.{letter, nameStart, nameChar, reserved, isName};
+ghost use Rattle.format.specs.Decode.{many};
+ghost use Rattle.format.specs.Decoding.{name};
+ghost use Rattle.cursor.specs.Checking.{Limited, Checks, placed, Fills};
+ghost use Rattle.names.specs.Words.{wordsOf, total};
+ghost use Rattle.names.specs.Fetching.{Fetched};
+
+mod keywords;
+
+// A name whose characters stand in the front of a buffer: how many there are.
+pub struct Name {
+    pub length: usize,
+}
+
+impl Name {
+    // The characters of the longest name.
+    pub const LONGEST: usize = 63;
+}
+
+fn is_letter(c: u8) -> bool
+    ensures { λ r. ⌜ r ≡ letter c ⌝ }
+{
+    let lower = in_range(97, 122, c);
+    if lower {
+        return true;
+    }
+    in_range(65, 90, c)
+}
+
+fn is_name_start(c: u8) -> bool
+    ensures { λ r. ⌜ r ≡ nameStart c ⌝ }
+{
+    let letter = is_letter(c);
+    if letter {
+        return true;
+    }
+    c == 95
+}
+
+fn is_name_char(c: u8) -> bool
+    ensures { λ r. ⌜ r ≡ nameChar c ⌝ }
+{
+    let start = is_name_start(c);
+    if start {
+        return true;
+    }
+    in_range(48, 57, c)
+}
+
+fn all_name_chars(w: &[u8]) -> bool
+    ensures { λ r. ⌜ r ≡ every nameChar (now (w .entry)) ⌝ }
+{
+    let mut i: usize = 0;
+    while i < w.len() {
+        let ok = is_name_char(w[i]);
+        if !ok {
+            return false;
+        }
+        i = i + 1;
+    }
+    true
+}
+
+fn wide(b: u8) -> usize
+    ensures { λ r. ⌜ r ≡ b ⌝ }
+{
+    b as usize
+}
+
+// Whether w is a word of a table.
+pub fn listed(lengths: &[u8], bytes: &[u8], w: &[u8]) -> bool
+    requires { ⌜ total (now lengths) ≤ length (now bytes) ⌝ }
+    ensures { λ r. ⌜ r ≡ member (now (w .entry)) (wordsOf (now (lengths .entry)) (now (bytes .entry))) ⌝ }
+{
+    let mut at: usize = 0;
+    let mut i: usize = 0;
+    while i < lengths.len() {
+        let n = wide(lengths[i]);
+        let end = at + n;
+        let found = equal(w, &bytes[at..end]);
+        if found {
+            return true;
+        }
+        at = end;
+        i = i + 1;
+    }
+    false
+}
+
+// Whether w is a keyword or an alternative token.
+fn is_reserved(w: &[u8]) -> bool
+    ensures { λ r. ⌜ r ≡ member (now (w .entry)) reserved ⌝ }
+{
+    listed(&keywords::LENGTHS, &keywords::BYTES, w)
+}
+
+// The name rule.
+fn is_name(w: &[u8]) -> bool
+    ensures { λ r. ⌜ r ≡ isName (now (w .entry)) ⌝ }
+{
+    if w.len() == 0 {
+        return false;
+    }
+    let first = is_name_start(w[0]);
+    if !first {
+        return false;
+    }
+    let all = all_name_chars(w);
+    if !all {
+        return false;
+    }
+    let word = is_reserved(w);
+    !word
+}
+
+// Past the name at c.
+fn check_name(s: &[u8], c: Cursor) -> Step
+    requires { ⌜ Limited (now s) ⌝ }
+    ensures { λ r. ⌜ Checks (name (now (s .entry)) (c .at)) r ⌝ }
+{
+    let mut buf = [0u8; Name::LONGEST];
+    let f = read_text(s, c, 6, &mut buf);
+    match f {
+        Field::Cut => Step::Fault(Refusal::CutSheet),
+        Field::Value(n, next) => {
+            let k = n as usize;
+            let good = is_name(&buf[..k]);
+            if good {
+                return Step::At(next);
+            }
+            Step::Fault(Refusal::BadName)
+        }
+    }
+}
+
+// Past n names, with the position of each in offsets.
+pub fn check_names(s: &[u8], c: Cursor, n: u32, offsets: &mut [u32]) -> Step
+    requires { ⌜ Limited (now s) × (n ≤ length (now offsets)) ⌝ }
+    ensures { λ r. ⌜ Fills (many n (placed name) (now (s .entry)) (c .at)) r n (now (offsets .exit)) ⌝ }
+{
+    let mut next = c;
+    let mut i: u32 = 0;
+    while i < n {
+        let r = check_name(s, next);
+        match r {
+            Step::At(p) => {
+                let k = i as usize;
+                let here = next.at;
+                offsets[k] = here;
+                next = p;
+            }
+            Step::Fault(e) => {
+                return Step::Fault(e);
+            }
+        }
+        i = i + 1;
+    }
+    Step::At(next)
+}
+
+// The name at a position, into the front of buf.
+pub fn fetch(s: &[u8], at: u32, buf: &mut [u8]) -> Name
+    requires { ⌜ Limited (now s) × (63 ≤ length (now buf)) ⌝ }
+    ensures { λ r. ⌜ Fetched (name (now (s .entry)) at) (r .length) (now (buf .exit)) ⌝ }
+{
+    let f = read_text(s, Cursor::new(at), 6, buf);
+    match f {
+        Field::Cut => Name { length: 0 },
+        Field::Value(n, _) => Name { length: n as usize },
+    }
+}

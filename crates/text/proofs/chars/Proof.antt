@@ -1,0 +1,79 @@
+use borrow.Author.Needs.{needs}
+use native.Mathlib.Omega.{arith}
+use mathlib.Core.Path.{_≡_, refl}
+use Prim.Native.Nat.{_-_, _≤_}
+use lib.ListN.{length, length-set}
+use Rattle.format.specs.Bits.{bits}
+use Rattle.cursor.proofs.FieldLaws.{value, cut, field-lt}
+use Rattle.cursor.proofs.TableLaws.{Filling, fill-none, fill-turn, fill-stop, fill-done}
+use Rattle.text.proofs.chars.Statement.{statement}
+use Rattle.text.proofs.chars.Tie as tie
+
+abbrev Inv-loop : tie.InvT-loop
+Inv-loop s n buf₀ next₀ i₀ buf next i = (i ≤ n) × (length buf ≡ length buf₀) × Filling (bits 7) s n (next₀ .at) i buf (next .at)
+
+abbrev μ-loop : tie.MeasureT-loop
+μ-loop s n buf₀ next₀ i₀ buf next i = n - i
+
+loop-holds : tie.Need-loop-holds Inv-loop μ-loop
+loop-holds c = (omega arith, refl, fill-none _ _ _ _ _)
+
+read-requires : tie.Need-read-requires Inv-loop μ-loop
+read-requires c κs = search needs
+
+enum-known-f : tie.Need-enum-known-f Inv-loop μ-loop
+enum-known-f c = search needs
+
+cast-b : tie.Need-cast-b Inv-loop μ-loop
+cast-b c = omega (arith, field-lt 7 _ _ (value (c .before .before .before .read .ensures) (c .before .f .given .1)))
+
+cast-k : tie.Need-cast-k Inv-loop μ-loop
+cast-k c = search needs
+
+slice-write-buf : tie.Need-slice-write-buf Inv-loop μ-loop
+slice-write-buf c = omega arith
+
+enum-told : tie.Need-enum-told Inv-loop μ-loop
+enum-told c = search needs
+
+same-length : tie.Need-same-length Inv-loop μ-loop
+same-length c = search needs
+
+returns : tie.Need-returns Inv-loop μ-loop
+returns c = fill-stop (bits 7) _ _ _ (c .before .before .before .before .loop .inv .2) (c .before .before .before .loop-test .taken) (cut _ _ _ (c .before .before .read .ensures) (c .enum-told .given .1))
+
+add-i : tie.Need-add-i Inv-loop μ-loop
+add-i c = omega arith
+
+loop-less : tie.Need-loop-less Inv-loop μ-loop
+loop-less c = omega arith
+
+loop-again : tie.Need-loop-again Inv-loop μ-loop
+loop-again c = (omega arith, simp length-set (omega arith), fill-turn (bits 7) _ _ _ (c .before .before .before .before .before .loop .inv .2) (c .before .before .before .before .loop-test .taken) (omega arith) (value (c .before .before .before .read .ensures) (c .before .f .given .1)))
+
+same-length-2 : tie.Need-same-length-2 Inv-loop μ-loop
+same-length-2 c = search needs
+
+returns-2 : tie.Need-returns-2 Inv-loop μ-loop
+returns-2 c = fill-done (bits 7) _ _ _ (c .before .loop .inv .2) (omega arith) (omega arith)
+
+pub chars-spec : {M : Type 1} → statement M
+chars-spec =
+    tie.close
+    (tie.spec
+    Inv-loop
+    μ-loop
+    loop-holds
+    read-requires
+    enum-known-f
+    cast-b
+    cast-k
+    slice-write-buf
+    enum-told
+    same-length
+    returns
+    add-i
+    loop-less
+    loop-again
+    same-length-2
+    returns-2)
