@@ -1,0 +1,21 @@
+use borrow.Author.Needs.{needs}
+use native.Mathlib.Omega.{arith}
+use Rattle.view.proofs.ValueLaws.{finds-value, finds-none}
+use Rattle.view.proofs.field.Statement.{statement}
+use Rattle.view.proofs.field.Tie as tie
+
+returns : tie.Need-returns
+returns c = finds-value _ _ _ (omega arith) (c .before .before .before .read .ensures) (c .before .f .given .1)
+
+returns-2 : tie.Need-returns-2
+returns-2 c = finds-none _ _ _ (c .before .before .read .ensures) (c .enum-told .given .1)
+
+pub field-spec : {M : Type 1} → statement M
+field-spec =
+    tie.close
+    (tie.spec
+    (λ c κs. search needs)
+    (λ c. search needs)
+    (λ c. search needs)
+    returns
+    returns-2)

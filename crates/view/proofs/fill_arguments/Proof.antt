@@ -1,0 +1,78 @@
+use borrow.Author.Needs.{needs}
+use native.Mathlib.Omega.{arith}
+use mathlib.Core.Path.{_≡_, refl, sym, _∙_}
+use Prim.Native.Nat.{_≤_, _-_}
+use lib.ListN.{length, length-set}
+use Rattle.cursor.proofs.WidthLaws.{width-le}
+use Rattle.view.proofs.ArgumentLaws.{Arguments, arguments-none, arguments-turn, arguments-done}
+use Rattle.view.proofs.fill_arguments.Statement.{statement}
+use Rattle.view.proofs.fill_arguments.Tie as tie
+
+abbrev Inv-loop : tie.InvT-loop
+Inv-loop s names items v offsets₀ w n next₀ i₀ offsets next i = (i ≤ v .arguments) × (length offsets ≡ length offsets₀) × Arguments s names items v i offsets (next .at)
+
+abbrev μ-loop : tie.MeasureT-loop
+μ-loop s names items v offsets₀ w n next₀ i₀ offsets next i = v .arguments - i
+
+cast-width : tie.Need-cast-width Inv-loop μ-loop
+cast-width c = search needs
+
+width-requires : tie.Need-width-requires Inv-loop μ-loop
+width-requires c κs = search needs
+
+cast-n : tie.Need-cast-n Inv-loop μ-loop
+cast-n c = search needs
+
+loop-holds : tie.Need-loop-holds Inv-loop μ-loop
+loop-holds c = (omega arith, refl, arguments-none _ _ _ _ (c .before .before .before .before .before .before .pre .1) _)
+
+cast-k : tie.Need-cast-k Inv-loop μ-loop
+cast-k c = search needs
+
+mul-offsets : tie.Need-mul-offsets Inv-loop μ-loop
+mul-offsets c = search needs
+
+slice-write-offsets : tie.Need-slice-write-offsets Inv-loop μ-loop
+slice-write-offsets c = omega (arith, c .before .before .before .before .before .before .before .before .before .pre .1 .view .few)
+
+field-requires : tie.Need-field-requires Inv-loop μ-loop
+field-requires c κs = (search needs, width-le _ (c .before .before .before .before .width .ensures))
+
+past-type-requires : tie.Need-past-type-requires Inv-loop μ-loop
+past-type-requires c κs = search needs
+
+add-i : tie.Need-add-i Inv-loop μ-loop
+add-i c = omega arith
+
+loop-less : tie.Need-loop-less Inv-loop μ-loop
+loop-less c = omega arith
+
+loop-again : tie.Need-loop-again Inv-loop μ-loop
+loop-again c = (omega arith, simp length-set (omega arith), arguments-turn _ _ _ _ (c .before .before .before .before .before .before .before .before .before .before .before .pre .1) (c .before .before .before .before .loop .next .at) (c .before .before .before .before .loop .inv .2) (c .before .before .if1 .taken) (omega (arith, c .before .before .before .before .before .before .before .before .before .before .before .pre .1 .view .few)) (c .before .before .before .before .before .before .width .ensures) (c .before .field .ensures) (c .past-type .ensures))
+
+same-length : tie.Need-same-length Inv-loop μ-loop
+same-length c = omega arith
+
+returns : tie.Need-returns Inv-loop μ-loop
+returns c = arguments-done _ _ _ _ (c .before .before .before .before .before .before .before .before .before .pre .1) (c .before .before .loop .next) (c .before .before .loop .inv .2) (c .before .before .loop .inv .0) (c .if1 .left)
+
+pub fill-arguments-spec : {M : Type 1} → statement M
+fill-arguments-spec =
+    tie.close
+    (tie.spec
+    Inv-loop
+    μ-loop
+    cast-width
+    width-requires
+    cast-n
+    loop-holds
+    cast-k
+    mul-offsets
+    slice-write-offsets
+    field-requires
+    past-type-requires
+    add-i
+    loop-less
+    loop-again
+    same-length
+    returns)

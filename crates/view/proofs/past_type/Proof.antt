@@ -1,0 +1,20 @@
+use borrow.Author.Needs.{needs}
+use Rattle.view.proofs.ValueLaws.{next-at, next-none}
+use Rattle.view.proofs.past_type.Statement.{statement}
+use Rattle.view.proofs.past_type.Tie as tie
+
+returns : tie.Need-returns
+returns c = next-at (c .before .before .before .check-type .ensures) (c .before .r .given .1)
+
+returns-2 : tie.Need-returns-2
+returns-2 c = next-none (c .before .before .check-type .ensures) (c .enum-told .given .1)
+
+pub past-type-spec : {M : Type 1} → statement M
+past-type-spec =
+    tie.close
+    (tie.spec
+    (λ c κs. search needs)
+    (λ c. search needs)
+    (λ c. search needs)
+    returns
+    returns-2)

@@ -1,0 +1,84 @@
+-- The names, items and types of a decoded sheet, as functions of its bytes and of its two tables of positions.
+use mathlib.Core.Path.{_≡_}
+use mathlib.Core.List.{List, [], map}
+use mathlib.Core.Bool.{false}
+use Prim.Native.Nat.{ℕ, _<_, _≤_}
+use lib.ListN.{length, getD}
+use Rattle.format.specs.Decode.{Got, fault, got}
+use Rattle.format.specs.Types.{Ty, str, none}
+use Rattle.format.specs.Sheet.{Name, free, Argument, Function, Body, struct, enum, cxxType, rustType, function, Item}
+use Rattle.format.specs.Decoding.{name, item, type}
+use Rattle.syntax.specs.Items.{itemAt}
+use Rattle.cursor.specs.Checking.{Limited}
+
+-- ---- what a decoder gives, where it gives anything
+
+abbrev pub valueOr : {A : Type 0} → A → Got A → A
+valueOr z (fault e) = z
+valueOr z (got x n) = x
+
+-- the position behind it
+abbrev pub nextOf : {A : Type 0} → Got A → ℕ
+nextOf (fault e) = 0
+nextOf (got x n) = n
+
+-- the decoder's p is the value x
+pub record Yields {A : Type 0} (p : Got A) (x : A) : Type 0 where
+  pub is : p ≡ got x (nextOf p)
+
+-- ---- values by position
+
+abbrev noFunction : Function
+noFunction = record { rust = []; form = free; throws = false; return = none; arguments = []; comment = [] }
+
+-- the name at a position
+unfoldable pub nameAt : List ℕ → ℕ → Name
+nameAt s at = valueOr [] (name s at)
+
+-- the names of a table of positions
+unfoldable pub namesAt : List ℕ → List ℕ → List Name
+namesAt s names = map (nameAt s) names
+
+-- the item at a position, in a sheet with these two tables
+unfoldable pub oneItemAt : List ℕ → List ℕ → List ℕ → ℕ → Item
+oneItemAt s names items at =
+    valueOr (record { namespace = []; cxx = []; body = cxxType false }) (item (namesAt s names) (length items) s at)
+
+-- the items of the sheet
+unfoldable pub itemsAt : List ℕ → List ℕ → List ℕ → List Item
+itemsAt s names items = map (oneItemAt s names items) items
+
+-- the function of a body that is one
+abbrev pub functionIn : Body → Function
+functionIn (function f) = f
+functionIn (struct p ts) = noFunction
+functionIn (enum p a c) = noFunction
+functionIn (cxxType p) = noFunction
+functionIn (rustType p) = noFunction
+
+-- the function of item i
+unfoldable pub functionAt : List ℕ → List ℕ → List ℕ → ℕ → Function
+functionAt s names items i = functionIn (itemAt (itemsAt s names items) i .body)
+
+-- its argument j
+unfoldable pub argumentAt : List ℕ → List ℕ → List ℕ → ℕ → ℕ → Argument
+argumentAt s names items i j = getD (functionAt s names items i .arguments) j (record { name = []; type = str })
+
+-- the outermost type at a position, in a sheet of n items
+unfoldable pub typeHere : ℕ → List ℕ → ℕ → Ty
+typeHere n s at = valueOr str (type n s at)
+
+-- ---- a decoded sheet
+
+-- at each position of the table stands a name
+pub record Named (s names : List ℕ) : Type 0 where
+  pub limited : Limited s
+  pub few : length names ≤ 1023
+  pub each : (i : ℕ) → i < length names → Yields (name s (getD names i 0)) (nameAt s (getD names i 0))
+
+-- and at each position of the other table the item of that number
+pub record Whole (s names items : List ℕ) : Type 0 where
+  pub named : Named s names
+  pub few : length items ≤ 255
+  pub each : (i : ℕ) → i < length items →
+      Yields (item (namesAt s names) (length items) s (getD items i 0)) (itemAt (itemsAt s names items) i)

@@ -1,0 +1,158 @@
+-- What the readers promise of their views.
+use mathlib.Core.Path.{_≡_}
+use mathlib.Core.List.{List, []}
+use mathlib.Core.Bool.{Bool, true, false}
+use Prim.Native.Nat.{ℕ, _^_, _<_, _≤_}
+use lib.ListN.{length, getD}
+use Rattle.format.specs.Decode.{Got, fault, got, Dec, pick, _>>_, pure, many}
+use Rattle.format.specs.Bits.{bits}
+use Rattle.format.specs.Types.{Ty, atom, named, template, pointer, str, fn, array, Ret, none, gives}
+use Rattle.format.specs.Sheet.{Name, Form, Argument, Function, Body, struct, enum, cxxType, rustType, function, Item}
+use Rattle.format.specs.Decoding.{nameOf, type, line, argument, formOf, itemBody}
+use Rattle.format.specs.declared.TypeKind.{TypeKind}
+use Rattle.format.specs.declared.TypeKind.the-variants as Kind
+use Rattle.format.specs.declared.ItemKind.{ItemKind}
+use Rattle.format.specs.declared.ItemKind.the-variants.{Struct, Enum, CxxType, RustType, RustFunction, Bad}
+use Rattle.syntax.specs.Items.{itemAt}
+use Rattle.syntax.specs.Types.{isIndirectTemplate}
+use Rattle.cursor.specs.Checking.{Table}
+use Rattle.view.specs.declared.Found.{Found}
+use Rattle.view.specs.declared.ItemView.{ItemView}
+use Rattle.view.specs.declared.FormView.{FormView}
+use Rattle.view.specs.declared.FunctionView.{FunctionView}
+use Rattle.view.specs.declared.ArgumentView.{ArgumentView}
+use Rattle.view.specs.Values.{valueOr, nextOf, Yields, nameAt, namesAt, itemsAt, functionAt, argumentAt}
+
+-- a field of n bits that is read as the decoder's p
+pub record Finds (p : Got ℕ) (n : ℕ) (r : Found) : Type 0 where
+  pub value : r .value ≡ valueOr 0 p
+  pub next : r .next .at ≡ nextOf p
+  pub low : r .value < 2 ^ n
+  pub near : r .next .at ≤ 262144
+
+-- what a body's kind is
+abbrev pub kindOfBody : Body → ItemKind
+kindOfBody (struct p ts) = Struct
+kindOfBody (enum p a c) = Enum
+kindOfBody (cxxType p) = CxxType
+kindOfBody (rustType p) = RustType
+kindOfBody (function f) = RustFunction
+
+abbrev pub isFunctionKind : ItemKind → Bool
+isFunctionKind RustFunction = true
+isFunctionKind Struct = false
+isFunctionKind Enum = false
+isFunctionKind CxxType = false
+isFunctionKind RustType = false
+isFunctionKind Bad = false
+
+-- v is a view of the item x, in a sheet of n items
+pub record ViewOf (s names : List ℕ) (n : ℕ) (x : Item) (v : ItemView) : Type 0 where
+  pub kind : v .kind ≡ kindOfBody (x .body)
+  pub depth : v .depth ≡ length (x .namespace)
+  pub spaces : Yields (many (v .depth) (nameOf (namesAt s names)) s (v .spaces .at)) (x .namespace)
+  pub shallow : v .depth ≤ 7
+  pub near : v .spaces .at ≤ 262144
+  pub named : v .name < length names
+  pub cxx : nameAt s (getD names (v .name) 0) ≡ x .cxx
+  pub body : Yields (itemBody (v .kind) (namesAt s names) n s (v .body .at)) (x .body)
+
+-- v is the view of the item of its number
+pub record ItemAt (s names items : List ℕ) (v : ItemView) : Type 0 where
+  pub there : v .number < length items
+  pub view : ViewOf s names (length items) (itemAt (itemsAt s names items) (v .number)) v
+
+-- ---- functions
+
+-- the form x, with m behind it, is r's, in a sheet of n items
+pub record FormOf (x : Form) (m n : ℕ) (r : FormView) : Type 0 where
+  pub form : x ≡ formOf (r .form) (r .owner)
+  pub next : m ≡ r .next .at
+  pub owner : (r .form ≡ 0 → ⊥) → r .owner < n
+
+-- where the decoder's p is a form, it is r's
+pub record Formed (p : Got Form) (n : ℕ) (r : FormView) : Type 0 where
+  pub there : (x : Form) (m : ℕ) → p ≡ got x m → FormOf x m n r
+  pub low : r .form ≤ 3
+
+-- what stands behind a return bit
+abbrev pub returnOf : Bool → Dec Ty → Dec Ret
+returnOf b ty = pick b (ty >> λ t. pure (gives t)) (pure none)
+
+-- what stands behind the arguments
+unfoldable pub commentLines : Dec (List (List ℕ))
+commentLines = bits 5 >> λ c. many c line
+
+-- v is a view of the function f, in a sheet of n items
+pub record FunctionOf (s names : List ℕ) (n : ℕ) (f : Function) (v : FunctionView) : Type 0 where
+  pub named : v .rust < length names
+  pub rust : nameAt s (getD names (v .rust) 0) ≡ f .rust
+  pub form : f .form ≡ formOf (v .form) (v .owner)
+  pub low : v .form ≤ 3
+  pub owner : (v .form ≡ 0 → ⊥) → v .owner < n
+  pub throws : v .throws ≡ f .throws
+  pub result : Yields (returnOf (v .returns) (type n) s (v .result .at)) (f .return)
+  pub few : v .arguments ≤ 31
+  pub arguments : Yields (many (v .arguments) (argument (namesAt s names) n) s (v .first .at)) (f .arguments)
+  pub comment :
+      Yields (commentLines s (nextOf (many (v .arguments) (argument (namesAt s names) n) s (v .first .at)))) (f .comment)
+
+-- v is the view of the function of its number
+pub record FunctionAt (s names items : List ℕ) (v : FunctionView) : Type 0 where
+  pub there : v .number < length items
+  pub body : itemAt (itemsAt s names items) (v .number) .body ≡ function (functionAt s names items (v .number))
+  pub view : FunctionOf s names (length items) (functionAt s names items (v .number)) v
+
+-- at each of the offsets stands an argument of v
+pub record ArgumentsAt (s names items : List ℕ) (v : FunctionView) (offsets : List ℕ) : Type 0 where
+  pub table :
+      Table (argument (namesAt s names) (length items)) s (v .arguments) offsets
+      (functionAt s names items (v .number) .arguments)
+
+-- v is a view of the argument x, in a sheet of n items
+pub record ArgumentOf (s names : List ℕ) (n : ℕ) (x : Argument) (v : ArgumentView) : Type 0 where
+  pub named : v .name < length names
+  pub name : nameAt s (getD names (v .name) 0) ≡ x .name
+  pub of : Yields (type n s (v .of .at)) (x .type)
+
+-- ---- types
+
+abbrev pub kindOfType : Ty → TypeKind
+kindOfType (atom a) = Kind.Atom
+kindOfType (named i) = Kind.Named
+kindOfType (template k t) = Kind.Template k
+kindOfType (pointer k m t) = Kind.Pointer k
+kindOfType str = Kind.Str
+kindOfType (fn r ts) = Kind.Fn
+kindOfType (array t n) = Kind.Array
+
+abbrev pub isAtomKind : TypeKind → Bool
+isAtomKind Kind.Atom = true
+isAtomKind Kind.Named = false
+isAtomKind (Kind.Template k) = false
+isAtomKind (Kind.Pointer k) = false
+isAtomKind Kind.Str = false
+isAtomKind Kind.Fn = false
+isAtomKind Kind.Array = false
+isAtomKind Kind.Bad = false
+
+abbrev pub isNamedKind : TypeKind → Bool
+isNamedKind Kind.Named = true
+isNamedKind Kind.Atom = false
+isNamedKind (Kind.Template k) = false
+isNamedKind (Kind.Pointer k) = false
+isNamedKind Kind.Str = false
+isNamedKind Kind.Fn = false
+isNamedKind Kind.Array = false
+isNamedKind Kind.Bad = false
+
+-- the kinds that say by themselves whether a type is indirect
+abbrev pub isIndirectKind : TypeKind → Bool
+isIndirectKind Kind.Array = true
+isIndirectKind (Kind.Template k) = isIndirectTemplate k
+isIndirectKind Kind.Atom = false
+isIndirectKind Kind.Named = false
+isIndirectKind (Kind.Pointer k) = false
+isIndirectKind Kind.Str = false
+isIndirectKind Kind.Fn = false
+isIndirectKind Kind.Bad = false

@@ -1,0 +1,512 @@
+// Random access into a decoded sheet: its names, items and types by number. Every reader is lent the sheet and the
+// tables of the positions of its names and items, cut to their lengths.
+use cursor::Cursor;
+use cursor::Field;
+use cursor::Step;
+use cursor::read;
+use cursor::width;
+use format::ItemKind;
+use format::Template;
+use format::TypeKind;
+use items::kind_of;
+use names::Name;
+use names::fetch;
+use text::equal;
+use types::check_return;
+use types::check_type;
+ghost use mathlib.Core.Path.{_≡_};
+ghost use mathlib.Core.List.{[]};
+ghost use Prim.Native.Nat.{ℕ, _≤_, _<_};
+ghost use lib.ListN.{length, getD};
+ghost use Rattle.lexical.specs.Bytes.{same};
+ghost use Rattle.format.specs.Bits.{bits, widthOf};
+ghost use Rattle.format.specs.Decode.{many};
+ghost use Rattle.format.specs.Decoding.{name, type, optional, argument as argumentOf, form};
+ghost use Rattle.format.specs.declared.ItemKind.the-variants.{RustFunction};
+ghost use Rattle.syntax.specs.Items.{itemAt};
+ghost use Rattle.syntax.specs.Types.{pointerBit, isIndirectTemplate, needsIndirectAbi, isRustString};
+ghost use Rattle.cursor.specs.Checking.{Limited};
+ghost use Rattle.view.specs.Values.{nextOf, Yields, nameAt, namesAt, itemsAt, functionAt, argumentAt, typeHere};
+ghost use Rattle.view.specs.Values.{Named, Whole};
+ghost use Rattle.view.specs.Digests.{mix as mixOf, digest as digestOf, digestsAt};
+ghost use Rattle.view.specs.Views.{Finds, kindOfBody, ItemAt, Formed, FunctionAt, ArgumentsAt, ArgumentOf};
+ghost use Rattle.view.specs.Views.{isFunctionKind, kindOfType, isAtomKind, isNamedKind, isIndirectKind};
+
+// ---- fields
+
+// The value of a field, and the position behind it.
+pub struct Found {
+    pub value: u32,
+    pub next: Cursor,
+}
+
+// The field of n bits at c.
+pub fn field(s: &[u8], c: Cursor, n: u32) -> Found
+    requires { ⌜ Limited (now s) × (n ≤ 32) ⌝ }
+    ensures { λ r. ⌜ Finds (bits n (now (s .entry)) (c .at)) n r ⌝ }
+{
+    let f = read(s, c, n);
+    match f {
+        Field::Value(value, next) => Found { value, next },
+        Field::Cut => Found {
+            value: 0,
+            next: Cursor { at: 0 },
+        },
+    }
+}
+
+// ---- names
+
+// Whether the names at two positions are the same.
+fn same_chars(s: &[u8], a: u32, b: u32) -> bool
+    requires { ⌜ Limited (now s) × Yields (name (now s) a) (nameAt (now s) a) × Yields (name (now s) b) (nameAt (now s) b) ⌝ }
+    ensures { λ r. ⌜ r ≡ same (nameAt (now (s .entry)) a) (nameAt (now (s .entry)) b) ⌝ }
+{
+    let mut x = [0u8; Name::LONGEST];
+    let mut y = [0u8; Name::LONGEST];
+    let n = fetch(s, a, &mut x);
+    let m = fetch(s, b, &mut y);
+    let k = n.length;
+    let l = m.length;
+    equal(&x[..k], &y[..l])
+}
+
+// Whether names i and j are the same; unequal digests tell them apart.
+pub fn same_name(s: &[u8], names: &[u32], digests: &[u32], i: u32, j: u32) -> bool
+    requires { ⌜ Named (now s) (now names) × (now digests ≡ digestsAt (now s) (now names)) ×
+        (i < length (now names)) × (j < length (now names)) ⌝ }
+    ensures { λ r. ⌜ r ≡ same (nameAt (now (s .entry)) (getD (now (names .entry)) i 0))
+        (nameAt (now (s .entry)) (getD (now (names .entry)) j 0)) ⌝ }
+{
+    let a = i as usize;
+    let b = j as usize;
+    if digests[a] != digests[b] {
+        return false;
+    }
+    same_chars(s, names[a], names[b])
+}
+
+// Whether name i is the text.
+pub fn name_is(s: &[u8], names: &[u32], i: u32, text: &[u8]) -> bool
+    requires { ⌜ Named (now s) (now names) × (i < length (now names)) ⌝ }
+    ensures { λ r. ⌜ r ≡ same (nameAt (now (s .entry)) (getD (now (names .entry)) i 0)) (now (text .entry)) ⌝ }
+{
+    let k = i as usize;
+    let mut x = [0u8; Name::LONGEST];
+    let n = fetch(s, names[k], &mut x);
+    let l = n.length;
+    equal(&x[..l], text)
+}
+
+// ---- digests
+
+fn wide(c: u8) -> u32
+    ensures { λ r. ⌜ r ≡ c ⌝ }
+{
+    c as u32
+}
+
+fn wider(c: u32) -> u64
+    ensures { λ r. ⌜ r ≡ c ⌝ }
+{
+    c as u64
+}
+
+// A digest with one number more.
+pub fn mix(h: u32, c: u32) -> u32
+    ensures { λ r. ⌜ r ≡ mixOf h c ⌝ }
+{
+    let sum = wider(h) * 31 + wider(c);
+    (sum % 4294967296) as u32
+}
+
+// The digest of characters.
+fn digest(w: &[u8]) -> u32
+    ensures { λ r. ⌜ r ≡ digestOf (now (w .entry)) ⌝ }
+{
+    let mut h: u32 = 0;
+    let mut i: usize = 0;
+    while i < w.len() {
+        h = mix(h, wide(w[i]));
+        i = i + 1;
+    }
+    h
+}
+
+// The digest of the name at a position.
+fn digest_at(s: &[u8], at: u32) -> u32
+    requires { ⌜ Limited (now s) × Yields (name (now s) at) (nameAt (now s) at) ⌝ }
+    ensures { λ r. ⌜ r ≡ digestOf (nameAt (now (s .entry)) at) ⌝ }
+{
+    let mut x = [0u8; Name::LONGEST];
+    let n = fetch(s, at, &mut x);
+    let l = n.length;
+    digest(&x[..l])
+}
+
+// The digest of each name.
+pub fn fill_digests(s: &[u8], names: &[u32], digests: &mut [u32])
+    requires { ⌜ Named (now s) (now names) × (length (now digests) ≡ length (now names)) ⌝ }
+    ensures { λ r. ⌜ now (digests .exit) ≡ digestsAt (now (s .entry)) (now (names .entry)) ⌝ }
+{
+    let mut i: usize = 0;
+    while i < names.len() {
+        let h = digest_at(s, names[i]);
+        digests[i] = h;
+        i = i + 1;
+    }
+}
+
+// ---- items
+
+// An item by its number: its kind, its namespaces, the index of its C++ name, and where its body stands.
+pub struct ItemView {
+    pub number: u32,
+    pub kind: ItemKind,
+    pub depth: u32,
+    pub spaces: Cursor,
+    pub name: u32,
+    pub body: Cursor,
+}
+
+pub fn item(s: &[u8], names: &[u32], items: &[u32], i: u32) -> ItemView
+    requires { ⌜ Whole (now s) (now names) (now items) × (i < length (now items)) ⌝ }
+    ensures { λ r. ⌜ (r .number ≡ i) × ItemAt (now (s .entry)) (now (names .entry)) (now (items .entry)) r ⌝ }
+{
+    let k = i as usize;
+    let at = items[k];
+    let kind = field(s, Cursor { at }, 3);
+    let depth = field(s, kind.next, 3);
+    let w = width(names.len() as u32);
+    let spaces = depth.next;
+    let title = spaces.at + depth.value * w;
+    let name = field(s, Cursor { at: title }, w);
+    let body = name.next;
+    let of = kind_of(kind.value);
+    ItemView {
+        number: i,
+        kind: of,
+        depth: depth.value,
+        spaces,
+        name: name.value,
+        body,
+    }
+}
+
+// The kind of item i.
+pub fn kind_at(s: &[u8], names: &[u32], items: &[u32], i: u32) -> ItemKind
+    requires { ⌜ Whole (now s) (now names) (now items) × (i < length (now items)) ⌝ }
+    ensures { λ r. ⌜ r ≡ kindOfBody
+        (itemAt (itemsAt (now (s .entry)) (now (names .entry)) (now (items .entry))) i .body) ⌝ }
+{
+    let k = i as usize;
+    let at = items[k];
+    let kind = field(s, Cursor { at }, 3);
+    kind_of(kind.value)
+}
+
+// The index of an item's namespace d, counted from the outermost.
+pub fn namespace(s: &[u8], names: &[u32], items: &[u32], v: ItemView, d: u32) -> u32
+    requires { ⌜ Whole (now s) (now names) (now items) × ItemAt (now s) (now names) (now items) v × (d < v .depth) ⌝ }
+    ensures { λ r. ⌜ (r < length (now (names .entry))) × (nameAt (now (s .entry)) (getD (now (names .entry)) r 0) ≡
+        getD (itemAt (itemsAt (now (s .entry)) (now (names .entry)) (now (items .entry))) (v .number) .namespace) d []) ⌝ }
+{
+    let w = width(names.len() as u32);
+    let at = v.spaces.at + d * w;
+    let name = field(s, Cursor { at }, w);
+    name.value
+}
+
+pub fn is_function(kind: ItemKind) -> bool
+    ensures { λ r. ⌜ r ≡ isFunctionKind kind ⌝ }
+{
+    match kind {
+        ItemKind::RustFunction => true,
+        ItemKind::Struct => false,
+        ItemKind::Enum => false,
+        ItemKind::CxxType => false,
+        ItemKind::RustType => false,
+        ItemKind::Bad => false,
+    }
+}
+
+// The pointer bit of item i.
+pub fn pointer_bit(s: &[u8], names: &[u32], items: &[u32], i: u32) -> bool
+    requires { ⌜ Whole (now s) (now names) (now items) × (i < length (now items)) ⌝ }
+    ensures { λ r. ⌜ r ≡ pointerBit
+        (itemAt (itemsAt (now (s .entry)) (now (names .entry)) (now (items .entry))) i .body) ⌝ }
+{
+    let v = item(s, names, items, i);
+    let kind = v.kind;
+    let function = is_function(kind);
+    if function {
+        return false;
+    }
+    let b = field(s, v.body, 1);
+    b.value == 1
+}
+
+// ---- functions
+
+// A function's form by its number, the number of its self type's item, and the position behind both.
+pub struct FormView {
+    pub form: u32,
+    pub owner: u32,
+    pub next: Cursor,
+}
+
+fn form_at(s: &[u8], c: Cursor, items: u32) -> FormView
+    requires { ⌜ Limited (now s) ⌝ }
+    ensures { λ r. ⌜ Formed (form items (now (s .entry)) (c .at)) items r ⌝ }
+{
+    let f = field(s, c, 2);
+    if f.value == 0 {
+        let next = f.next;
+        return FormView {
+            form: 0,
+            owner: 0,
+            next,
+        };
+    }
+    let i = field(s, f.next, width(items));
+    let next = i.next;
+    FormView {
+        form: f.value,
+        owner: i.value,
+        next,
+    }
+}
+
+// Past the outermost type at c, in a sheet of so many items.
+pub fn past_type(s: &[u8], c: Cursor, items: u32) -> Cursor
+    requires { ⌜ Limited (now s) ⌝ }
+    ensures { λ r. ⌜ r .at ≡ nextOf (type items (now (s .entry)) (c .at)) ⌝ }
+{
+    let r = check_type(s, c, items);
+    match r {
+        Step::At(next) => next,
+        Step::Fault(_) => Cursor { at: 0 },
+    }
+}
+
+// Past a return bit and its type.
+fn past_return(s: &[u8], c: Cursor, items: u32) -> Cursor
+    requires { ⌜ Limited (now s) ⌝ }
+    ensures { λ r. ⌜ r .at ≡ nextOf (optional (type items) (now (s .entry)) (c .at)) ⌝ }
+{
+    let r = check_return(s, c, items);
+    match r {
+        Step::At(next) => next,
+        Step::Fault(_) => Cursor { at: 0 },
+    }
+}
+
+// A function by its item's number: the index of its Rust name, its form, its self type's item, its two bits, where
+// the type that it returns stands, and where the first of its arguments does.
+pub struct FunctionView {
+    pub number: u32,
+    pub rust: u32,
+    pub form: u32,
+    pub owner: u32,
+    pub throws: bool,
+    pub returns: bool,
+    pub result: Cursor,
+    pub arguments: u32,
+    pub first: Cursor,
+}
+
+impl FunctionView {
+    // The most arguments of a function.
+    pub const ARGUMENTS: usize = 31;
+}
+
+pub fn function(s: &[u8], names: &[u32], items: &[u32], v: ItemView) -> FunctionView
+    requires { ⌜ Whole (now s) (now names) (now items) × ItemAt (now s) (now names) (now items) v × (v .kind ≡ RustFunction) ⌝ }
+    ensures { λ r. ⌜ (r .number ≡ v .number) × FunctionAt (now (s .entry)) (now (names .entry)) (now (items .entry)) r ⌝ }
+{
+    let n = items.len() as u32;
+    let rust = field(s, v.body, width(names.len() as u32));
+    let form = form_at(s, rust.next, n);
+    let throws = field(s, form.next, 1);
+    let returns = field(s, throws.next, 1);
+    let count = field(s, past_return(s, throws.next, n), 5);
+    let result = returns.next;
+    let first = count.next;
+    FunctionView {
+        number: v.number,
+        rust: rust.value,
+        form: form.form,
+        owner: form.owner,
+        throws: throws.value == 1,
+        returns: returns.value == 1,
+        result,
+        arguments: count.value,
+        first,
+    }
+}
+
+// The position of each argument, into the front of offsets; the answer is the position behind the last.
+pub fn fill_arguments(
+    s: &[u8],
+    names: &[u32],
+    items: &[u32],
+    v: FunctionView,
+    offsets: &mut [u32],
+) -> Cursor
+    requires { ⌜ Whole (now s) (now names) (now items) × FunctionAt (now s) (now names) (now items) v ×
+        (31 ≤ length (now offsets)) ⌝ }
+    ensures { λ r. ⌜ ArgumentsAt (now (s .entry)) (now (names .entry)) (now (items .entry)) v (now (offsets .exit)) ×
+        (r .at ≡ nextOf (many (v .arguments)
+        (argumentOf (namesAt (now (s .entry)) (now (names .entry))) (length (now (items .entry))))
+        (now (s .entry)) (v .first .at))) ⌝ }
+{
+    let w = width(names.len() as u32);
+    let n = items.len() as u32;
+    let mut next = v.first;
+    let mut i: u32 = 0;
+    while i < v.arguments {
+        let k = i as usize;
+        let here = next.at;
+        offsets[k] = here;
+        let name = field(s, next, w);
+        next = past_type(s, name.next, n);
+        i = i + 1;
+    }
+    next
+}
+
+// An argument: the index of its name, and where its type stands.
+pub struct ArgumentView {
+    pub name: u32,
+    pub of: Cursor,
+}
+
+// Argument j of a function.
+pub fn argument(
+    s: &[u8],
+    names: &[u32],
+    items: &[u32],
+    v: FunctionView,
+    offsets: &[u32],
+    j: u32,
+) -> ArgumentView
+    requires { ⌜ Whole (now s) (now names) (now items) × ArgumentsAt (now s) (now names) (now items) v (now offsets) ×
+        (j < v .arguments) × (v .arguments ≤ length (now offsets)) ⌝ }
+    ensures { λ r. ⌜ ArgumentOf (now (s .entry)) (now (names .entry)) (length (now (items .entry)))
+        (argumentAt (now (s .entry)) (now (names .entry)) (now (items .entry)) (v .number) j) r ⌝ }
+{
+    let k = j as usize;
+    let at = offsets[k];
+    let name = field(s, Cursor { at }, width(names.len() as u32));
+    let of = name.next;
+    ArgumentView {
+        name: name.value,
+        of,
+    }
+}
+
+// ---- types
+
+// The kind of the outermost type at c.
+pub fn type_kind(s: &[u8], items: &[u32], c: Cursor) -> TypeKind
+    requires { ⌜ Limited (now s) × Yields (type (length (now items)) (now s) (c .at)) (typeHere (length (now items)) (now s) (c .at)) ⌝ }
+    ensures { λ r. ⌜ r ≡ kindOfType (typeHere (length (now (items .entry))) (now (s .entry)) (c .at)) ⌝ }
+{
+    let k = field(s, c, 4);
+    types::kind_of(k.value)
+}
+
+fn is_atom(kind: TypeKind) -> bool
+    ensures { λ r. ⌜ r ≡ isAtomKind kind ⌝ }
+{
+    match kind {
+        TypeKind::Atom => true,
+        TypeKind::Named => false,
+        TypeKind::Template(_) => false,
+        TypeKind::Pointer(_) => false,
+        TypeKind::Str => false,
+        TypeKind::Fn => false,
+        TypeKind::Array => false,
+        TypeKind::Bad => false,
+    }
+}
+
+fn is_named(kind: TypeKind) -> bool
+    ensures { λ r. ⌜ r ≡ isNamedKind kind ⌝ }
+{
+    match kind {
+        TypeKind::Named => true,
+        TypeKind::Atom => false,
+        TypeKind::Template(_) => false,
+        TypeKind::Pointer(_) => false,
+        TypeKind::Str => false,
+        TypeKind::Fn => false,
+        TypeKind::Array => false,
+        TypeKind::Bad => false,
+    }
+}
+
+fn is_indirect_template(k: Template) -> bool
+    ensures { λ r. ⌜ r ≡ isIndirectTemplate k ⌝ }
+{
+    match k {
+        Template::RustBox => false,
+        Template::RustVec => true,
+        Template::UniquePtr => false,
+        Template::SharedPtr => true,
+        Template::WeakPtr => true,
+        Template::CxxVector => true,
+    }
+}
+
+fn is_indirect_kind(kind: TypeKind) -> bool
+    ensures { λ r. ⌜ r ≡ isIndirectKind kind ⌝ }
+{
+    match kind {
+        TypeKind::Array => true,
+        TypeKind::Template(k) => is_indirect_template(k),
+        TypeKind::Atom => false,
+        TypeKind::Named => false,
+        TypeKind::Pointer(_) => false,
+        TypeKind::Str => false,
+        TypeKind::Fn => false,
+        TypeKind::Bad => false,
+    }
+}
+
+// Whether the type at c needs an indirect ABI.
+pub fn needs_indirect_abi(s: &[u8], names: &[u32], items: &[u32], c: Cursor) -> bool
+    requires { ⌜ Whole (now s) (now names) (now items) ×
+        Yields (type (length (now items)) (now s) (c .at)) (typeHere (length (now items)) (now s) (c .at)) ⌝ }
+    ensures { λ r. ⌜ r ≡ needsIndirectAbi (itemsAt (now (s .entry)) (now (names .entry)) (now (items .entry)))
+        (typeHere (length (now (items .entry))) (now (s .entry)) (c .at)) ⌝ }
+{
+    let k = field(s, c, 4);
+    let kind = types::kind_of(k.value);
+    let atom = is_atom(kind);
+    if atom {
+        let a = field(s, k.next, 4);
+        return 14 <= a.value;
+    }
+    let named = is_named(kind);
+    if named {
+        let i = field(s, k.next, width(items.len() as u32));
+        return pointer_bit(s, names, items, i.value);
+    }
+    is_indirect_kind(kind)
+}
+
+// Whether the type at c is RustString.
+pub fn is_rust_string(s: &[u8], items: &[u32], c: Cursor) -> bool
+    requires { ⌜ Limited (now s) ×
+        Yields (type (length (now items)) (now s) (c .at)) (typeHere (length (now items)) (now s) (c .at)) ⌝ }
+    ensures { λ r. ⌜ r ≡ isRustString (typeHere (length (now (items .entry))) (now (s .entry)) (c .at)) ⌝ }
+{
+    let k = field(s, c, 4);
+    let atom = is_atom(types::kind_of(k.value));
+    if atom {
+        let a = field(s, k.next, 4);
+        return a.value == 15;
+    }
+    false
+}
