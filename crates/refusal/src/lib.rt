@@ -1,4 +1,4 @@
-// The refusals of document 01, in its order. `number` of specs/Refusal.antt gives each its number.
+// The refusals of document 01, in its order. `numberOf` of specs/Refusal.antt gives each its number.
 
 ghost use mathlib.Core.Path.{_≡_};
 ghost use Rattle.refusal.specs.Refusal.{numberOf};
