@@ -95,7 +95,8 @@ pub record FunctionOf (s names : List ℕ) (n : ℕ) (f : Function) (v : Functio
   pub few : v .arguments ≤ 31
   pub arguments : Yields (many (v .arguments) (argument (namesAt s names) n) s (v .first .at)) (f .arguments)
   pub comment :
-      Yields (commentLines s (nextOf (many (v .arguments) (argument (namesAt s names) n) s (v .first .at)))) (f .comment)
+      Yields (commentLines s (nextOf (many (v .arguments) (argument (namesAt s names) n) s (v .first .at))))
+      (f .comment)
 
 -- v is the view of the function of its number
 pub record FunctionAt (s names items : List ℕ) (v : FunctionView) : Type 0 where

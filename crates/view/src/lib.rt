@@ -59,7 +59,8 @@ pub fn field(s: &[u8], c: Cursor, n: u32) -> Found
 
 // Whether the names at two positions are the same.
 fn same_chars(s: &[u8], a: u32, b: u32) -> bool
-    requires { ⌜ Limited (now s) × Yields (name (now s) a) (nameAt (now s) a) × Yields (name (now s) b) (nameAt (now s) b) ⌝ }
+    requires { ⌜ Limited (now s) × Yields (name (now s) a) (nameAt (now s) a) ×
+        Yields (name (now s) b) (nameAt (now s) b) ⌝ }
     ensures { λ r. ⌜ r ≡ same (nameAt (now (s .entry)) a) (nameAt (now (s .entry)) b) ⌝ }
 {
     let mut x = [0u8; Name::LONGEST];
@@ -209,7 +210,8 @@ pub fn kind_at(s: &[u8], names: &[u32], items: &[u32], i: u32) -> ItemKind
 pub fn namespace(s: &[u8], names: &[u32], items: &[u32], v: ItemView, d: u32) -> u32
     requires { ⌜ Whole (now s) (now names) (now items) × ItemAt (now s) (now names) (now items) v × (d < v .depth) ⌝ }
     ensures { λ r. ⌜ (r < length (now (names .entry))) × (nameAt (now (s .entry)) (getD (now (names .entry)) r 0) ≡
-        getD (itemAt (itemsAt (now (s .entry)) (now (names .entry)) (now (items .entry))) (v .number) .namespace) d []) ⌝ }
+        getD
+        (itemAt (itemsAt (now (s .entry)) (now (names .entry)) (now (items .entry))) (v .number) .namespace) d []) ⌝ }
 {
     let w = width(names.len() as u32);
     let at = v.spaces.at + d * w;
@@ -321,8 +323,10 @@ impl FunctionView {
 }
 
 pub fn function(s: &[u8], names: &[u32], items: &[u32], v: ItemView) -> FunctionView
-    requires { ⌜ Whole (now s) (now names) (now items) × ItemAt (now s) (now names) (now items) v × (v .kind ≡ RustFunction) ⌝ }
-    ensures { λ r. ⌜ (r .number ≡ v .number) × FunctionAt (now (s .entry)) (now (names .entry)) (now (items .entry)) r ⌝ }
+    requires { ⌜ Whole (now s) (now names) (now items) × ItemAt (now s) (now names) (now items) v ×
+        (v .kind ≡ RustFunction) ⌝ }
+    ensures { λ r. ⌜ (r .number ≡ v .number) ×
+        FunctionAt (now (s .entry)) (now (names .entry)) (now (items .entry)) r ⌝ }
 {
     let n = items.len() as u32;
     let rust = field(s, v.body, width(names.len() as u32));
@@ -409,7 +413,8 @@ pub fn argument(
 
 // The kind of the outermost type at c.
 pub fn type_kind(s: &[u8], items: &[u32], c: Cursor) -> TypeKind
-    requires { ⌜ Limited (now s) × Yields (type (length (now items)) (now s) (c .at)) (typeHere (length (now items)) (now s) (c .at)) ⌝ }
+    requires { ⌜ Limited (now s) ×
+        Yields (type (length (now items)) (now s) (c .at)) (typeHere (length (now items)) (now s) (c .at)) ⌝ }
     ensures { λ r. ⌜ r ≡ kindOfType (typeHere (length (now (items .entry))) (now (s .entry)) (c .at)) ⌝ }
 {
     let k = field(s, c, 4);
