@@ -1,0 +1,3 @@
+mod PutLaws
+mod FieldLaws
+pub mod EdgeLaws

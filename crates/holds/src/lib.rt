@@ -1,0 +1,243 @@
+// Which structs the structs of a sheet hold by named fields: the table that crate toposort sorts by. Every reader is
+// lent the sheet and the tables of the positions of its names and items, cut to their lengths.
+use cursor::Cursor;
+use cursor::width;
+use format::ItemKind;
+use format::TypeKind;
+use types::kind_of;
+use view::ItemView;
+use view::field;
+use view::item;
+use view::kind_at;
+use view::past_type;
+ghost use mathlib.Core.Path.{_≡_};
+ghost use Prim.Native.Nat.{_+_, _*_, _≤_, _<_};
+ghost use lib.ListN.{length};
+ghost use Rattle.format.specs.Decode.{many};
+ghost use Rattle.format.specs.Types.{str};
+ghost use Rattle.format.specs.Decoding.{type};
+ghost use Rattle.format.specs.declared.ItemKind.the-variants.{Struct};
+ghost use Rattle.syntax.specs.Items.{itemAt, isStruct};
+ghost use Rattle.rules.specs.Rules.{gather, heldBy, holds};
+ghost use Rattle.view.specs.Values.{valueOr, Yields, typeHere, itemsAt, Whole};
+ghost use Rattle.view.specs.Views.{ItemAt};
+ghost use Rattle.holds.specs.Edges.{isStructKind, isNamed, counted, Puts, Tells, namedAt, fieldsHere};
+ghost use Rattle.holds.specs.Edges.{Edges, Lists};
+
+// What a field holds by its name: a struct's number if it is one, and the position behind the field.
+pub struct Held {
+    pub found: bool,
+    pub number: u8,
+    pub next: Cursor,
+}
+
+// ---- kinds
+
+fn is_struct(k: ItemKind) -> bool
+    ensures { λ r. ⌜ r ≡ isStructKind k ⌝ }
+{
+    match k {
+        ItemKind::Struct => true,
+        ItemKind::Enum => false,
+        ItemKind::CxxType => false,
+        ItemKind::RustType => false,
+        ItemKind::RustFunction => false,
+        ItemKind::Bad => false,
+    }
+}
+
+fn is_named(k: TypeKind) -> bool
+    ensures { λ r. ⌜ r ≡ isNamed k ⌝ }
+{
+    match k {
+        TypeKind::Named => true,
+        TypeKind::Atom => false,
+        TypeKind::Template(_) => false,
+        TypeKind::Pointer(_) => false,
+        TypeKind::Str => false,
+        TypeKind::Fn => false,
+        TypeKind::Array => false,
+        TypeKind::Bad => false,
+    }
+}
+
+// Whether item i is a struct.
+fn struct_at(s: &[u8], names: &[u32], items: &[u32], i: u32) -> bool
+    requires { ⌜ Whole (now s) (now names) (now items) × (i < length (now items)) ⌝ }
+    ensures { λ r. ⌜ r ≡ isStruct
+        (itemAt (itemsAt (now (s .entry)) (now (names .entry)) (now (items .entry))) i .body) ⌝ }
+{
+    let kind = kind_at(s, names, items, i);
+    is_struct(kind)
+}
+
+// ---- lists in front of an array
+
+// Puts a number behind the first `at`, if it counts.
+fn put(list: &mut [u8], at: usize, counts: bool, number: u8) -> usize
+    requires { ⌜ at < length (now list) ⌝ }
+    ensures { λ r. ⌜ Puts (counted counts number) at (now (list .entry)) r (now (list .exit)) ⌝ }
+{
+    if counts {
+        list[at] = number;
+        let end = at + 1;
+        return end;
+    }
+    at
+}
+
+// ---- fields
+
+// What a field holds whose type is named by the index at c.
+fn named_at(s: &[u8], names: &[u32], items: &[u32], c: Cursor) -> Held
+    requires { ⌜ Whole (now s) (now names) (now items) × Yields (namedAt (length (now items)) (now s) (c .at))
+        (valueOr str (namedAt (length (now items)) (now s) (c .at))) ⌝ }
+    ensures { λ r. ⌜ Tells (itemsAt (now (s .entry)) (now (names .entry)) (now (items .entry)))
+        (namedAt (length (now (items .entry))) (now (s .entry)) (c .at)) r ⌝ }
+{
+    let w = width(items.len() as u32);
+    let index = field(s, c, w);
+    let i = index.value;
+    let found = struct_at(s, names, items, i);
+    let number = i as u8;
+    let next = index.next;
+    Held {
+        found,
+        number,
+        next,
+    }
+}
+
+// What the field at c holds.
+fn held_at(s: &[u8], names: &[u32], items: &[u32], c: Cursor) -> Held
+    requires { ⌜ Whole (now s) (now names) (now items) × Yields (type (length (now items)) (now s) (c .at))
+        (typeHere (length (now items)) (now s) (c .at)) ⌝ }
+    ensures { λ r. ⌜ Tells (itemsAt (now (s .entry)) (now (names .entry)) (now (items .entry)))
+        (type (length (now (items .entry))) (now (s .entry)) (c .at)) r ⌝ }
+{
+    let f = field(s, c, 4);
+    let kind = kind_of(f.value);
+    let by_name = is_named(kind);
+    if by_name {
+        return named_at(s, names, items, f.next);
+    }
+    let next = past_type(s, c, items.len() as u32);
+    Held {
+        found: false,
+        number: 0,
+        next,
+    }
+}
+
+// Puts what the n fields at c hold behind the first `at`.
+fn put_fields(
+    s: &[u8],
+    names: &[u32],
+    items: &[u32],
+    c: Cursor,
+    n: u32,
+    held: &mut [u8],
+    at: usize,
+) -> usize
+    requires { ⌜ Whole (now s) (now names) (now items) × Yields (many n (type (length (now items))) (now s) (c .at))
+        (fieldsHere (length (now items)) n (now s) (c .at)) × (at + n ≤ length (now held)) ⌝ }
+    ensures { λ r. ⌜ Puts (gather (heldBy (itemsAt (now (s .entry)) (now (names .entry)) (now (items .entry))))
+        (fieldsHere (length (now (items .entry))) n (now (s .entry)) (c .at))) at (now (held .entry)) r
+        (now (held .exit)) ⌝ }
+{
+    let mut next = c;
+    let mut end = at;
+    let mut i: u32 = 0;
+    while i < n {
+        let f = held_at(s, names, items, next);
+        end = put(held, end, f.found, f.number);
+        next = f.next;
+        i = i + 1;
+    }
+    end
+}
+
+// Puts what a struct holds behind the first `at`.
+fn put_struct(
+    s: &[u8],
+    names: &[u32],
+    items: &[u32],
+    v: ItemView,
+    held: &mut [u8],
+    at: usize,
+) -> usize
+    requires { ⌜ Whole (now s) (now names) (now items) × ItemAt (now s) (now names) (now items) v × (v .kind ≡ Struct) ×
+        (at + 63 ≤ length (now held)) ⌝ }
+    ensures { λ r. ⌜ Puts (holds (itemsAt (now (s .entry)) (now (names .entry)) (now (items .entry))) (v .number)) at
+        (now (held .entry)) r (now (held .exit)) × (r ≤ at + 63) ⌝ }
+{
+    let bit = field(s, v.body, 1);
+    let count = field(s, bit.next, 6);
+    put_fields(s, names, items, count.next, count.value, held, at)
+}
+
+// Puts what item i holds behind the first `at`: nothing, unless it is a struct.
+fn put_item(s: &[u8], names: &[u32], items: &[u32], i: usize, held: &mut [u8], at: usize) -> usize
+    requires { ⌜ Whole (now s) (now names) (now items) × (at ≤ 63 * i) × (at ≤ 16065) × (length (now held) ≡ 16065) ⌝ }
+    ensures { λ r. ⌜ Puts (holds (itemsAt (now (s .entry)) (now (names .entry)) (now (items .entry))) i) at
+        (now (held .entry)) r (now (held .exit)) × (r ≤ at + 63) × (r ≤ 16065) ⌝ }
+{
+    if items.len() <= i {
+        return at;
+    }
+    let v = item(s, names, items, i as u32);
+    let kind = v.kind;
+    let holds = is_struct(kind);
+    if holds {
+        return put_struct(s, names, items, v, held, at);
+    }
+    at
+}
+
+// ---- the table and the list that crate toposort sorts
+
+// Puts what every item holds: item i what stands in `held` from starts[i] up to starts[i + 1].
+fn fill_rows(s: &[u8], names: &[u32], items: &[u32], starts: &mut [u16], held: &mut [u8])
+    requires { ⌜ Whole (now s) (now names) (now items) × (length (now starts) ≡ 257) × (length (now held) ≡ 16065) ⌝ }
+    ensures { λ r. ⌜ Edges (itemsAt (now (s .entry)) (now (names .entry)) (now (items .entry))) (now (starts .exit))
+        (now (held .exit)) ⌝ }
+{
+    starts[0] = 0;
+    let mut end: usize = 0;
+    let mut i: usize = 0;
+    while i < 256 {
+        end = put_item(s, names, items, i, held, end);
+        i = i + 1;
+        starts[i] = end as u16;
+    }
+}
+
+// The table of a sheet.
+pub fn fill_edges(
+    s: &[u8],
+    names: &[u32],
+    items: &[u32],
+    starts: &mut [u16; 257],
+    held: &mut [u8; 16065],
+)
+    requires { ⌜ Whole (now s) (now names) (now items) ⌝ }
+    ensures { λ r. ⌜ Edges (itemsAt (now (s .entry)) (now (names .entry)) (now (items .entry))) (now (starts .exit))
+        (now (held .exit)) ⌝ }
+{
+    fill_rows(s, names, items, starts, held);
+}
+
+// The numbers of the structs, in the sheet's order, put in front of `numbers`; how many there are.
+pub fn list_structs(s: &[u8], names: &[u32], items: &[u32], numbers: &mut [u8; 255]) -> usize
+    requires { ⌜ Whole (now s) (now names) (now items) ⌝ }
+    ensures { λ r. ⌜ Lists (itemsAt (now (s .entry)) (now (names .entry)) (now (items .entry))) r (now (numbers .exit)) ⌝ }
+{
+    let mut n: usize = 0;
+    let mut i: usize = 0;
+    while i < items.len() {
+        let found = struct_at(s, names, items, i as u32);
+        n = put(numbers, n, found, i as u8);
+        i = i + 1;
+    }
+    n
+}

@@ -1,0 +1,4 @@
+mod SeeLaws
+mod AnyLaws
+mod WrongLaws
+mod UnfitLaws

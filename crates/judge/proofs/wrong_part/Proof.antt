@@ -1,0 +1,59 @@
+use borrow.Author.Needs.{needs}
+use native.Mathlib.Omega.{arith}
+use mathlib.Core.Path.{_≡_, refl, sym, _∙_}
+use Prim.Native.Nat.{_≤_, _-_}
+use lib.ListN.{length, drop}
+use Rattle.rules.specs.Rules.{any, wrongPart}
+use Rattle.cursor.proofs.CheckLaws.{known}
+use Rattle.view.specs.Values.{itemsAt}
+use Rattle.judge.proofs.AnyLaws.{item-turn, item-yes, item-end}
+use Rattle.judge.proofs.WrongLaws.{itemWrong}
+use Rattle.judge.proofs.wrong_part.Statement.{statement}
+use Rattle.judge.proofs.wrong_part.Tie as tie
+
+abbrev Inv-loop : tie.InvT-loop
+Inv-loop s names items n i₀ i = (i ≤ length items) × (any (itemWrong s names items) (itemsAt s names items) ≡ any (itemWrong s names items) (drop i (itemsAt s names items)))
+
+abbrev μ-loop : tie.MeasureT-loop
+μ-loop s names items n i₀ i = length items - i
+
+cast-n : tie.Need-cast-n Inv-loop μ-loop
+cast-n c = search needs
+
+loop-holds : tie.Need-loop-holds Inv-loop μ-loop
+loop-holds c = (omega arith, refl)
+
+wrong-item-requires : tie.Need-wrong-item-requires Inv-loop μ-loop
+wrong-item-requires c κs = (c .before .before .before .before .before .pre, c .loop-test .taken)
+
+returns : tie.Need-returns Inv-loop μ-loop
+unfolding wrongPart
+returns c = sym (c .before .before .before .loop .inv .1 ∙ item-yes _ _ _ (itemWrong (c .before .before .before .before .before .before .before .args .s .now) (c .before .before .before .before .before .before .before .args .names .now) (c .before .before .before .before .before .before .before .args .items .now)) _ (c .before .before .loop-test .taken) (known (c .before .wrong-item .ensures) (c .if1 .taken)))
+
+add-i : tie.Need-add-i Inv-loop μ-loop
+add-i c = omega arith
+
+loop-less : tie.Need-loop-less Inv-loop μ-loop
+loop-less c = omega arith
+
+loop-again : tie.Need-loop-again Inv-loop μ-loop
+loop-again c = (omega arith, c .before .before .before .loop .inv .1 ∙ item-turn _ _ _ (itemWrong (c .before .before .before .before .before .before .before .args .s .now) (c .before .before .before .before .before .before .before .args .names .now) (c .before .before .before .before .before .before .before .args .items .now)) _ (c .before .before .loop-test .taken) (known (c .before .wrong-item .ensures) (c .if1 .left)))
+
+returns-2 : tie.Need-returns-2 Inv-loop μ-loop
+unfolding wrongPart
+returns-2 c = sym (c .before .loop .inv .1 ∙ item-end _ _ _ (itemWrong (c .before .before .before .before .before .args .s .now) (c .before .before .before .before .before .args .names .now) (c .before .before .before .before .before .args .items .now)) _ (c .loop-test .left))
+
+pub wrong-part-spec : {M : Type 1} → statement M
+wrong-part-spec =
+    tie.close
+    (tie.spec
+    Inv-loop
+    μ-loop
+    cast-n
+    loop-holds
+    wrong-item-requires
+    returns
+    add-i
+    loop-less
+    loop-again
+    returns-2)
