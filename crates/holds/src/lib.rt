@@ -230,7 +230,8 @@ pub fn fill_edges(
 // The numbers of the structs, in the sheet's order, put in front of `numbers`; how many there are.
 pub fn list_structs(s: &[u8], names: &[u32], items: &[u32], numbers: &mut [u8; 255]) -> usize
     requires { ⌜ Whole (now s) (now names) (now items) ⌝ }
-    ensures { λ r. ⌜ Lists (itemsAt (now (s .entry)) (now (names .entry)) (now (items .entry))) r (now (numbers .exit)) ⌝ }
+    ensures { λ r. ⌜ Lists (itemsAt (now (s .entry)) (now (names .entry)) (now (items .entry))) r
+        (now (numbers .exit)) ⌝ }
 {
     let mut n: usize = 0;
     let mut i: usize = 0;

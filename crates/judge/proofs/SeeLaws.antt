@@ -215,9 +215,11 @@ module _ {A : Type 0} (has : A → Bool) (d : Dec A) (s : List ℕ) (n at₀ : �
       (ys ≡ drop (i + 1) xs) × (any has xs ≡ ((b || has x) || any has (drop (i + 1) xs)))
   unfolding any
   next-is i b x ys xs h e =
-      let z : ys ≡ drop (i + 1) xs = ap (λ (l : List A). drop 1 l) e ∙ drop-drop 1 i xs in
-      (z, h ∙ (ap (λ (l : List A). b || any has l) (sym e) ∙ (or-assoc b (has x) (any has ys) ∙
-      ap (λ (l : List A). (b || has x) || any has l) z)))
+      let z : ys ≡ drop (i + 1) xs = ap (λ (l : List A). drop 1 l) e ∙ drop-drop 1 i xs in (
+        z,
+        h ∙ (ap (λ (l : List A). b || any has l) (sym e) ∙ (or-assoc b (has x) (any has ys) ∙
+            ap (λ (l : List A). (b || has x) || any has l) z)),
+      )
 
   pub see-turn : {i : ℕ} {b c : Bool} (at : ℕ) {r : Seen} → Seeing i b at → i < n → Sees has (d s at) r →
       c ≡ (b || r .found) → Seeing (i + 1) c (r .next .at)
@@ -233,7 +235,7 @@ module _ {A : Type 0} (has : A → Bool) (d : Dec A) (s : List ℕ) (n at₀ : �
       step xs e g =
           let y : n - i ≡ suc (n - (i + 1)) = omega arith in
           let q : many (suc (n - (i + 1))) d s at ≡ got (drop i xs) e =
-              ap (λ (j : ℕ). many j d s at) (sym y) ∙ p .rest xs e g in
+          ap (λ (j : ℕ). many j d s at) (sym y) ∙ p .rest xs e g in
           in-turn (d s at) _ q (λ x a e₁ h₁.
           in-turn (many (n - (i + 1)) d s a) _ h₁ (λ ys m e₂ h₂.
           let o = h .there x a e₁ in
@@ -250,6 +252,6 @@ module _ {A : Type 0} (has : A → Bool) (d : Dec A) (s : List ℕ) (n at₀ : �
         let z : n - i ≡ 0 = omega arith in
         let q : many 0 d s (c .at) ≡ got (drop i xs) e = ap (λ (j : ℕ). many j d s (c .at)) (sym z) ∙ p .rest xs e g in
         let y : any has xs ≡ b =
-            p .found xs e g ∙ (ap (λ (l : List A). b || any has l) (sym (got-value q)) ∙ or-false b) in
+        p .found xs e g ∙ (ap (λ (l : List A). b || any has l) (sym (got-value q)) ∙ or-false b) in
         ap₂ seen (sym y) (got-next q);
   }

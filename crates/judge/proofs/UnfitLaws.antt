@@ -68,8 +68,14 @@ module _ (s names items : List ℕ) {v : FunctionView} {a : ArgumentView} {f : F
       v .throws && same word (bytes "error") && needsIndirectAbi is t && not (isRustString t))
   unfolding unfit
   tests =
-      rw (type-there (length items) s (a .of .at) (va .of), va .name, vf .throws, method-form (v .form) (v .owner) (vf .low), ← vf .form,
-      vector-type (x .type))
+      rw (
+        type-there (length items) s (a .of .at) (va .of),
+        va .name,
+        vf .throws,
+        method-form (v .form) (v .owner) (vf .low),
+        ← vf .form,
+        vector-type (x .type),
+      )
 
   pub unfit-vector : {k : TypeKind} → k ≡ kindOfType t → isVectorKind k ≡ true → true ≡ unfit is f x
   unfit-vector {k} e h = sym (tests ∙ rw (← e, h))

@@ -58,7 +58,7 @@ module _ (test : ℕ → Bool) (n : ℕ) (s : List ℕ) (at : ℕ) where
   unfolding type anyNamed
   result-seen {b} {x} y e h =
       let q : after (typeAt n 8 s at) (λ t k. got (gives t) k) ≡ got x _ =
-          ap (λ (u : Bool). returnOf u (type n) s at) (sym e) ∙ y .is in
+      ap (λ (u : Bool). returnOf u (type n) s at) (sym e) ∙ y .is in
       ap (λ (z : Seen). z .found) (sees-map {hasB = anyNamedRet test} gives (λ t. refl) h .there x _ q)
 
   pub result-none : {b : Bool} {x : Ret} → Yields (returnOf b (type n) s at) x → b ≡ false →

@@ -57,10 +57,8 @@ fn either(a: bool, b: bool) -> bool
 // Past an item index.
 fn see_index(s: &[u8], names: &[u32], items: &[u32], c: Cursor) -> Seen
     requires { ⌜ Whole (now s) (now names) (now items) ⌝ }
-    ensures {
-        λ r. ⌜ Sees (isFunctionAt (now (s .entry)) (now (names .entry)) (now (items .entry)))
-            (index (length (now (items .entry))) (now (s .entry)) (c .at)) r ⌝
-    }
+    ensures { λ r. ⌜ Sees (isFunctionAt (now (s .entry)) (now (names .entry)) (now (items .entry)))
+        (index (length (now (items .entry))) (now (s .entry)) (c .at)) r ⌝ }
 {
     let n = items.len() as u32;
     let i = field(s, c, width(n));
@@ -77,15 +75,16 @@ fn see_index(s: &[u8], names: &[u32], items: &[u32], c: Cursor) -> Seen
 // Past the type at c.
 fn see_type(s: &[u8], names: &[u32], items: &[u32], c: Cursor, levels: Levels) -> Seen
     requires { ⌜ Whole (now s) (now names) (now items) ⌝ }
-    ensures {
-        λ r. ⌜ Sees (anyNamed (isFunctionAt (now (s .entry)) (now (names .entry)) (now (items .entry))))
-            (typeAt (length (now (items .entry))) (levels .left) (now (s .entry)) (c .at)) r ⌝
-    }
+    ensures { λ r. ⌜ Sees (anyNamed (isFunctionAt (now (s .entry)) (now (names .entry)) (now (items .entry))))
+        (typeAt (length (now (items .entry))) (levels .left) (now (s .entry)) (c .at)) r ⌝ }
 {
     let k = field(s, c, 4);
     let left = levels.left;
     if left == 0 {
-        return Seen { found: false, next: c };
+        return Seen {
+            found: false,
+            next: c,
+        };
     }
     let deeper = Levels { left: left - 1 };
     let kind = types::kind_of(k.value);
@@ -93,13 +92,18 @@ fn see_type(s: &[u8], names: &[u32], items: &[u32], c: Cursor, levels: Levels) -
 }
 
 // Past what stands behind a kind.
-fn see_body(s: &[u8], names: &[u32], items: &[u32], c: Cursor, levels: Levels, kind: TypeKind) -> Seen
+fn see_body(
+    s: &[u8],
+    names: &[u32],
+    items: &[u32],
+    c: Cursor,
+    levels: Levels,
+    kind: TypeKind,
+) -> Seen
     requires { ⌜ Whole (now s) (now names) (now items) ⌝ }
-    ensures {
-        λ r. ⌜ Sees (anyNamed (isFunctionAt (now (s .entry)) (now (names .entry)) (now (items .entry))))
-            (typeBody kind (length (now (items .entry))) (typeAt (length (now (items .entry))) (levels .left))
-                (now (s .entry)) (c .at)) r ⌝
-    }
+    ensures { λ r. ⌜ Sees (anyNamed (isFunctionAt (now (s .entry)) (now (names .entry)) (now (items .entry))))
+        (typeBody kind (length (now (items .entry))) (typeAt (length (now (items .entry))) (levels .left))
+        (now (s .entry)) (c .at)) r ⌝ }
 {
     match kind {
         TypeKind::Atom => {
@@ -113,25 +117,32 @@ fn see_body(s: &[u8], names: &[u32], items: &[u32], c: Cursor, levels: Levels, k
             let m = field(s, c, 1);
             see_type(s, names, items, m.next, levels)
         }
-        TypeKind::Str => Seen { found: false, next: c },
+        TypeKind::Str => Seen {
+            found: false,
+            next: c,
+        },
         TypeKind::Fn => see_fn(s, names, items, c, levels),
         TypeKind::Array => {
             let t = see_type(s, names, items, c, levels);
             let n = field(s, t.next, 32);
             let next = n.next;
-            Seen { found: t.found, next }
+            Seen {
+                found: t.found,
+                next,
+            }
         }
-        TypeKind::Bad => Seen { found: false, next: c },
+        TypeKind::Bad => Seen {
+            found: false,
+            next: c,
+        },
     }
 }
 
 // Past a type that a bit may leave out.
 fn see_return(s: &[u8], names: &[u32], items: &[u32], c: Cursor, levels: Levels) -> Seen
     requires { ⌜ Whole (now s) (now names) (now items) ⌝ }
-    ensures {
-        λ r. ⌜ Sees (anyNamedRet (isFunctionAt (now (s .entry)) (now (names .entry)) (now (items .entry))))
-            (optional (typeAt (length (now (items .entry))) (levels .left)) (now (s .entry)) (c .at)) r ⌝
-    }
+    ensures { λ r. ⌜ Sees (anyNamedRet (isFunctionAt (now (s .entry)) (now (names .entry)) (now (items .entry))))
+        (optional (typeAt (length (now (items .entry))) (levels .left)) (now (s .entry)) (c .at)) r ⌝ }
 {
     let b = field(s, c, 1);
     let next = b.next;
@@ -144,11 +155,9 @@ fn see_return(s: &[u8], names: &[u32], items: &[u32], c: Cursor, levels: Levels)
 // Past a Fn's return type, count and types.
 fn see_fn(s: &[u8], names: &[u32], items: &[u32], c: Cursor, levels: Levels) -> Seen
     requires { ⌜ Whole (now s) (now names) (now items) ⌝ }
-    ensures {
-        λ r. ⌜ Sees (anyNamed (isFunctionAt (now (s .entry)) (now (names .entry)) (now (items .entry))))
-            (typeBody Fn (length (now (items .entry))) (typeAt (length (now (items .entry))) (levels .left))
-                (now (s .entry)) (c .at)) r ⌝
-    }
+    ensures { λ r. ⌜ Sees (anyNamed (isFunctionAt (now (s .entry)) (now (names .entry)) (now (items .entry))))
+        (typeBody Fn (length (now (items .entry))) (typeAt (length (now (items .entry))) (levels .left))
+        (now (s .entry)) (c .at)) r ⌝ }
 {
     let r = see_return(s, names, items, c, levels);
     let n = field(s, r.next, 4);
@@ -161,10 +170,8 @@ fn see_fn(s: &[u8], names: &[u32], items: &[u32], c: Cursor, levels: Levels) -> 
 // Past n types.
 fn see_types(s: &[u8], names: &[u32], items: &[u32], c: Cursor, levels: Levels, n: u32) -> Seen
     requires { ⌜ Whole (now s) (now names) (now items) ⌝ }
-    ensures {
-        λ r. ⌜ Sees (any (anyNamed (isFunctionAt (now (s .entry)) (now (names .entry)) (now (items .entry)))))
-            (many n (typeAt (length (now (items .entry))) (levels .left)) (now (s .entry)) (c .at)) r ⌝
-    }
+    ensures { λ r. ⌜ Sees (any (anyNamed (isFunctionAt (now (s .entry)) (now (names .entry)) (now (items .entry)))))
+        (many n (typeAt (length (now (items .entry))) (levels .left)) (now (s .entry)) (c .at)) r ⌝ }
 {
     let mut found = false;
     let mut next = c;
@@ -181,24 +188,28 @@ fn see_types(s: &[u8], names: &[u32], items: &[u32], c: Cursor, levels: Levels, 
 // Past a struct's body.
 fn see_struct(s: &[u8], names: &[u32], items: &[u32], c: Cursor) -> Seen
     requires { ⌜ Whole (now s) (now names) (now items) ⌝ }
-    ensures {
-        λ r. ⌜ Sees (anyIndex (isFunctionAt (now (s .entry)) (now (names .entry)) (now (items .entry))))
-            (structBody (length (now (items .entry))) (now (s .entry)) (c .at)) r ⌝
-    }
+    ensures { λ r. ⌜ Sees (anyIndex (isFunctionAt (now (s .entry)) (now (names .entry)) (now (items .entry))))
+        (structBody (length (now (items .entry))) (now (s .entry)) (c .at)) r ⌝ }
 {
     let p = field(s, c, 1);
     let n = field(s, p.next, 6);
-    see_types(s, names, items, n.next, Levels { left: Levels::MOST }, n.value)
+    see_types(
+        s,
+        names,
+        items,
+        n.next,
+        Levels { left: Levels::MOST },
+        n.value,
+    )
 }
 
 // Past an argument.
 fn see_argument(s: &[u8], names: &[u32], items: &[u32], c: Cursor) -> Seen
     requires { ⌜ Whole (now s) (now names) (now items) ⌝ }
-    ensures {
-        λ r. ⌜ Sees (λ x. anyNamed (isFunctionAt (now (s .entry)) (now (names .entry)) (now (items .entry))) (x .type))
-            (argumentOf (namesAt (now (s .entry)) (now (names .entry))) (length (now (items .entry)))
-                (now (s .entry)) (c .at)) r ⌝
-    }
+    ensures { λ r. ⌜ Sees
+        (λ x. anyNamed (isFunctionAt (now (s .entry)) (now (names .entry)) (now (items .entry))) (x .type))
+        (argumentOf (namesAt (now (s .entry)) (now (names .entry))) (length (now (items .entry)))
+        (now (s .entry)) (c .at)) r ⌝ }
 {
     let name = field(s, c, width(names.len() as u32));
     see_type(s, names, items, name.next, Levels { left: Levels::MOST })
@@ -207,11 +218,10 @@ fn see_argument(s: &[u8], names: &[u32], items: &[u32], c: Cursor) -> Seen
 // Past n arguments.
 fn see_arguments(s: &[u8], names: &[u32], items: &[u32], c: Cursor, n: u32) -> Seen
     requires { ⌜ Whole (now s) (now names) (now items) ⌝ }
-    ensures {
-        λ r. ⌜ Sees (any (λ x. anyNamed (isFunctionAt (now (s .entry)) (now (names .entry)) (now (items .entry))) (x .type)))
-            (many n (argumentOf (namesAt (now (s .entry)) (now (names .entry))) (length (now (items .entry))))
-                (now (s .entry)) (c .at)) r ⌝
-    }
+    ensures { λ r. ⌜ Sees
+        (any (λ x. anyNamed (isFunctionAt (now (s .entry)) (now (names .entry)) (now (items .entry))) (x .type)))
+        (many n (argumentOf (namesAt (now (s .entry)) (now (names .entry))) (length (now (items .entry))))
+        (now (s .entry)) (c .at)) r ⌝ }
 {
     let mut found = false;
     let mut next = c;
@@ -228,10 +238,8 @@ fn see_arguments(s: &[u8], names: &[u32], items: &[u32], c: Cursor, n: u32) -> S
 // Whether a function's self type is a function.
 fn wrong_owner(s: &[u8], names: &[u32], items: &[u32], f: FunctionView) -> bool
     requires { ⌜ Whole (now s) (now names) (now items) × FunctionAt (now s) (now names) (now items) f ⌝ }
-    ensures {
-        λ r. ⌜ r ≡ any (isFunctionAt (now (s .entry)) (now (names .entry)) (now (items .entry)))
-            (selfType (functionAt (now (s .entry)) (now (names .entry)) (now (items .entry)) (f .number) .form)) ⌝
-    }
+    ensures { λ r. ⌜ r ≡ any (isFunctionAt (now (s .entry)) (now (names .entry)) (now (items .entry)))
+        (selfType (functionAt (now (s .entry)) (now (names .entry)) (now (items .entry)) (f .number) .form)) ⌝ }
 {
     if f.form == 0 {
         return false;
@@ -243,10 +251,8 @@ fn wrong_owner(s: &[u8], names: &[u32], items: &[u32], f: FunctionView) -> bool
 // Whether the type that a function returns names a function.
 fn wrong_result(s: &[u8], names: &[u32], items: &[u32], f: FunctionView) -> bool
     requires { ⌜ Whole (now s) (now names) (now items) × FunctionAt (now s) (now names) (now items) f ⌝ }
-    ensures {
-        λ r. ⌜ r ≡ anyNamedRet (isFunctionAt (now (s .entry)) (now (names .entry)) (now (items .entry)))
-            (functionAt (now (s .entry)) (now (names .entry)) (now (items .entry)) (f .number) .return) ⌝
-    }
+    ensures { λ r. ⌜ r ≡ anyNamedRet (isFunctionAt (now (s .entry)) (now (names .entry)) (now (items .entry)))
+        (functionAt (now (s .entry)) (now (names .entry)) (now (items .entry)) (f .number) .return) ⌝ }
 {
     if f.returns {
         let t = see_type(s, names, items, f.result, Levels { left: Levels::MOST });
@@ -258,10 +264,8 @@ fn wrong_result(s: &[u8], names: &[u32], items: &[u32], f: FunctionView) -> bool
 // Whether an item index of a function names a function.
 fn wrong_function(s: &[u8], names: &[u32], items: &[u32], f: FunctionView) -> bool
     requires { ⌜ Whole (now s) (now names) (now items) × FunctionAt (now s) (now names) (now items) f ⌝ }
-    ensures {
-        λ r. ⌜ r ≡ anyIndex (isFunctionAt (now (s .entry)) (now (names .entry)) (now (items .entry)))
-            (itemAt (itemsAt (now (s .entry)) (now (names .entry)) (now (items .entry))) (f .number) .body) ⌝
-    }
+    ensures { λ r. ⌜ r ≡ anyIndex (isFunctionAt (now (s .entry)) (now (names .entry)) (now (items .entry)))
+        (itemAt (itemsAt (now (s .entry)) (now (names .entry)) (now (items .entry))) (f .number) .body) ⌝ }
 {
     let owner = wrong_owner(s, names, items, f);
     if owner {
@@ -278,10 +282,8 @@ fn wrong_function(s: &[u8], names: &[u32], items: &[u32], f: FunctionView) -> bo
 // Whether an item index of item i names a function.
 fn wrong_item(s: &[u8], names: &[u32], items: &[u32], i: u32) -> bool
     requires { ⌜ Whole (now s) (now names) (now items) × (i < length (now items)) ⌝ }
-    ensures {
-        λ r. ⌜ r ≡ anyIndex (isFunctionAt (now (s .entry)) (now (names .entry)) (now (items .entry)))
-            (itemAt (itemsAt (now (s .entry)) (now (names .entry)) (now (items .entry))) i .body) ⌝
-    }
+    ensures { λ r. ⌜ r ≡ anyIndex (isFunctionAt (now (s .entry)) (now (names .entry)) (now (items .entry)))
+        (itemAt (itemsAt (now (s .entry)) (now (names .entry)) (now (items .entry))) i .body) ⌝ }
 {
     let v = item(s, names, items, i);
     let kind = v.kind;
@@ -360,10 +362,8 @@ fn is_method(form: u32) -> bool
 // Whether the name of a method's argument is `self`.
 fn own_name(s: &[u8], names: &[u32], form: u32, name: u32) -> bool
     requires { ⌜ Named (now s) (now names) × (name < length (now names)) ⌝ }
-    ensures {
-        λ r. ⌜ r ≡ (isMethodForm form &&
-            same (nameAt (now (s .entry)) (getD (now (names .entry)) name 0)) (bytes "self")) ⌝
-    }
+    ensures { λ r. ⌜ r ≡ (isMethodForm form &&
+        same (nameAt (now (s .entry)) (getD (now (names .entry)) name 0)) (bytes "self")) ⌝ }
 {
     let method = is_method(form);
     if method {
@@ -374,16 +374,12 @@ fn own_name(s: &[u8], names: &[u32], form: u32, name: u32) -> bool
 
 // Whether an argument `error` takes the place of the one that a throwing function has.
 fn error_name(s: &[u8], names: &[u32], items: &[u32], throws: bool, name: u32, c: Cursor) -> bool
-    requires {
-        ⌜ Whole (now s) (now names) (now items) × (name < length (now names)) ×
-            Yields (type (length (now items)) (now s) (c .at)) (typeHere (length (now items)) (now s) (c .at)) ⌝
-    }
-    ensures {
-        λ r. ⌜ r ≡ (throws && same (nameAt (now (s .entry)) (getD (now (names .entry)) name 0)) (bytes "error") &&
-            needsIndirectAbi (itemsAt (now (s .entry)) (now (names .entry)) (now (items .entry)))
-                (typeHere (length (now (items .entry))) (now (s .entry)) (c .at)) &&
-            not (isRustString (typeHere (length (now (items .entry))) (now (s .entry)) (c .at)))) ⌝
-    }
+    requires { ⌜ Whole (now s) (now names) (now items) × (name < length (now names)) ×
+        Yields (type (length (now items)) (now s) (c .at)) (typeHere (length (now items)) (now s) (c .at)) ⌝ }
+    ensures { λ r. ⌜ r ≡ (throws && same (nameAt (now (s .entry)) (getD (now (names .entry)) name 0)) (bytes "error") &&
+        needsIndirectAbi (itemsAt (now (s .entry)) (now (names .entry)) (now (items .entry)))
+        (typeHere (length (now (items .entry))) (now (s .entry)) (c .at)) &&
+        not (isRustString (typeHere (length (now (items .entry))) (now (s .entry)) (c .at)))) ⌝ }
 {
     if !throws {
         return false;
@@ -401,17 +397,20 @@ fn error_name(s: &[u8], names: &[u32], items: &[u32], throws: bool, name: u32, c
 }
 
 // Whether argument j of a function is unfit.
-fn unfit_at(s: &[u8], names: &[u32], items: &[u32], f: FunctionView, offsets: &[u32], j: u32) -> bool
-    requires {
-        ⌜ Whole (now s) (now names) (now items) × FunctionAt (now s) (now names) (now items) f ×
-            ArgumentsAt (now s) (now names) (now items) f (now offsets) × (j < f .arguments) ×
-            (f .arguments ≤ length (now offsets)) ⌝
-    }
-    ensures {
-        λ r. ⌜ r ≡ unfit (itemsAt (now (s .entry)) (now (names .entry)) (now (items .entry)))
-            (functionAt (now (s .entry)) (now (names .entry)) (now (items .entry)) (f .number))
-            (argumentAt (now (s .entry)) (now (names .entry)) (now (items .entry)) (f .number) j) ⌝
-    }
+fn unfit_at(
+    s: &[u8],
+    names: &[u32],
+    items: &[u32],
+    f: FunctionView,
+    offsets: &[u32],
+    j: u32,
+) -> bool
+    requires { ⌜ Whole (now s) (now names) (now items) × FunctionAt (now s) (now names) (now items) f ×
+        ArgumentsAt (now s) (now names) (now items) f (now offsets) × (j < f .arguments) ×
+        (f .arguments ≤ length (now offsets)) ⌝ }
+    ensures { λ r. ⌜ r ≡ unfit (itemsAt (now (s .entry)) (now (names .entry)) (now (items .entry)))
+        (functionAt (now (s .entry)) (now (names .entry)) (now (items .entry)) (f .number))
+        (argumentAt (now (s .entry)) (now (names .entry)) (now (items .entry)) (f .number) j) ⌝ }
 {
     let a = argument(s, names, items, f, offsets, j);
     let kind = type_kind(s, items, a.of);
@@ -428,15 +427,11 @@ fn unfit_at(s: &[u8], names: &[u32], items: &[u32], f: FunctionView, offsets: &[
 
 // Whether an argument of a function is unfit, with their positions.
 fn any_unfit(s: &[u8], names: &[u32], items: &[u32], f: FunctionView, offsets: &[u32]) -> bool
-    requires {
-        ⌜ Whole (now s) (now names) (now items) × FunctionAt (now s) (now names) (now items) f ×
-            ArgumentsAt (now s) (now names) (now items) f (now offsets) × (f .arguments ≤ length (now offsets)) ⌝
-    }
-    ensures {
-        λ r. ⌜ r ≡ any (unfit (itemsAt (now (s .entry)) (now (names .entry)) (now (items .entry)))
-            (functionAt (now (s .entry)) (now (names .entry)) (now (items .entry)) (f .number)))
-            (functionAt (now (s .entry)) (now (names .entry)) (now (items .entry)) (f .number) .arguments) ⌝
-    }
+    requires { ⌜ Whole (now s) (now names) (now items) × FunctionAt (now s) (now names) (now items) f ×
+        ArgumentsAt (now s) (now names) (now items) f (now offsets) × (f .arguments ≤ length (now offsets)) ⌝ }
+    ensures { λ r. ⌜ r ≡ any (unfit (itemsAt (now (s .entry)) (now (names .entry)) (now (items .entry)))
+        (functionAt (now (s .entry)) (now (names .entry)) (now (items .entry)) (f .number)))
+        (functionAt (now (s .entry)) (now (names .entry)) (now (items .entry)) (f .number) .arguments) ⌝ }
 {
     let n = f.arguments;
     let mut j: u32 = 0;
@@ -453,11 +448,9 @@ fn any_unfit(s: &[u8], names: &[u32], items: &[u32], f: FunctionView, offsets: &
 // Whether an argument of a function is unfit.
 fn unfit_function(s: &[u8], names: &[u32], items: &[u32], f: FunctionView) -> bool
     requires { ⌜ Whole (now s) (now names) (now items) × FunctionAt (now s) (now names) (now items) f ⌝ }
-    ensures {
-        λ r. ⌜ r ≡ any (unfit (itemsAt (now (s .entry)) (now (names .entry)) (now (items .entry)))
-            (functionAt (now (s .entry)) (now (names .entry)) (now (items .entry)) (f .number)))
-            (functionAt (now (s .entry)) (now (names .entry)) (now (items .entry)) (f .number) .arguments) ⌝
-    }
+    ensures { λ r. ⌜ r ≡ any (unfit (itemsAt (now (s .entry)) (now (names .entry)) (now (items .entry)))
+        (functionAt (now (s .entry)) (now (names .entry)) (now (items .entry)) (f .number)))
+        (functionAt (now (s .entry)) (now (names .entry)) (now (items .entry)) (f .number) .arguments) ⌝ }
 {
     let mut offsets = [0u32; FunctionView::ARGUMENTS];
     fill_arguments(s, names, items, f, &mut offsets);
@@ -467,10 +460,9 @@ fn unfit_function(s: &[u8], names: &[u32], items: &[u32], f: FunctionView) -> bo
 // Whether item i is a function with an unfit argument.
 fn unfit_item(s: &[u8], names: &[u32], items: &[u32], i: u32) -> bool
     requires { ⌜ Whole (now s) (now names) (now items) × (i < length (now items)) ⌝ }
-    ensures {
-        λ r. ⌜ r ≡ any (λ f. any (unfit (itemsAt (now (s .entry)) (now (names .entry)) (now (items .entry))) f) (f .arguments))
-            (functionOf (itemAt (itemsAt (now (s .entry)) (now (names .entry)) (now (items .entry))) i .body)) ⌝
-    }
+    ensures { λ r. ⌜ r ≡ any
+        (λ f. any (unfit (itemsAt (now (s .entry)) (now (names .entry)) (now (items .entry))) f) (f .arguments))
+        (functionOf (itemAt (itemsAt (now (s .entry)) (now (names .entry)) (now (items .entry))) i .body)) ⌝ }
 {
     let v = item(s, names, items, i);
     let kind = v.kind;

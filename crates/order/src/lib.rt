@@ -12,7 +12,8 @@ ghost use Rattle.order.specs.Ordered.{Ordered};
 // Puts the structs in order in front of `out`, and answers where they end, or that there is a ring.
 pub fn order_of(s: &[u8], names: &[u32], items: &[u32], out: &mut [u8; 256]) -> Step
     requires { ⌜ Whole (now s) (now names) (now items) × (length (now out) ≡ 256) ⌝ }
-    ensures { λ r. ⌜ Ordered (itemsAt (now (s .entry)) (now (names .entry)) (now (items .entry))) r (now (out .exit)) ⌝ }
+    ensures { λ r. ⌜ Ordered (itemsAt (now (s .entry)) (now (names .entry)) (now (items .entry))) r
+        (now (out .exit)) ⌝ }
 {
     let mut starts = [0u16; 257];
     let mut held = [0u8; 16065];

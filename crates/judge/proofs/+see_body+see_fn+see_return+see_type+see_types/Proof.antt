@@ -85,15 +85,15 @@ see-types-below t =
 
 abbrev K-see-body : ℕ → see-body-lts.Claims
 K-see-body t = (
-      field-reads.Asked,
-      field-reads.Learnt,
-      see-index-reads.Asked,
-      see-index-reads.Learnt,
-      see-type-below t,
-      see-type.Post,
-      see-fn-below t,
-      see-fn.Post,
-    )
+  field-reads.Asked,
+  field-reads.Learnt,
+  see-index-reads.Asked,
+  see-index-reads.Learnt,
+  see-type-below t,
+  see-type.Post,
+  see-fn-below t,
+  see-fn.Post,
+)
 
 see-body-field-requires : (t : ℕ) → see-body-lts.Need-field-requires (K-see-body t) (see-body-at t) see-body.Post
 see-body-field-requires t c κs = (c .before .before .before .before .before .pre .1 .named .limited, omega arith)
@@ -145,15 +145,15 @@ see-body-returns-8 t c = rw (c .enum-told8 .given .1) (sees-none (λ x m e. let 
 
 abbrev K-see-fn : ℕ → see-fn-lts.Claims
 K-see-fn t = (
-      see-return-below t,
-      see-return.Post,
-      field-reads.Asked,
-      field-reads.Learnt,
-      see-types-below t,
-      see-types.Post,
-      either-reads.Asked,
-      either-reads.Learnt,
-    )
+  see-return-below t,
+  see-return.Post,
+  field-reads.Asked,
+  field-reads.Learnt,
+  see-types-below t,
+  see-types.Post,
+  either-reads.Asked,
+  either-reads.Learnt,
+)
 
 see-fn-see-return-requires : (t : ℕ) → see-fn-lts.Need-see-return-requires (K-see-fn t) (see-fn-at t) see-fn.Post
 see-fn-see-return-requires t c κs = (omega arith, c .before .before .before .pre .1)
@@ -169,11 +169,11 @@ see-fn-returns t c = fn-seen _ (length (c .before .before .before .before .befor
 
 abbrev K-see-return : ℕ → see-return-lts.Claims
 K-see-return t = (
-      field-reads.Asked,
-      field-reads.Learnt,
-      see-type-below t,
-      see-type.Post,
-    )
+  field-reads.Asked,
+  field-reads.Learnt,
+  see-type-below t,
+  see-type.Post,
+)
 
 see-return-field-requires : (t : ℕ) → see-return-lts.Need-field-requires (K-see-return t) (see-return-at t) see-return.Post
 see-return-field-requires t c κs = (c .before .before .before .pre .1 .named .limited, omega arith)
@@ -189,13 +189,13 @@ see-return-returns-2 t c = return-none _ 0 (typeAt (length (c .before .before .b
 
 abbrev K-see-type : ℕ → see-type-lts.Claims
 K-see-type t = (
-      field-reads.Asked,
-      field-reads.Learnt,
-      kind-of-reads.Asked,
-      kind-of-reads.Learnt,
-      see-body-below t,
-      see-body.Post,
-    )
+  field-reads.Asked,
+  field-reads.Learnt,
+  kind-of-reads.Asked,
+  kind-of-reads.Learnt,
+  see-body-below t,
+  see-body.Post,
+)
 
 see-type-field-requires : (t : ℕ) → see-type-lts.Need-field-requires (K-see-type t) (see-type-at t) see-type.Post
 see-type-field-requires t c κs = (c .before .before .before .pre .1 .named .limited, omega arith)
@@ -239,53 +239,53 @@ pub +see-body+see-fn+see-return+see-type+see-types-spec : {M : Type 1} → state
     μ-see-type
     μ-see-types
     (λ t. see-body-lts.spec (K-see-body t) (see-body-at t) see-body.Post
-        (λ c. search needs)
-        (see-body-field-requires t)
-        (λ c. search needs)
-        (see-body-see-index-requires t)
-        (λ c. search needs)
-        (see-body-see-type-requires t)
-        (λ c. search needs)
-        (see-body-field-requires-2 t)
-        (see-body-see-type-requires-2 t)
-        (λ c. search needs)
-        (λ c. search needs)
-        (see-body-see-fn-requires t)
-        (λ c. search needs)
-        (see-body-see-type-requires-3 t)
-        (see-body-field-requires-3 t)
-        (λ c. search needs)
-        (see-body-returns t)
-        (see-body-returns-2 t)
-        (see-body-returns-3 t)
-        (see-body-returns-4 t)
-        (see-body-returns-5 t)
-        (see-body-returns-6 t)
-        (see-body-returns-7 t)
-        (see-body-returns-8 t))
+    (λ c. search needs)
+    (see-body-field-requires t)
+    (λ c. search needs)
+    (see-body-see-index-requires t)
+    (λ c. search needs)
+    (see-body-see-type-requires t)
+    (λ c. search needs)
+    (see-body-field-requires-2 t)
+    (see-body-see-type-requires-2 t)
+    (λ c. search needs)
+    (λ c. search needs)
+    (see-body-see-fn-requires t)
+    (λ c. search needs)
+    (see-body-see-type-requires-3 t)
+    (see-body-field-requires-3 t)
+    (λ c. search needs)
+    (see-body-returns t)
+    (see-body-returns-2 t)
+    (see-body-returns-3 t)
+    (see-body-returns-4 t)
+    (see-body-returns-5 t)
+    (see-body-returns-6 t)
+    (see-body-returns-7 t)
+    (see-body-returns-8 t))
     (λ t. see-fn-lts.spec (K-see-fn t) (see-fn-at t) see-fn.Post
-        (see-fn-see-return-requires t)
-        (see-fn-field-requires t)
-        (see-fn-see-types-requires t)
-        (λ c κs. search needs)
-        (see-fn-returns t))
+    (see-fn-see-return-requires t)
+    (see-fn-field-requires t)
+    (see-fn-see-types-requires t)
+    (λ c κs. search needs)
+    (see-fn-returns t))
     (λ t. see-return-lts.spec (K-see-return t) (see-return-at t) see-return.Post
-        (see-return-field-requires t)
-        (see-return-see-type-requires t)
-        (see-return-returns t)
-        (see-return-returns-2 t))
+    (see-return-field-requires t)
+    (see-return-see-type-requires t)
+    (see-return-returns t)
+    (see-return-returns-2 t))
     (λ t. see-type-lts.spec (K-see-type t) (see-type-at t) see-type.Post
-        (see-type-field-requires t)
-        (see-type-returns t)
-        (λ c. omega arith)
-        (λ c κs. search needs)
-        (see-type-see-body-requires t)
-        (see-type-returns-2 t))
+    (see-type-field-requires t)
+    (see-type-returns t)
+    (λ c. omega arith)
+    (λ c κs. search needs)
+    (see-type-see-body-requires t)
+    (see-type-returns-2 t))
     (λ t. see-types-lts.spec (K-see-types t) (see-types-at t) see-types.Post see-types-Inv-loop see-types-μ-loop
-        (see-types-loop-holds t)
-        (see-types-see-type-requires t)
-        (λ c κs. search needs)
-        (λ c. omega arith)
-        (λ c. omega arith)
-        (see-types-loop-again t)
-        (see-types-returns t))
+    (see-types-loop-holds t)
+    (see-types-see-type-requires t)
+    (λ c κs. search needs)
+    (λ c. omega arith)
+    (λ c. omega arith)
+    (see-types-loop-again t)
+    (see-types-returns t))

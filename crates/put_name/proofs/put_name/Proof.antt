@@ -1,0 +1,21 @@
+use borrow.Author.Needs.{needs}
+use native.Mathlib.Omega.{arith}
+use Rattle.sink.proofs.SinkLaws.{wrote-as}
+use Rattle.put_name.proofs.CharLaws.{name-chars, name-is}
+use Rattle.put_name.proofs.put_name.Statement.{statement}
+use Rattle.put_name.proofs.put_name.Tie as tie
+
+put-chars-requires : tie.Need-put-chars-requires
+put-chars-requires c κs = rw (name-is _ _ (c .before .before .before .before .pre .1) (c .before .field .ensures)) (omega arith, name-chars _ _ (c .before .before .before .before .pre .1) (c .before .field .ensures))
+
+returns : tie.Need-returns
+returns c = wrote-as (c .before .before .put-chars .ensures) (name-is _ _ (c .before .before .before .before .before .before .before .pre .1) (c .before .before .before .before .field .ensures))
+
+pub put-name-spec : {M : Type 1} → statement M
+put-name-spec =
+    tie.close
+    (tie.spec
+    (λ c κs. search needs)
+    put-chars-requires
+    (λ c. search needs)
+    returns)

@@ -1,0 +1,3 @@
+mod ListLaws
+pub mod Legal
+pub mod ServeLaws
