@@ -118,8 +118,8 @@ fn same_symbol(
         (symbolOf (itemsAt (now (s .entry)) (now (names .entry)) (now (items .entry)))
         (itemNo (now (s .entry)) (now (names .entry)) (now (items .entry)) (w .number))) ⌝ }
 {
-    let beside = same_namespace(s, names, items, digests, v, w);
-    if !beside {
+    let near = same_namespace(s, names, items, digests, v, w);
+    if !near {
         return false;
     }
     let f = function(s, names, items, v);

@@ -1,0 +1,3 @@
+mod ReservedLaws
+mod ArgumentLaws
+mod TakenLaws

@@ -1,0 +1,30 @@
+use borrow.Author.Needs.{needs}
+use Rattle.taken.proofs.TakenLaws.{taken-reserved, taken-clash, taken-argument}
+use Rattle.taken.proofs.taken.Statement.{statement}
+use Rattle.taken.proofs.taken.Tie as tie
+
+returns : tie.Need-returns
+returns c = taken-reserved _ (c .before .reserved .ensures) (c .if1 .taken)
+
+name-clash-requires : tie.Need-name-clash-requires
+name-clash-requires c κs = record { whole = c .before .before .before .before .before .before .pre .0; digested = c .before .before .before .before .before .before .pre .1 }
+
+returns-2 : tie.Need-returns-2
+returns-2 c = taken-clash _ (c .before .before .before .reserved .ensures) (c .before .before .if1 .left) (c .before .name-clash .ensures) (c .if2 .taken)
+
+repeats-requires : tie.Need-repeats-requires
+repeats-requires c κs = record { whole = c .before .before .before .before .before .before .before .before .pre .0; digested = c .before .before .before .before .before .before .before .before .pre .1 }
+
+returns-3 : tie.Need-returns-3
+returns-3 c = taken-argument _ (c .before .before .before .before .reserved .ensures) (c .before .before .before .if1 .left) (c .before .before .name-clash .ensures) (c .before .if2 .left) (c .repeats .ensures)
+
+pub taken-spec : {M : Type 1} → statement M
+taken-spec =
+    tie.close
+    (tie.spec
+    (λ c κs. search needs)
+    returns
+    name-clash-requires
+    returns-2
+    repeats-requires
+    returns-3)
