@@ -24,6 +24,9 @@ pub use refusal::Refusal;
 /// Whether the static library was found.
 pub const HAVE_LIBRARY: bool = cfg!(bridgetext_library);
 
+/// Whether it lists struct orders.
+pub const HAVE_STRUCT_ORDER: bool = cfg!(bridgetext_struct_order);
+
 /// Checks a sheet: any bytes of any length.
 pub fn check(sheet: &[u8]) -> Result<(), Refusal> {
     match answer(library::check(sheet))? {

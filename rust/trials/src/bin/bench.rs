@@ -107,6 +107,9 @@ fn checks(runs: usize) -> Result<(), String> {
 }
 
 fn orders(runs: usize) -> Result<(), String> {
+    if !bridgetext::HAVE_STRUCT_ORDER {
+        return Ok(());
+    }
     if !oracle::HAVE_SOURCE {
         eprintln!("bench: no cxx-build source (set CXX_BUILD_SRC), so no `sort` to time");
         return Ok(());

@@ -30,7 +30,9 @@ fn main() -> ExitCode {
             let _ = black_box(bridgetext::check(sheet));
         }),
         deepest(|sheet| {
-            let _ = black_box(bridgetext::struct_order(sheet, &mut buffer));
+            if bridgetext::HAVE_STRUCT_ORDER {
+                let _ = black_box(bridgetext::struct_order(sheet, &mut buffer));
+            }
         }),
         deepest(|sheet| {
             black_box(sheet::check(sheet));
