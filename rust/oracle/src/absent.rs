@@ -22,6 +22,10 @@ pub fn struct_order(_sheet: &Sheet) -> Vec<u8> {
     panic!("{SKIPPED}")
 }
 
+pub fn with_sort<T>(_sheet: &Sheet, _measure: impl FnOnce(&dyn Fn() -> usize) -> T) -> T {
+    panic!("{SKIPPED}")
+}
+
 pub fn facts(_sheet: &Sheet) -> Facts {
     panic!("{SKIPPED}")
 }

@@ -3,6 +3,7 @@
 use crate::bridge::{Opt, write};
 use crate::syntax::attrs::OtherAttrs;
 use crate::syntax::cfg::CfgExpr;
+use crate::syntax::check::sort;
 use crate::syntax::namespace::Namespace;
 use crate::syntax::report::Errors;
 use crate::syntax::{
@@ -41,6 +42,14 @@ pub fn struct_order(sheet: &Sheet) -> Vec<u8> {
             .iter()
             .map(|strct| number(strct))
             .collect()
+    })
+}
+
+/// For measurements: hands over a run of `sort` alone, on the sheet's finished
+/// syntax tree; the run says how many structs it has sorted.
+pub fn with_sort<T>(sheet: &Sheet, measure: impl FnOnce(&dyn Fn() -> usize) -> T) -> T {
+    with_types(sheet, |apis, types, _| {
+        measure(&|| sort(&mut Errors::new(), apis, types).len())
     })
 }
 

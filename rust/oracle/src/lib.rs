@@ -21,7 +21,7 @@ use absent as judge;
 pub mod compare;
 pub mod vectors;
 
-pub use judge::{Facts, facts, struct_order, text, text_by_write_functions};
+pub use judge::{Facts, facts, struct_order, text, text_by_write_functions, with_sort};
 
 /// Whether the crate's source was found.
 pub const HAVE_SOURCE: bool = cfg!(cxx_build_source);

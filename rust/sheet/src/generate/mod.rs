@@ -33,9 +33,15 @@ pub fn any(rng: &mut Rng) -> Vec<u8> {
     }
 }
 
-/// A good sheet with flipped bits, cut short, grown, or with bytes replaced.
+/// A good sheet, damaged.
 pub fn damaged(rng: &mut Rng) -> Vec<u8> {
     let mut bytes = encode(&good(rng));
+    damage(rng, &mut bytes);
+    bytes
+}
+
+/// Flips bits, cuts short, lets grow, or replaces bytes.
+pub fn damage(rng: &mut Rng, bytes: &mut Vec<u8>) {
     for _ in 0..rng.between(1, 3) {
         match rng.below(6) {
             0 => bytes.truncate(rng.below(bytes.len() + 1)),
@@ -55,7 +61,6 @@ pub fn damaged(rng: &mut Rng) -> Vec<u8> {
             _ => {}
         }
     }
-    bytes
 }
 
 /// A few random bytes, mostly behind a whole edition.

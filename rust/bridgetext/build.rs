@@ -1,0 +1,38 @@
+//! Links the archive of the proved services, if it is there.
+
+use std::env;
+use std::fs;
+use std::path::{Path, PathBuf};
+
+fn main() {
+    println!("cargo::rustc-check-cfg=cfg(bridgetext_library, bridgetext_struct_order)");
+    println!("cargo::rerun-if-env-changed=BRIDGETEXT_LIB_DIR");
+    println!("cargo::rerun-if-env-changed=BRIDGETEXT_REQUIRED");
+
+    let folder = match env::var_os("BRIDGETEXT_LIB_DIR") {
+        Some(path) => PathBuf::from(path),
+        None => {
+            PathBuf::from(env::var_os("CARGO_MANIFEST_DIR").unwrap()).join("../../target/staticlib")
+        }
+    };
+    let archive = folder.join("libexports.a");
+    println!("cargo::rerun-if-changed={}", archive.display());
+    if archive.is_file() {
+        println!("cargo::rustc-link-search=native={}", folder.display());
+        println!("cargo::rustc-link-lib=static=exports");
+        println!("cargo::rustc-cfg=bridgetext_library");
+        if has_symbol(&archive, b"bridgetext_struct_order") {
+            println!("cargo::rustc-cfg=bridgetext_struct_order");
+        }
+    } else if env::var_os("BRIDGETEXT_REQUIRED").is_some_and(|value| value == "1") {
+        println!(
+            "cargo::error=no library {} (run rt staticlib exports)",
+            archive.display()
+        );
+    }
+}
+
+/// Whether the archive names the symbol.
+fn has_symbol(archive: &Path, symbol: &[u8]) -> bool {
+    fs::read(archive).is_ok_and(|bytes| bytes.windows(symbol.len()).any(|part| part == symbol))
+}

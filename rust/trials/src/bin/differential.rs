@@ -1,0 +1,151 @@
+//! `differential`: generated and damaged sheets through the proved services.
+
+use sheet::{Rng, encode, generate};
+use std::fmt::{self, Display};
+use std::io::{self, Write};
+use std::panic;
+use std::process::ExitCode;
+use std::time::Instant;
+use trials::{compare, sheets};
+
+const USAGE: &str = "usage: differential [--count N] [--seed S] [--service check|order]
+
+Generates N sheets (100000 unless given) from the seed (1 unless given), after
+some 300 fixed ones at the limits, and puts each through both services, or the
+one that is named. A check is compared with the Rust check. The struct order is
+asked for with buffers of every length around the list's, and each answer and
+every byte in and around the buffer are compared with the crate's `sort`; its
+sheets have many structs. Prints how many had which answer.
+
+Exit code: 0 all agree, 1 a difference or a panic (the sheet is printed as
+hex), 2 wrong use or no library.";
+
+fn main() -> ExitCode {
+    let Some(options) = Options::read() else {
+        eprintln!("{USAGE}");
+        return ExitCode::from(2);
+    };
+    if !bridgetext::HAVE_LIBRARY {
+        eprintln!("differential: no library (run rt staticlib exports and build again)");
+        return ExitCode::from(2);
+    }
+    if options.order && !oracle::HAVE_SOURCE {
+        eprintln!("differential: no cxx-build source, so the order is that of a plain walk");
+    }
+    let start = Instant::now();
+    let mut totals = Totals::default();
+    let fixed = generate::boundaries()
+        .into_iter()
+        .chain(generate::signatures());
+    let fixed = fixed.map(|(_, sheet)| sheet);
+    let first = Rng::new(options.seed).next_u64();
+    let generated = (0..options.count).map(|number| {
+        let mut rng = Rng::new(first.wrapping_add(number));
+        options.sheet(&mut rng)
+    });
+    for sheet in fixed.chain(generated) {
+        let run = panic::AssertUnwindSafe(|| totals.run(&options, &sheet));
+        let result = panic::catch_unwind(run).unwrap_or_else(|_| Err("a panic".into()));
+        if let Err(error) = result {
+            let hex: String = sheet.iter().map(|byte| format!("{byte:02x}")).collect();
+            eprintln!("differential: {error}\n{hex}");
+            return ExitCode::FAILURE;
+        }
+    }
+    let seconds = start.elapsed().as_secs_f64();
+    match writeln!(io::stdout(), "{totals}seconds       {seconds:.1}") {
+        Ok(()) => ExitCode::SUCCESS,
+        Err(_) => ExitCode::FAILURE,
+    }
+}
+
+struct Options {
+    count: u64,
+    seed: u64,
+    check: bool,
+    order: bool,
+}
+
+impl Options {
+    fn read() -> Option<Self> {
+        let mut options = Options {
+            count: 100_000,
+            seed: 1,
+            check: true,
+            order: true,
+        };
+        let mut args = std::env::args().skip(1);
+        while let Some(flag) = args.next() {
+            let value = args.next()?;
+            match (flag.as_str(), value.as_str()) {
+                ("--count", _) => options.count = value.parse().ok()?,
+                ("--seed", _) => options.seed = value.parse().ok()?,
+                ("--service", "check") => options.order = false,
+                ("--service", "order") => options.check = false,
+                _ => return None,
+            }
+        }
+        (options.check || options.order).then_some(options)
+    }
+
+    fn sheet(&self, rng: &mut Rng) -> Vec<u8> {
+        if !self.order || rng.one_in(4) {
+            return generate::any(rng);
+        }
+        let mut sheet = encode(&sheets::structs(rng));
+        if rng.one_in(6) {
+            generate::damage(rng, &mut sheet);
+        }
+        sheet
+    }
+}
+
+#[derive(Default)]
+struct Totals {
+    answers: [u64; 13],
+    sheet_bytes: usize,
+    structs: usize,
+    longest: usize,
+    calls: usize,
+    overruns: u64,
+}
+
+impl Totals {
+    fn run(&mut self, options: &Options, sheet: &[u8]) -> Result<(), String> {
+        let mut answer = sheet::check(sheet);
+        if options.check {
+            answer = compare::check(sheet)?;
+        }
+        if options.order {
+            let order = compare::wanted_order(sheet);
+            let list = order.as_ref().map_or(0, Vec::len);
+            let mut lengths = compare::lengths(&order, 400);
+            lengths.extend([list.saturating_sub(2), list + 2, list / 2]);
+            self.overruns += compare::struct_order(sheet, &order, &lengths)?;
+            self.calls += 2 * lengths.len();
+            self.structs += list;
+            self.longest = self.longest.max(list);
+        }
+        self.answers[usize::from(answer)] += 1;
+        self.sheet_bytes += sheet.len();
+        Ok(())
+    }
+}
+
+impl Display for Totals {
+    fn fmt(&self, out: &mut fmt::Formatter) -> fmt::Result {
+        writeln!(out, "sheets        {}", self.answers.iter().sum::<u64>())?;
+        writeln!(out, "accepted      {}", self.answers[0])?;
+        for (number, count) in self.answers.iter().enumerate().skip(1) {
+            writeln!(out, "refused {number:2}    {count}")?;
+        }
+        writeln!(out, "sheet bytes   {}", self.sheet_bytes)?;
+        if self.calls > 0 {
+            writeln!(out, "buffers       {}", self.calls)?;
+            writeln!(out, "overruns (13) {}", self.overruns)?;
+            writeln!(out, "structs       {}", self.structs)?;
+            writeln!(out, "longest list  {}", self.longest)?;
+        }
+        Ok(())
+    }
+}

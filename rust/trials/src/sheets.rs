@@ -1,0 +1,229 @@
+//! Sheets for the trials: many structs from a seed, and fixed large ones.
+
+use sheet::{
+    Arg, Form, Function, Item, ItemIndex, Kind, NameIndex, Rng, Sheet, Type, generate, limit,
+};
+
+/// A sheet of structs that hold one another, among other items: chains,
+/// diamonds, stars, forests, many fields; one in twelve may have a ring.
+pub fn structs(rng: &mut Rng) -> Sheet {
+    let (count, others) = match rng.below(60) {
+        0 => (limit::ITEMS, 0),
+        1 => (rng.between(100, 200), rng.below(50)),
+        2..=9 => (rng.between(16, 60), rng.below(20)),
+        _ => (rng.between(1, 15), rng.below(6)),
+    };
+    let mut held: Vec<Vec<usize>> = vec![Vec::new(); count];
+    match rng.below(7) {
+        // A chain, and diamonds one behind the other.
+        0 => (1..count).for_each(|i| held[i - 1].push(i)),
+        1 => (0..count).for_each(|i| held[i].extend([i + 1, i + 2].iter().filter(|j| **j < count))),
+        // A star, seen from its centre or from its points.
+        2 => held[0].extend(1..count.min(limit::FIELDS)),
+        3 => (1..count).for_each(|i| held[i - 1].push(count - 1)),
+        // A forest: each is held by at most one that comes before it.
+        4 => {
+            for i in 1..count {
+                if !rng.one_in(5) {
+                    held[rng.below(i)].push(i);
+                }
+            }
+        }
+        // Anything that goes upwards, with few fields and with as many as fit.
+        shape => {
+            let most = if shape == 5 { 4 } else { limit::FIELDS };
+            for (i, held) in held.iter_mut().enumerate().take(count - 1) {
+                let fields = rng.below(most + 1);
+                held.extend((0..fields).map(|_| rng.between(i + 1, count - 1)));
+            }
+        }
+    }
+    if rng.one_in(12) {
+        let low = rng.below(count);
+        held[rng.between(low, count - 1)].push(low);
+    }
+
+    let place = shuffled(rng, count + others);
+    let named = |item: usize| Type::Named(place[item] as ItemIndex);
+    let mut sheet = Sheet::empty();
+    let words = (0..count + others).map(|i| format!("S{i}").into_bytes());
+    sheet.names = words.collect();
+    let mut items = vec![None; count + others];
+    for i in 0..count + others {
+        let kind = match held.get(i) {
+            Some(held) => {
+                let mut fields = Vec::new();
+                for other in held {
+                    // Behind a box or an array nothing is held by name.
+                    match rng.below(16) {
+                        0 => fields.push(Type::RustBox(Box::new(named(rng.below(count))))),
+                        1 => fields.push(array(named(rng.below(count)))),
+                        2 => fields.push(Type::Atom(rng.below(16) as u8)),
+                        _ => {}
+                    }
+                    fields.push(named(*other));
+                }
+                fields.truncate(limit::FIELDS);
+                struct_of(fields)
+            }
+            None => other(rng, i as NameIndex),
+        };
+        let namespace = if rng.one_in(3) { vec![0] } else { Vec::new() };
+        items[place[i]] = Some(Item {
+            namespace,
+            name: i as NameIndex,
+            kind,
+        });
+    }
+    sheet.items = items.into_iter().flatten().collect();
+    sheet
+}
+
+fn other(rng: &mut Rng, name: NameIndex) -> Kind {
+    let pointer = rng.bit();
+    match rng.below(4) {
+        0 => Kind::Enum {
+            pointer,
+            atom: 2,
+            cxx: rng.bit(),
+        },
+        1 => Kind::CxxType { pointer },
+        2 => Kind::RustType { pointer },
+        _ => function(name, Vec::new()),
+    }
+}
+
+fn array(inner: Type) -> Type {
+    Type::Array {
+        inner: Box::new(inner),
+        len: 2,
+    }
+}
+
+fn struct_of(fields: Vec<Type>) -> Kind {
+    Kind::Struct {
+        pointer: true,
+        fields,
+    }
+}
+
+fn function(rust_name: NameIndex, args: Vec<Arg>) -> Kind {
+    Kind::Function(Function {
+        rust_name,
+        form: Form::Free,
+        throws: false,
+        ret: Some(Type::Atom(4)),
+        args,
+        comment: Vec::new(),
+    })
+}
+
+fn shuffled(rng: &mut Rng, count: usize) -> Vec<usize> {
+    let mut order: Vec<usize> = (0..count).collect();
+    for i in (1..count).rev() {
+        order.swap(i, rng.below(i + 1));
+    }
+    order
+}
+
+/// A sheet at the limits, by its label in `sheet`.
+pub fn boundary(label: &str) -> Vec<u8> {
+    let mut all = generate::boundaries().into_iter();
+    all.find(|(other, _)| other == label).unwrap().1
+}
+
+/// 1,023 names of 20 characters, nearly all in use: 255 types, each in three
+/// namespaces of its own.
+pub fn many_names() -> Sheet {
+    let mut sheet = Sheet::empty();
+    let words = (0..limit::NAMES).map(|i| format!("part_of_a_mill__{i:04}").into_bytes());
+    sheet.names = words.collect();
+    let items = (0..limit::ITEMS as NameIndex).map(|i| Item {
+        namespace: vec![4 * i, 4 * i + 1, 4 * i + 2],
+        name: 4 * i + 3,
+        kind: Kind::CxxType { pointer: true },
+    });
+    sheet.items = items.collect();
+    sheet
+}
+
+/// 255 functions with this many arguments.
+pub fn functions(arguments: usize) -> Sheet {
+    let inner = |atom| Box::new(Type::Atom(atom));
+    let types = [
+        Type::Atom(4),
+        Type::Str,
+        Type::Ref {
+            mutable: false,
+            inner: inner(14),
+        },
+        Type::RustVec(inner(5)),
+        Type::SliceRef {
+            mutable: true,
+            inner: inner(2),
+        },
+        Type::RustBox(inner(15)),
+        Type::UniquePtr(inner(14)),
+        Type::Atom(15),
+    ];
+    let mut sheet = Sheet::empty();
+    let words = (0..limit::ITEMS).map(|i| format!("spindle_{i:03}").into_bytes());
+    sheet.names = words.collect();
+    let items = (0..limit::ITEMS as NameIndex).map(|i| {
+        let args = (0..arguments).map(|number| Arg {
+            name: (usize::from(i) + number) as NameIndex % limit::ITEMS as NameIndex,
+            ty: types[number % types.len()].clone(),
+        });
+        Item {
+            namespace: Vec::new(),
+            name: i,
+            kind: function(i, args.collect()),
+        }
+    });
+    sheet.items = items.collect();
+    sheet
+}
+
+/// 255 structs; `held` says which ones a struct holds.
+fn all_structs(held: impl Fn(usize) -> Vec<usize>) -> Sheet {
+    let mut sheet = Sheet::empty();
+    let words = (0..limit::ITEMS).map(|i| format!("block_{i:03}").into_bytes());
+    sheet.names = words.collect();
+    let items = (0..limit::ITEMS).map(|i| Item {
+        namespace: Vec::new(),
+        name: i as NameIndex,
+        kind: struct_of(
+            held(i)
+                .into_iter()
+                .map(|j| Type::Named(j as ItemIndex))
+                .collect(),
+        ),
+    });
+    sheet.items = items.collect();
+    sheet
+}
+
+/// 255 structs, each holding the next: the deepest walk.
+pub fn chain() -> Sheet {
+    all_structs(|i| (i + 1..limit::ITEMS).take(1).collect())
+}
+
+/// 255 structs, each holding the one before: no walk goes deeper than one step.
+pub fn chain_backwards() -> Sheet {
+    all_structs(|i| (0..i).rev().take(1).collect())
+}
+
+/// 255 structs, each holding the next two.
+pub fn diamonds() -> Sheet {
+    all_structs(|i| (i + 1..limit::ITEMS).take(2).collect())
+}
+
+/// 255 structs that hold none.
+pub fn apart() -> Sheet {
+    all_structs(|_| Vec::new())
+}
+
+/// 255 structs, each holding the next 63, those near the end fewer.
+pub fn dense() -> Sheet {
+    all_structs(|i| (i + 1..limit::ITEMS).take(limit::FIELDS).collect())
+}

@@ -1,0 +1,100 @@
+//! Generated and damaged sheets: the services agree with the Rust check and the
+//! crate's `sort`. The program `differential` runs more of them.
+
+use sheet::{Rng, decode, desc, encode, generate};
+use trials::{compare, sheets};
+
+fn both(sheet: &[u8]) -> Result<u8, String> {
+    let answer = compare::check(sheet)?;
+    let order = compare::wanted_order(sheet);
+    compare::struct_order(sheet, &order, &compare::lengths(&order, 400))?;
+    Ok(answer)
+}
+
+#[test]
+fn limits_and_signatures() {
+    if trials::skipped() {
+        return;
+    }
+    let fixed = generate::boundaries().into_iter();
+    for (label, sheet) in fixed.chain(generate::signatures()) {
+        if let Err(error) = both(&sheet) {
+            panic!("{label}: {error}");
+        }
+    }
+}
+
+#[test]
+fn large_sheets() {
+    if trials::skipped() {
+        return;
+    }
+    let large = [
+        sheets::many_names(),
+        sheets::functions(8),
+        sheets::functions(31),
+        sheets::apart(),
+        sheets::chain(),
+        sheets::chain_backwards(),
+        sheets::diamonds(),
+        sheets::dense(),
+    ];
+    for (number, sheet) in large.iter().enumerate() {
+        assert_eq!(both(&encode(sheet)), Ok(0), "sheet {number}");
+    }
+}
+
+#[test]
+fn generated_sheets() {
+    if trials::skipped() {
+        return;
+    }
+    let mut rng = Rng::new(1);
+    let mut answers = [0; 13];
+    for _ in 0..16_000 {
+        let sheet = generate::any(&mut rng);
+        match both(&sheet) {
+            Ok(answer) => answers[usize::from(answer)] += 1,
+            Err(error) => panic!("{error}\n{}", desc::hex(&sheet)),
+        }
+    }
+    assert!(answers.iter().all(|count| *count > 100), "{answers:?}");
+}
+
+#[test]
+fn many_structs() {
+    if trials::skipped() {
+        return;
+    }
+    let mut rng = Rng::new(2);
+    for number in 0..4_000 {
+        let mut sheet = encode(&sheets::structs(&mut rng));
+        if number % 8 == 0 {
+            generate::damage(&mut rng, &mut sheet);
+        }
+        if let Err(error) = both(&sheet) {
+            panic!("{error}\n{}", desc::hex(&sheet));
+        }
+    }
+}
+
+/// What stands in for the crate's `sort` where its source is not at hand.
+#[test]
+fn the_plain_order_is_that_of_sort() {
+    if oracle::skipped() {
+        return;
+    }
+    let mut rng = Rng::new(3);
+    let mut accepted = 0;
+    for _ in 0..3_000 {
+        let sheet = sheets::structs(&mut rng);
+        let bytes = encode(&sheet);
+        if sheet::check(&bytes) != 0 {
+            continue;
+        }
+        accepted += 1;
+        assert_eq!(decode(&bytes).unwrap(), sheet);
+        assert_eq!(compare::plain_order(&sheet), oracle::struct_order(&sheet));
+    }
+    assert!(accepted > 2_500, "{accepted}");
+}

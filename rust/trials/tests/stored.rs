@@ -1,0 +1,31 @@
+//! Every entry of the stored list.
+
+use oracle::vectors::parse;
+use std::fs;
+use std::path::Path;
+use trials::compare;
+
+#[test]
+fn stored_answers_and_orders() {
+    if trials::skipped() {
+        return;
+    }
+    let path = Path::new(env!("CARGO_MANIFEST_DIR")).join("../../vectors/vectors.bin");
+    let records = parse(&fs::read(path).unwrap()).unwrap();
+    let mut overruns = 0;
+    for (number, record) in records.iter().enumerate() {
+        let answer = bridgetext::check(&record.sheet).err();
+        let answer = answer.map_or(0, |refusal| refusal.number());
+        assert_eq!(answer, record.answer, "record {number}");
+        let order = match record.answer {
+            0 => Ok(record.order.clone()),
+            refusal => Err(refusal),
+        };
+        let lengths = compare::lengths(&order, 65_536);
+        match compare::struct_order(&record.sheet, &order, &lengths) {
+            Ok(count) => overruns += count,
+            Err(error) => panic!("record {number}: {error}"),
+        }
+    }
+    assert!(records.len() > 1_000 && overruns > 100, "{overruns}");
+}
