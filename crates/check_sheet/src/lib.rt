@@ -1,0 +1,100 @@
+// The check service: what document 01 answers to any bytes.
+use decode::Decoded;
+use decode::Outline;
+use decode::decode;
+use judge::unfit_argument;
+use judge::wrong_part;
+use order::ring;
+use refusal::Refusal;
+use rules::Checked;
+use taken::taken;
+use view::fill_digests;
+ghost use mathlib.Core.Path.{_≡_};
+ghost use Prim.Native.Nat.{_≤_};
+ghost use lib.ListN.{length};
+ghost use Rattle.format.specs.Decoding.{decode as decodeOf};
+ghost use Rattle.decode.specs.Tables.{Tables, Answers};
+ghost use Rattle.rules.specs.Rules.{taken as takenOf};
+ghost use Rattle.rules.specs.Judge.{check as checkOf};
+ghost use Rattle.view.specs.Values.{itemsAt, Whole};
+ghost use Rattle.check_sheet.specs.Ruled.{ruledItems};
+
+// Rule 10, with room for the digests that it needs.
+fn taken_in(s: &[u8], names: &[u32], items: &[u32], digests: &mut [u32]) -> bool
+    requires { ⌜ Whole (now s) (now names) (now items) × (1023 ≤ length (now digests)) ⌝ }
+    ensures { λ r. ⌜ r ≡ takenOf (itemsAt (now (s .entry)) (now (names .entry)) (now (items .entry))) ⌝ }
+{
+    let n = names.len();
+    fill_digests(s, names, &mut digests[..n]);
+    taken(s, names, items, &digests[..n])
+}
+
+// Rule 10.
+fn is_taken(s: &[u8], names: &[u32], items: &[u32]) -> bool
+    requires { ⌜ Whole (now s) (now names) (now items) ⌝ }
+    ensures { λ r. ⌜ r ≡ takenOf (itemsAt (now (s .entry)) (now (names .entry)) (now (items .entry))) ⌝ }
+{
+    let mut digests = [0u32; Outline::NAMES];
+    taken_in(s, names, items, &mut digests)
+}
+
+// Rules 9 to 12, the lowest number first.
+pub fn judge(s: &[u8], names: &[u32], items: &[u32]) -> Checked
+    requires { ⌜ Whole (now s) (now names) (now items) ⌝ }
+    ensures { λ r. ⌜ r ≡ ruledItems (itemsAt (now (s .entry)) (now (names .entry)) (now (items .entry))) ⌝ }
+{
+    let wrong = wrong_part(s, names, items);
+    if wrong {
+        return Checked::Refused(Refusal::WrongPart);
+    }
+    let repeated = is_taken(s, names, items);
+    if repeated {
+        return Checked::Refused(Refusal::Taken);
+    }
+    let unfit = unfit_argument(s, names, items);
+    if unfit {
+        return Checked::Refused(Refusal::UnfitArgument);
+    }
+    let held = ring(s, names, items);
+    if held {
+        return Checked::Refused(Refusal::Ring);
+    }
+    Checked::Accepted
+}
+
+// A decoded sheet, with the two tables that its decoding filled.
+fn check_decoded(sheet: &[u8], o: Outline, names: &[u32], items: &[u32]) -> Checked
+    requires { ⌜ Tables (now sheet) (decodeOf (now sheet)) o (now names) (now items) ×
+        (1023 ≤ length (now names)) × (255 ≤ length (now items)) ⌝ }
+    ensures { λ r. ⌜ r ≡ checkOf (now (sheet .entry)) ⌝ }
+{
+    let n = o.names as usize;
+    let k = o.items as usize;
+    judge(sheet, &names[..n], &items[..k])
+}
+
+// The answer to a sheet, from that of its decoding.
+fn answer(
+    sheet: &[u8],
+    d: Decoded,
+    names: &[u32; Outline::NAMES],
+    items: &[u32; Outline::ITEMS],
+) -> Checked
+    requires { ⌜ Answers (now sheet) (decodeOf (now sheet)) d (now names) (now items) ⌝ }
+    ensures { λ r. ⌜ r ≡ checkOf (now (sheet .entry)) ⌝ }
+{
+    match d {
+        Decoded::Refused(e) => Checked::Refused(e),
+        Decoded::Whole(o) => check_decoded(sheet, o, names, items),
+    }
+}
+
+// Any bytes: accepted, or the refusal.
+pub fn check(sheet: &[u8]) -> Checked
+    ensures { λ r. ⌜ r ≡ checkOf (now (sheet .entry)) ⌝ }
+{
+    let mut names = [0u32; Outline::NAMES];
+    let mut items = [0u32; Outline::ITEMS];
+    let d = decode(sheet, &mut names, &mut items);
+    answer(sheet, d, &names, &items)
+}
