@@ -27,5 +27,9 @@ fn stored_answers_and_orders() {
             Err(error) => panic!("record {number}: {error}"),
         }
     }
-    assert!(records.len() > 1_000 && overruns > 100, "{overruns}");
+    assert!(records.len() > 1_000, "{}", records.len());
+    assert!(
+        !bridgetext::HAVE_STRUCT_ORDER || overruns > 100,
+        "{overruns}"
+    );
 }
