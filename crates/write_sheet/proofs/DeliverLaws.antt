@@ -1,0 +1,89 @@
+-- From a measuring and a writing pass, and from the rules, to the promise of the service.
+use mathlib.Core.Path.{_≡_, refl, sym, ap, _∙_}
+use mathlib.Core.List.{List, [], _++_}
+use mathlib.Core.Bool.{Bool, true, false}
+use Prim.Native.Nat.{ℕ, _≤_, _<_, _^_}
+use native.Mathlib.Omega.{arith}
+use native.Mathlib.Nat.{le-trans}
+use lib.ListN.{length, take}
+use borrow.Author.Tests.{le-leb, lt-leb}
+use Rattle.refusal.specs.declared.Refusal.{Refusal}
+use Rattle.refusal.specs.declared.Refusal.the-variants.{Overrun, WrongPart, Taken, UnfitArgument, Ring}
+use Rattle.format.specs.Decode.{fault, got, pick}
+use Rattle.format.specs.Sheet.{Sheet}
+use Rattle.format.specs.Decoding.{decode}
+use Rattle.decode.specs.declared.Outline.{Outline}
+use Rattle.decode.specs.Tables.{Tables}
+use Rattle.view.specs.Values.{itemsAt}
+use Rattle.view.proofs.WholeLaws.{items-are}
+use Rattle.rules.specs.declared.Checked.{Checked}
+use Rattle.rules.specs.declared.Checked.the-variants.{Accepted, Refused}
+use Rattle.rules.specs.Rules.{wrongPart, taken, unfitArgument, ring}
+use Rattle.rules.specs.Judge.{Judged, refused, accepted, ruled, judged, judge}
+use Rattle.bridge.specs.Write.{text}
+use Rattle.services.specs.declared.Written.{Written}
+use Rattle.services.specs.declared.Written.the-variants as Written
+use Rattle.services.specs.Services.{Writes}
+use Rattle.sink.specs.Sink.{Sink, sink, Wrote}
+use Rattle.sink.proofs.ServiceLaws.{delivered, too-long}
+use Rattle.check_sheet.specs.Ruled.{ruledItems}
+use Rattle.write_sheet.specs.Delivers.{Delivers, sheetOf, JudgedBy, Judges}
+
+-- ---- the two passes; m is what the measuring pass left of the buffer's empty front
+
+module _ {bytes m : List ℕ} {length₁ : ℕ} (l : List ℕ) (p : Wrote (sink [] 0) bytes (sink m length₁)) where
+  pub deliver-long : length (m ++ l) < length₁ → Delivers bytes l (Written.Refused Overrun) (m ++ l)
+  deliver-long h =
+      let d = too-long l p h in
+      let t = lt-leb (length bytes) (length l) (d .longer) in
+      record { answers = rw t; leaves = rw t (d .kept) }
+
+  pub deliver-fits : {after : List ℕ} {at : ℕ} → length₁ ≤ length (m ++ l) → length l < 2 ^ 63 →
+      Wrote (sink (m ++ l) 0) bytes (sink after at) → Delivers bytes l (Written.Length length₁) after
+  deliver-fits h small q =
+      let d = delivered l p h small q in
+      let t = le-leb (length bytes) (length l) (omega (arith, d .counted, d .within)) in
+      record { answers = rw (t, d .counted); leaves = rw t (d .bytes) }
+
+-- ---- the rules
+
+pub judged-refused : {x : Sheet} (buffer : List ℕ) {e : Refusal} {c : Checked} → c ≡ ruledItems (x .items) →
+    c ≡ Refused e → Judges x buffer (Written.Refused e) buffer
+judged-refused buffer a b = record { is = rw (sym a ∙ b) (refl, refl) }
+
+pub judged-accepted : {x : Sheet} {buffer after : List ℕ} {r : Written} {c : Checked} → c ≡ ruledItems (x .items) →
+    c ≡ Accepted → Delivers (text x) buffer r after → Judges x buffer r after
+judged-accepted a b d = record { is = rw (sym a ∙ b) d }
+
+-- ---- the sheet
+
+pub writes-refused : (s buffer : List ℕ) {e : Refusal} → decode s ≡ fault e → Writes s buffer (Written.Refused e) buffer
+unfolding judge
+writes-refused s buffer h = record { answers = rw h; leaves = rw h }
+
+by-rules : (a b c d : Bool) (x : Sheet) {buffer after : List ℕ} {r : Written} →
+    JudgedBy (pick a (Refused WrongPart) (pick b (Refused Taken) (pick c (Refused UnfitArgument)
+    (pick d (Refused Ring) Accepted)))) x buffer r after →
+    (s : List ℕ) → judge s ≡ pick a (refused WrongPart) (pick b (refused Taken) (pick c (refused UnfitArgument)
+    (pick d (refused Ring) (accepted x)))) → Writes s buffer r after
+by-rules true b c d x h s e = record { answers = rw e (h .0); leaves = rw e (h .1) }
+by-rules false true c d x h s e = record { answers = rw e (h .0); leaves = rw e (h .1) }
+by-rules false false true d x h s e = record { answers = rw e (h .0); leaves = rw e (h .1) }
+by-rules false false false true x h s e = record { answers = rw e (h .0); leaves = rw e (h .1) }
+by-rules false false false false x h s e = record { answers = rw e (h .answers); leaves = rw e (h .leaves) }
+
+pub writes-judged : (s : List ℕ) {x : Sheet} {n : ℕ} {buffer after : List ℕ} {r : Written} → decode s ≡ got x n →
+    Judges x buffer r after → Writes s buffer r after
+unfolding judge ruled ruledItems
+writes-judged s {x} h j =
+    by-rules (wrongPart (x .items)) (taken (x .items)) (unfitArgument (x .items)) (ring (x .items)) x (j .is) s (rw h)
+
+-- a decoded sheet is that of its outline and its two tables
+pub writes-tables : (s : List ℕ) {o : Outline} {names items buffer after : List ℕ} {r : Written} →
+    Tables s (decode s) o names items → 1023 ≤ length names → 255 ≤ length items →
+    Judges (sheetOf (o .header) (o .doxygen) (itemsAt s (take (o .names) names) (take (o .items) items))) buffer r after →
+    Writes s buffer r after
+writes-tables s {o} {names} {items} {buffer} {after} {r} t a b j =
+    writes-judged s (t .items .decoded)
+    (rw (t .items .header, t .items .doxygen,
+    items-are t (le-trans (t .few) a) (le-trans (t .items .few) b)) at j)

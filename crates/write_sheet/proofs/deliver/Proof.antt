@@ -1,0 +1,24 @@
+use borrow.Author.Needs.{needs}
+use native.Mathlib.Omega.{arith}
+use Rattle.write_sheet.proofs.DeliverLaws.{deliver-long, deliver-fits}
+use Rattle.write_sheet.proofs.deliver.Statement.{statement}
+use Rattle.write_sheet.proofs.deliver.Tie as tie
+
+returns : tie.Need-returns
+returns c = deliver-long _ (c .before .before .before .write-text .ensures) (c .if1 .taken)
+
+returns-2 : tie.Need-returns-2
+returns-2 c = deliver-fits _ (c .before .before .before .before .before .before .before .write-text .ensures) (c .before .before .before .before .if1 .left) (omega (arith, c .before .before .before .before .before .before .before .before .before .before .before .before .before .before .good)) (c .before .before .write-text2 .ensures)
+
+pub deliver-spec : {M : Type 1} → statement M
+deliver-spec =
+    tie.close
+    (tie.spec
+    (λ c. search needs)
+    (λ c. search needs)
+    (λ c κs. search needs)
+    (λ c. search needs)
+    returns
+    (λ c κs. search needs)
+    (λ c. search needs)
+    returns-2)

@@ -1,0 +1,148 @@
+// The write service: the text of any bytes that document 01 accepts.
+use check_sheet::judge;
+use decode::Decoded;
+use decode::Outline;
+use decode::decode;
+use refusal::Refusal;
+use rules::Checked;
+use services::Written;
+use view::fill_digests;
+use write::write_text;
+ghost use mathlib.Core.Path.{_≡_};
+ghost use Prim.Native.Nat.{_≤_};
+ghost use lib.ListN.{length};
+ghost use Rattle.format.specs.Decoding.{decode as decodeOf};
+ghost use Rattle.decode.specs.Tables.{Tables, Answers};
+ghost use Rattle.bridge.specs.Write.{text};
+ghost use Rattle.services.specs.Services.{Writes};
+ghost use Rattle.view.specs.Values.{itemsAt, Whole};
+ghost use Rattle.view.specs.Digests.{digestsAt};
+ghost use Rattle.write_sheet.specs.Delivers.{Delivers, sheetOf, Judges};
+
+// Measures the text, and writes it where it fits.
+fn deliver(
+    s: &[u8],
+    names: &[u32],
+    digests: &[u32],
+    items: &[u32],
+    header: bool,
+    doxygen: bool,
+    buf: &mut [u8],
+) -> Written
+    requires { ⌜ Whole (now s) (now names) (now items) × (now digests ≡ digestsAt (now s) (now names)) ⌝ }
+    ensures { λ r. ⌜ Delivers
+        (text (sheetOf header doxygen (itemsAt (now (s .entry)) (now (names .entry)) (now (items .entry)))))
+        (now (buf .entry)) r (now (buf .exit)) ⌝ }
+{
+    let length = write_text(
+        s,
+        names,
+        digests,
+        items,
+        header,
+        doxygen,
+        &mut buf[..0],
+    );
+    if buf.len() < length {
+        return Written::Refused(Refusal::Overrun);
+    }
+    write_text(s, names, digests, items, header, doxygen, buf);
+    Written::Length(length)
+}
+
+// The same with room for the digests of the names.
+fn deliver_with(
+    s: &[u8],
+    names: &[u32],
+    items: &[u32],
+    header: bool,
+    doxygen: bool,
+    digests: &mut [u32],
+    buf: &mut [u8],
+) -> Written
+    requires { ⌜ Whole (now s) (now names) (now items) × (1023 ≤ length (now digests)) ⌝ }
+    ensures { λ r. ⌜ Delivers
+        (text (sheetOf header doxygen (itemsAt (now (s .entry)) (now (names .entry)) (now (items .entry)))))
+        (now (buf .entry)) r (now (buf .exit)) ⌝ }
+{
+    let n = names.len();
+    fill_digests(s, names, &mut digests[..n]);
+    deliver(s, names, &digests[..n], items, header, doxygen, buf)
+}
+
+// The text of an accepted sheet.
+fn write_accepted(
+    s: &[u8],
+    names: &[u32],
+    items: &[u32],
+    header: bool,
+    doxygen: bool,
+    buf: &mut [u8],
+) -> Written
+    requires { ⌜ Whole (now s) (now names) (now items) ⌝ }
+    ensures { λ r. ⌜ Delivers
+        (text (sheetOf header doxygen (itemsAt (now (s .entry)) (now (names .entry)) (now (items .entry)))))
+        (now (buf .entry)) r (now (buf .exit)) ⌝ }
+{
+    let mut digests = [0u32; Outline::NAMES];
+    deliver_with(s, names, items, header, doxygen, &mut digests, buf)
+}
+
+// Rules 9 to 12, then the text.
+fn write_judged(
+    s: &[u8],
+    names: &[u32],
+    items: &[u32],
+    header: bool,
+    doxygen: bool,
+    buf: &mut [u8],
+) -> Written
+    requires { ⌜ Whole (now s) (now names) (now items) ⌝ }
+    ensures { λ r. ⌜ Judges
+        (sheetOf header doxygen (itemsAt (now (s .entry)) (now (names .entry)) (now (items .entry))))
+        (now (buf .entry)) r (now (buf .exit)) ⌝ }
+{
+    let c = judge(s, names, items);
+    match c {
+        Checked::Refused(e) => Written::Refused(e),
+        Checked::Accepted => write_accepted(s, names, items, header, doxygen, buf),
+    }
+}
+
+// A decoded sheet, with the two tables that its decoding filled.
+fn write_decoded(sheet: &[u8], o: Outline, names: &[u32], items: &[u32], buf: &mut [u8]) -> Written
+    requires { ⌜ Tables (now sheet) (decodeOf (now sheet)) o (now names) (now items) ×
+        (1023 ≤ length (now names)) × (255 ≤ length (now items)) ⌝ }
+    ensures { λ r. ⌜ Writes (now (sheet .entry)) (now (buf .entry)) r (now (buf .exit)) ⌝ }
+{
+    let n = o.names as usize;
+    let k = o.items as usize;
+    write_judged(sheet, &names[..n], &items[..k], o.header, o.doxygen, buf)
+}
+
+// The answer to a sheet, from that of its decoding.
+fn answer(
+    sheet: &[u8],
+    d: Decoded,
+    names: &[u32; Outline::NAMES],
+    items: &[u32; Outline::ITEMS],
+    buf: &mut [u8],
+) -> Written
+    requires { ⌜ Answers (now sheet) (decodeOf (now sheet)) d (now names) (now items) ⌝ }
+    ensures { λ r. ⌜ Writes (now (sheet .entry)) (now (buf .entry)) r (now (buf .exit)) ⌝ }
+{
+    match d {
+        Decoded::Refused(e) => Written::Refused(e),
+        Decoded::Whole(o) => write_decoded(sheet, o, names, items, buf),
+    }
+}
+
+// Any bytes: the text's length, with the text in front of the buffer's old bytes, or the refusal.
+pub fn write(sheet: &[u8], buf: &mut [u8]) -> Written
+    ensures { λ r. ⌜ Writes (now (sheet .entry)) (now (buf .entry)) r (now (buf .exit)) ⌝ }
+{
+    let mut names = [0u32; Outline::NAMES];
+    let mut items = [0u32; Outline::ITEMS];
+    let d = decode(sheet, &mut names, &mut items);
+    answer(sheet, d, &names, &items, buf)
+}
