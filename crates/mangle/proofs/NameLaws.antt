@@ -77,7 +77,8 @@ module _ {s names items : List ℕ} {v : ItemView} (a : ItemAt s names items v) 
 
 -- ---- a function
 
-self-is : (all : List Item) (k i : ℕ) → (k ≡ 0 → ⊥) → map (λ j. itemAt all j .cxx) (selfType (formOf k i)) ≡ itemAt all i .cxx ∷ []
+self-is : (all : List Item) (k i : ℕ) → (k ≡ 0 → ⊥) →
+    map (λ j. itemAt all j .cxx) (selfType (formOf k i)) ≡ itemAt all i .cxx ∷ []
 self-is all zero i h = absurd (h refl)
 self-is all (suc zero) i h = refl
 self-is all (suc (suc zero)) i h = refl
@@ -102,7 +103,8 @@ module _ {s names items : List ℕ} {f : FunctionView} (b : FunctionAt s names i
 
   -- its symbol
   pub symbol : (ns : List Name) {r t u w : Sink} → Wrote r (join (ns ++ version)) t → Wrote t (pushAll self) u →
-      Wrote u (pushAll (nameAt s (getD names (f .rust) 0) ∷ [])) w → Wrote r (externFn (itemsAt s names items) ns function) w
+      Wrote u (pushAll (nameAt s (getD names (f .rust) 0) ∷ [])) w →
+      Wrote r (externFn (itemsAt s names items) ns function) w
   unfolding externFn
   symbol ns p x q =
       wrote-as (p ▷ x ▷ q) (rw (b .view .rust) (push-two ns self (function .rust ∷ [])))

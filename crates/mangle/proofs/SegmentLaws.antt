@@ -30,7 +30,8 @@ module _ (before behind : List ℕ) where
     segments-turn h e p a b c =
         wrote-as (p ▷ a ▷ b ▷ c) (rw (add-one, take-suc xs d [] h, between-end, e))
 
-    pub segments-all : length xs ≤ d → Wrote r (between before behind (take d xs)) t → Wrote r (between before behind xs) t
+    pub segments-all : length xs ≤ d → Wrote r (between before behind (take d xs)) t →
+        Wrote r (between before behind xs) t
     segments-all h p = wrote-as p (ap (between before behind) (take-all d xs h))
 
 -- ---- full names
