@@ -156,8 +156,7 @@ impl Totals {
             let mut lengths = compare::lengths(&order, 400);
             lengths.extend([list.saturating_sub(2), list + 2, list / 2]);
             let service = Service::StructOrder;
-            let overruns =
-                compare::with_buffers(service, sheet, &order, &lengths, options.margin)?;
+            let overruns = compare::with_buffers(service, sheet, &order, &lengths, options.margin)?;
             self.orders.add(list, lengths.len(), overruns);
         }
         if options.write {
