@@ -57,7 +57,7 @@ pub fn struct_order(sheet: &[u8], buf: &mut [u8]) -> Result<usize, Refusal> {
 /// rest of `buf` stays as it was, and after a refusal all of it does.
 ///
 /// No length is known beforehand; a sheet of 32,768 bytes can stand for more
-/// than 27 million bytes of text. A host that takes any text grows its buffer:
+/// than 73 million bytes of text. A host that takes any text grows its buffer:
 ///
 /// ```
 /// use bridgetext::Refusal;

@@ -2,6 +2,7 @@
 //! the crate's own source, their time and their stack.
 
 pub mod compare;
+pub mod compilers;
 pub mod features;
 pub mod sheets;
 pub mod stack;
