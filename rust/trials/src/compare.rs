@@ -77,6 +77,30 @@ pub fn wanted_text(bytes: &[u8]) -> Text {
     })
 }
 
+/// The text of an accepted sheet by the service or, while the library has none,
+/// by [`wanted_text`].
+pub fn text(sheet: &Sheet) -> Vec<u8> {
+    let bytes = sheet::encode(sheet);
+    if !bridgetext::HAVE_WRITE {
+        return wanted_text(&bytes).unwrap();
+    }
+    let mut text = vec![0; 1 << 20];
+    let length = bridgetext::write(&bytes, &mut text).unwrap();
+    text.truncate(length);
+    text
+}
+
+/// The same for the struct order.
+pub fn order(sheet: &Sheet) -> Vec<u8> {
+    if !bridgetext::HAVE_STRUCT_ORDER {
+        return plain_order(sheet);
+    }
+    let mut list = vec![0; 255];
+    let length = bridgetext::struct_order(&sheet::encode(sheet), &mut list).unwrap();
+    list.truncate(length);
+    list
+}
+
 /// Buffer lengths around that of the answer, with none and with a large one.
 pub fn lengths(wanted: &Result<Vec<u8>, u8>, large: usize) -> Vec<usize> {
     let length = wanted.as_ref().map_or(0, Vec::len);

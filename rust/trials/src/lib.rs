@@ -4,6 +4,7 @@
 pub mod compare;
 pub mod compilers;
 pub mod features;
+pub mod formed;
 pub mod sheets;
 pub mod stack;
 
