@@ -258,9 +258,10 @@ impl Draft<'_> {
             let held = indirect(&self.sheet, &ty) && ty != Type::Atom(RUST_STRING);
             let name = self.free(&ARGUMENTS, |draft, name| {
                 let chars = draft.sheet.name(name);
-                !function.args.iter().any(|arg| arg.name == name)
-                    && !(function.form.is_method() && chars == b"self")
-                    && !(function.throws && held && chars == b"error")
+                let repeated = function.args.iter().any(|arg| arg.name == name);
+                let receiver = function.form.is_method() && chars == b"self";
+                let held_error = function.throws && held && chars == b"error";
+                !(repeated || receiver || held_error)
             });
             function.args.push(Arg { name, ty });
         }

@@ -26,7 +26,8 @@ pub fn skipped_write() -> bool {
 
 fn absent(there: bool, what: &str) -> bool {
     if !there {
-        let _ = writeln!(io::stderr(), "skipped: {what}");
+        let line = format!("skipped: {what}\n");
+        let _ = io::stderr().write_all(line.as_bytes());
     }
     !there
 }

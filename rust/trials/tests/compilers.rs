@@ -18,9 +18,9 @@ fn texts_compile() {
 }
 
 #[test]
-#[ignore = "1,200 sheets"]
+#[ignore = "360 sheets"]
 fn more_texts_compile() {
-    texts(2, 100);
+    texts(2, 30);
 }
 
 fn texts(seed: u64, files: usize) {
