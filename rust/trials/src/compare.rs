@@ -84,7 +84,7 @@ pub fn text(sheet: &Sheet) -> Vec<u8> {
     if !bridgetext::HAVE_WRITE {
         return wanted_text(&bytes).unwrap();
     }
-    let mut text = vec![0; 1 << 20];
+    let mut text = vec![0; 1 << 24];
     let length = bridgetext::write(&bytes, &mut text).unwrap();
     text.truncate(length);
     text

@@ -1,9 +1,9 @@
 //! Sheets whose types C++ can form, and what their text needs around it.
 //!
-//! No reference to or inside anything but a function's slots; opaque Rust types
-//! only behind a pointer; methods in their type's namespace and not on enums;
-//! one entity for each name of a scope; a type with pointer bit 0 can be copied
-//! bit by bit.
+//! References are arguments, returns and slots of a Fn, and nothing else; opaque
+//! Rust types stand behind a pointer; methods stand in their type's namespace,
+//! and enums have none; a scope has a name once; C++ copies a type with pointer
+//! bit 0 bit by bit.
 
 use sheet::{
     Arg, Form, Function, Item, ItemIndex, Kind, NameIndex, RUST_STRING, Rng, Sheet, Type, indirect,
@@ -29,12 +29,12 @@ const COMMENTS: [&str; 8] = [
     " a \\ within ??/ the line",
 ];
 
-/// Types before which the text's declarations can stand.
+/// Which items a type may name as values.
 #[derive(Clone, Copy, PartialEq)]
 enum Named {
-    /// Any that can be held by value.
+    /// All but opaque Rust types.
     Values,
-    /// Without structs, which may not be complete yet.
+    /// No structs either: in a field they may not be complete yet.
     NoStructs,
 }
 
@@ -56,8 +56,12 @@ pub fn sheet(rng: &mut Rng, outer: Option<&str>) -> Sheet {
     }
     let items = draft.rng.between(6, 24);
     draft.heads(items);
-    for item in 0..items {
-        draft.fields(item);
+    let mut structs = draft.items(|kind| matches!(kind, Kind::Struct { .. }));
+    if draft.rng.bit() {
+        structs.reverse();
+    }
+    for number in 0..structs.len() {
+        draft.fields(structs[number], &structs[..number]);
     }
     for item in 0..items {
         draft.signature(item);
@@ -163,29 +167,22 @@ impl Draft<'_> {
         }
     }
 
-    fn fields(&mut self, index: usize) {
-        if let Kind::Struct { .. } = self.sheet.items[index].kind {
-            let count = self.rng.below(5);
-            let fields: Vec<Type> = (0..count).map(|_| self.field(index)).collect();
-            let copied = fields.iter().all(|ty| self.is_copied(ty));
-            let pointer = !copied || self.rng.one_in(4);
-            self.sheet.items[index].kind = Kind::Struct { pointer, fields };
-        }
-    }
-
-    /// A field; a struct that it holds has a lower number, so there is no ring.
-    fn field(&mut self, holder: usize) -> Type {
-        let lower = (0..holder as ItemIndex).filter(|item| self.is_struct(*item));
-        let lower: Vec<ItemIndex> = lower.collect();
-        match self.rng.below(4) {
-            0 if !lower.is_empty() => Type::Named(*self.rng.pick(&lower)),
-            1 => Type::RustBox(Box::new(Type::Named(holder as ItemIndex))),
+    /// Held structs are among those that have their fields, so there is no ring.
+    fn fields(&mut self, item: ItemIndex, done: &[ItemIndex]) {
+        let count = self.rng.below(5);
+        let fields = (0..count).map(|_| match self.rng.below(4) {
+            0 if !done.is_empty() => Type::Named(*self.rng.pick(done)),
+            1 => Type::RustBox(Box::new(Type::Named(item))),
             2 => Type::Atom(self.rng.below(14) as u8),
             _ => {
                 let levels = self.levels();
                 self.value(levels, Named::NoStructs)
             }
-        }
+        });
+        let fields: Vec<Type> = fields.collect();
+        let copied = fields.iter().all(|ty| self.is_copied(ty));
+        let pointer = !copied || self.rng.one_in(4);
+        self.sheet.items[usize::from(item)].kind = Kind::Struct { pointer, fields };
     }
 
     /// Whether C++ copies a value bit by bit.
@@ -200,10 +197,6 @@ impl Draft<'_> {
             Type::Ptr { .. } => true,
             _ => false,
         }
-    }
-
-    fn is_struct(&self, item: ItemIndex) -> bool {
-        matches!(self.sheet.item(item).kind, Kind::Struct { .. })
     }
 
     fn signature(&mut self, index: usize) {
