@@ -226,6 +226,10 @@ unsafe fn outcome<T>(result: Result<T, &'static str>, slot: *mut T) -> Fat {
     }
 }
 
+// The functions that the glue calls. SAFETY of all: their types are those that
+// the text declares, and C++ passes live references, pointers to what it gives
+// away, and room for a slot.
+
 #[unsafe(export_name = "mill$cxxbridge1$205$add")]
 extern "C" fn add(a: u32, b: i64, c: f64, d: bool) -> i64 {
     call!("add {a} {b} {c} {d}");
