@@ -4,9 +4,12 @@ use mathlib.Core.List.{List}
 use mathlib.Core.Bool.{Bool, true, false}
 use Prim.Native.Nat.{ℕ, _≤_}
 use native.Mathlib.Nat.{le-trans}
+use native.Mathlib.Omega.{arith}
+use lib.Dec.{leb}
 use lib.ListN.{length, take}
+use borrow.Author.Tests.{leb-true}
 use Rattle.refusal.specs.declared.Refusal.{Refusal}
-use Rattle.refusal.specs.declared.Refusal.the-variants.{WrongPart, Taken, UnfitArgument, Ring}
+use Rattle.refusal.specs.declared.Refusal.the-variants.{WrongPart, Taken, UnfitArgument, Ring, Overrun}
 use Rattle.format.specs.Decode.{fault, got, pick}
 use Rattle.format.specs.Sheet.{Item, Sheet}
 use Rattle.format.specs.Decoding.{decode}
@@ -22,7 +25,7 @@ use Rattle.check_sheet.specs.Ruled.{ruledParts}
 use Rattle.check_sheet.proofs.CheckLaws.{whole-tables}
 use Rattle.services.specs.declared.Written.{Written}
 use Rattle.services.specs.declared.Written.the-variants as Written
-use Rattle.services.specs.Services.{structOrder, answerOf, bufferOf, Orders}
+use Rattle.services.specs.Services.{structOrder, fitted, answerOf, bufferOf, Serves, Orders}
 use Rattle.struct_order.specs.Lists.{orderOf, Lists, Decodes}
 
 -- ---- a sheet that was decoded, with its tables cut to their lengths
@@ -99,3 +102,21 @@ module _ (s : List ℕ) {names items : List ℕ} (d : Decodes s names items) whe
             bufferOf structOrder (pick t (refused Ring) (accepted (d .sheet))) buffer)
         by-ring true = (refl, refl)
         by-ring false = (refl, refl)
+
+-- ---- an answered length is at most the buffer's
+
+fitted-inside : (answer : List ℕ) (room : ℕ) {n : ℕ} → fitted answer room ≡ Written.Length n → n ≤ room
+fitted-inside answer room {n} e = go (leb (length answer) room) refl e
+  where
+    go : (t : Bool) → leb (length answer) room ≡ t →
+        pick t (Written.Length (length answer)) (Written.Refused Overrun) ≡ Written.Length n → n ≤ room
+    go true h q = let z : length answer ≡ n = cc in omega (arith, leb-true (length answer) room h)
+    go false h q = absurd (let z : _≡_ {A = ℕ} 0 1 = cc in omega arith)
+
+answer-inside : (f : Sheet → List ℕ) (j : Judged) (room : ℕ) {n : ℕ} → answerOf f j room ≡ Written.Length n → n ≤ room
+answer-inside f (refused e) room q = absurd (let z : _≡_ {A = ℕ} 0 1 = cc in omega arith)
+answer-inside f (accepted x) room q = fitted-inside (f x) room q
+
+pub served-inside : {f : Sheet → List ℕ} {sheet buffer after : List ℕ} {w : Written} {n : ℕ} →
+    Serves f sheet buffer w after → w ≡ Written.Length n → n ≤ length buffer
+served-inside {f} {sheet} {buffer} v e = answer-inside f (judge sheet) (length buffer) (sym (v .answers) ∙ e)
