@@ -1,16 +1,19 @@
 -- On an accepted sheet every struct is in the list exactly once, and each after every struct that it holds by a
 -- named field.
-use mathlib.Core.Path.{_≡_, refl, ap}
+use mathlib.Core.Path.{_≡_, refl, sym}
 use mathlib.Core.Logic.{⊎-elim}
 use mathlib.Core.List.{List, [], _∷_, _++_, List·Memᴰ, List·Memᴰ·head, List·Memᴰ·not-nil, List·Memᴰ·cases-cons}
 use mathlib.Core.List.{Memᴰ·append-left, Memᴰ·append-right}
 use mathlib.Core.Bool.{Bool, true, false}
 use Prim.Native.Nat.{ℕ}
+use lib.ListN.{length}
 use Rattle.format.specs.Types.{Ty, named}
 use Rattle.format.specs.Sheet.{Item, Sheet}
 use Rattle.syntax.specs.Items.{itemAt, isStruct}
 use Rattle.toposort.specs.Graph.{_∈_, times, LegalOrder}
+use Rattle.toposort.specs.Crate.{crateOrder}
 use Rattle.toposort.proofs.Theorems.{sorted-legal}
+use Rattle.toposort.proofs.CrateLaws.{same-as-crate}
 use Rattle.rules.specs.Rules.{gather, heldBy, fieldsOf, holds, structs, ring}
 use Rattle.rules.specs.Judge.{accepted, judge}
 use Rattle.rules.proofs.RingRule.{sheet-structs, struct-listed}
@@ -45,3 +48,8 @@ module _ (s : List ℕ) (x : Sheet) (h : judge s ≡ accepted x) where
   unfolding holds
   held-before i c before behind o f e =
       struct-order-legal .after i c before behind o (field-holds (x .items) c (fieldsOf (itemAt (x .items) i .body)) e f)
+
+  -- it is the list that toposort.rs' own `sort` returns
+  pub crate-order : structOrder x ≡ crateOrder (holds (x .items)) (length (x .items)) (structs (x .items))
+  unfolding structOrder ring
+  crate-order = sym (same-as-crate (sheet-structs (x .items)) .1 (judge-accepted s x h .noRing))
