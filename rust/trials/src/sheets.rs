@@ -98,7 +98,7 @@ pub fn structs(rng: &mut Rng) -> Sheet {
         _ => (rng.between(1, 15), rng.below(6)),
     };
     let mut held: Vec<Vec<usize>> = vec![Vec::new(); count];
-    match rng.below(7) {
+    match rng.below(8) {
         // A chain, and diamonds one behind the other.
         0 => (1..count).for_each(|i| held[i - 1].push(i)),
         1 => (0..count).for_each(|i| held[i].extend([i + 1, i + 2].iter().filter(|j| **j < count))),
@@ -113,11 +113,15 @@ pub fn structs(rng: &mut Rng) -> Sheet {
                 }
             }
         }
-        // Anything that goes upwards, with few fields and with as many as fit.
+        // Anything that goes upwards, with few fields, with any number of them,
+        // and with as many as there can be.
         shape => {
-            let most = if shape == 5 { 4 } else { limit::FIELDS };
             for (i, held) in held.iter_mut().enumerate().take(count - 1) {
-                let fields = rng.below(most + 1);
+                let fields = match shape {
+                    5 => rng.below(5),
+                    6 => rng.below(limit::FIELDS + 1),
+                    _ => limit::FIELDS,
+                };
                 held.extend((0..fields).map(|_| rng.between(i + 1, count - 1)));
             }
         }

@@ -52,6 +52,21 @@ fn large_sheets() {
 }
 
 #[test]
+fn every_buffer_length() {
+    if trials::skipped() {
+        return;
+    }
+    let lengths: Vec<usize> = (0..=258).collect();
+    for sheet in [sheets::apart(), sheets::chain(), sheets::diamonds()] {
+        let sheet = encode(&sheet);
+        let order = compare::wanted_order(&sheet);
+        assert_eq!(order.as_ref().map(Vec::len), Ok(255));
+        let overruns = compare::struct_order(&sheet, &order, &lengths).unwrap();
+        assert!(!bridgetext::HAVE_STRUCT_ORDER || overruns == 2 * 255);
+    }
+}
+
+#[test]
 fn generated_sheets() {
     if trials::skipped() {
         return;
