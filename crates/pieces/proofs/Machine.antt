@@ -73,7 +73,7 @@ unbroken t ns opened pending asks =
     record { text = t; namespace = ns; opened = opened; pending = pending; sectionPending = asks; panicked = false }
 
 -- the blocks P are open, and Q are set
-pub standing : List ℕ → List Name → List Block → List Block → Bool → Content
+unfoldable pub standing : List ℕ → List Name → List Block → List Block → Bool → Content
 standing t ns P Q asks = unbroken t ns (innermostFirst P []) (between P Q) asks
 
 pub new-standing : nextSection new ≡ standing [] [] [] [] true
@@ -244,7 +244,7 @@ nothing-written c = refl
 abbrev pub Ends : Content → List ℕ → Type 0
 Ends c t = (c .text ≡ t) × (c .panicked ≡ false)
 
-blocks-flushed : (t : List ℕ) (ns : List Name) (P : List Block) (asks : Bool) →
+pub blocks-flushed : (t : List ℕ) (ns : List Name) (P : List Block) (asks : Bool) →
     Ends (flushBlocks (standing t ns P [] asks)) (t ++ closings P [])
 unfolding flushBlocks standing between beginning ending closings
 blocks-flushed t ns [] asks = (sym (append-nil t), refl)
