@@ -110,15 +110,19 @@ module _ (s names : List ℕ) where
 
   pub flushing-none : (out : List ℕ) (c : Content) → c .count ≡ 0 →
       Flushing s names out out (λ _ m. flushBlocks m) c (flushedAs (c .at) (c .«section_pending»))
-  flushing-none out c z = record { each = λ m p e f.
-      rw (none-flushed m (ap isPending (sym f) ∙ nothing-pending c z)) (record { wrote = p; section = e }) }
+  flushing-none out c z = record {
+    each = λ m p e f.
+        rw (none-flushed m (ap isPending (sym f) ∙ nothing-pending c z)) (record { wrote = p; section = e });
+  }
 
   pub flushing-some : {out after : List ℕ} {c : Content} {r : Flushed} → (c .count ≡ 0 → ⊥) →
       Flushing s names out after flushAll c r → Flushing s names out after (λ _ m. flushBlocks m) c r
-  flushing-some {c = c} n g = record { each = λ m p e f.
-      rw (some-flushed m (ap isPending (sym f) ∙ some-pending (c .pending) (c .count) n)
-      ∙ ap (λ (l : List machine.Boundary). flushAll l m) (sym f))
-      (g .each m p e f) }
+  flushing-some {c = c} n g = record {
+    each = λ m p e f.
+        rw (some-flushed m (ap isPending (sym f) ∙ some-pending (c .pending) (c .count) n)
+        ∙ ap (λ (l : List machine.Boundary). flushAll l m) (sym f))
+        (g .each m p e f);
+  }
 
   -- ---- before a text
 
@@ -155,28 +159,32 @@ module _ (s names : List ℕ) where
       Flushing s names out between (λ _ m. flushBlocks m) c f → blank ≡ (f .section && ltb 0 (f .at)) →
       Wrote (sink between (f .at)) (pickText blank (bytes "\n") []) (sink after at) →
       Prepares s names out after c (settled c at)
-  prepares {c = c} {f = f} {at = at} g e w = record { each = λ {first} {t} {ns} {P} {Q} {asks} st.
-      let r = flushed g st in
-      let m = flushBlocks (standing t ns P Q asks) in
-      let z = e ∙ ap₂ (λ (a b : Bool). a && b) (r .section) (started (m .text) (r .wrote)) in
-      record {
-        wrote = wrote-as (r .wrote ▷ w)
-            (ap (λ (b : Bool). m .text ++ pickText b (bytes "\n") []) z ∙ appended-text t ns P Q asks);
-        spaces = st .spaces;
-        listed = record { room = st .listed .room; few = omega arith; known = λ i l. absurd (omega arith) };
-        pending = settled-pending c at Q;
-        section = refl;
-        few-open = st .few-set;
-        few-set = st .few-set;
-      } }
+  prepares {c = c} {f = f} {at = at} g e w = record {
+    each = λ {first} {t} {ns} {P} {Q} {asks} st.
+        let r = flushed g st in
+        let m = flushBlocks (standing t ns P Q asks) in
+        let z = e ∙ ap₂ (λ (a b : Bool). a && b) (r .section) (started (m .text) (r .wrote)) in
+        record {
+          wrote = wrote-as (r .wrote ▷ w)
+              (ap (λ (b : Bool). m .text ++ pickText b (bytes "\n") []) z ∙ appended-text t ns P Q asks);
+          spaces = st .spaces;
+          listed = record { room = st .listed .room; few = omega arith; known = λ i l. absurd (omega arith) };
+          pending = settled-pending c at Q;
+          section = refl;
+          few-open = st .few-set;
+          few-set = st .few-set;
+        };
+  }
 
   -- ---- the end
 
   pub flushes : {out after : List ℕ} {c outermost : Content} {f : Flushed} → Sets s names [] c outermost →
       Flushing s names out after (λ _ m. flushBlocks m) outermost f → Flushes s names out after c (f .at)
-  flushes k g = record { each = λ {first} {t} {ns} {P} {asks} st.
-      let r = flushed g (k .each st) in
-      wrote-as (r .wrote) (blocks-flushed t [] P asks .0) }
+  flushes k g = record {
+    each = λ {first} {t} {ns} {P} {asks} st.
+        let r = flushed g (k .each st) in
+        wrote-as (r .wrote) (blocks-flushed t [] P asks .0);
+  }
 
   pub sets-listed : {c r : Content} {ms : List Name} → Sets s names ms c r → Standing s names named c → Listed names r
-  sets-listed k w = k .each (w .stands) .listed
+  sets-listed k w = k .each (w .there .stands) .listed

@@ -34,7 +34,7 @@ use Rattle.out.specs.declared.Boundary.{Boundary}
 use Rattle.out.specs.declared.Boundary.the-variants.{Begin, End}
 use Rattle.out.specs.declared.Content.{Content}
 use Rattle.out.specs.State.{boundaryOf, latest, pendingOf, Listed, namespaceAt, Spaces, Stands, Standing}
-use Rattle.out.specs.State.{inside}
+use Rattle.out.specs.State.{StandingIn, inside}
 use Rattle.out.specs.Steps.{Starts, Asks, Places, Pushes, Turns, Sets, Indexes, Prepares}
 
 -- c with another namespace
@@ -63,15 +63,17 @@ pub starts : Starts (record {
   «section_pending» = false;
 })
 unfolding latest between beginning
-starts = record { each = λ {s} {names} {first}. record {
-  wrote = wrote-nil (sink first 0);
-  spaces = starts-spaces s names;
-  listed = record { room = refl; few = omega arith; known = λ i l. absurd (omega arith) };
-  pending = refl;
-  section = refl;
-  few-open = omega arith;
-  few-set = omega arith;
-} }
+starts = record {
+  each = λ {s} {names} {first}. record {
+    wrote = wrote-nil (sink first 0);
+    spaces = starts-spaces s names;
+    listed = record { room = refl; few = omega arith; known = λ i l. absurd (omega arith) };
+    pending = refl;
+    section = refl;
+    few-open = omega arith;
+    few-set = omega arith;
+  };
+}
 
 pub asks-next : (c : Content) → Asks c (record {
   at = c .at;
@@ -81,15 +83,17 @@ pub asks-next : (c : Content) → Asks c (record {
   count = c .count;
   «section_pending» = true;
 })
-asks-next c = record { each = λ st. record {
-  wrote = st .wrote;
-  spaces = st .spaces;
-  listed = record { room = st .listed .room; few = st .listed .few; known = st .listed .known };
-  pending = st .pending;
-  section = refl;
-  few-open = st .few-open;
-  few-set = st .few-set;
-} }
+asks-next c = record {
+  each = λ st. record {
+    wrote = st .wrote;
+    spaces = st .spaces;
+    listed = record { room = st .listed .room; few = st .listed .few; known = st .listed .known };
+    pending = st .pending;
+    section = refl;
+    few-open = st .few-open;
+    few-set = st .few-set;
+  };
+}
 
 pub places : (c : Content) (at : ℕ) → Places c at (record {
   at = at;
@@ -99,15 +103,17 @@ pub places : (c : Content) (at : ℕ) → Places c at (record {
   count = c .count;
   «section_pending» = c .«section_pending»;
 })
-places c at = record { each = λ st p. record {
-  wrote = st .wrote ▷ p;
-  spaces = st .spaces;
-  listed = record { room = st .listed .room; few = st .listed .few; known = st .listed .known };
-  pending = st .pending;
-  section = st .section;
-  few-open = st .few-open;
-  few-set = st .few-set;
-} }
+places c at = record {
+  each = λ st p. record {
+    wrote = st .wrote ▷ p;
+    spaces = st .spaces;
+    listed = record { room = st .listed .room; few = st .listed .few; known = st .listed .known };
+    pending = st .pending;
+    section = st .section;
+    few-open = st .few-open;
+    few-set = st .few-set;
+  };
+}
 
 -- ---- the index of a name
 
@@ -190,7 +196,7 @@ module _ {s names : List ℕ} {c : Content} where
   pub begin-extern-c-room : (w : Standing s names named c) →
       length (push (boundaryOf s names (Begin ExternC)) (pendingOf s names c)) ≤ 16
   begin-extern-c-room w =
-      begin-room (named (w .namespace)) externC (Begin ExternC) (named-few (w .stands .spaces)) refl (w .stands)
+      begin-room (named (w .there .namespace)) externC (Begin ExternC) (named-few (w .there .stands .spaces)) refl (w .there .stands)
 
   pub begins-extern-c : {r : Content} → Pushes s names c (Begin ExternC) r → Turns s names named inside c r
   begins-extern-c p =
@@ -199,7 +205,7 @@ module _ {s names : List ℕ} {c : Content} where
   pub end-extern-c-room : (w : Standing s names inside c) →
       length (push (boundaryOf s names (End ExternC)) (pendingOf s names c)) ≤ 16
   end-extern-c-room w =
-      end-room (named (w .namespace)) externC (End ExternC) (named-few (w .stands .spaces)) refl (w .stands)
+      end-room (named (w .there .namespace)) externC (End ExternC) (named-few (w .there .stands .spaces)) refl (w .there .stands)
 
   pub ends-extern-c : {r : Content} → Pushes s names c (End ExternC) r → Turns s names inside named c r
   ends-extern-c p =
@@ -227,8 +233,10 @@ module _ (s names : List ℕ) where
   pub ending-none : (c : Content) → Ending c c (c .depth)
   ending-none c = record {
     few = omega arith;
-    turns = record { each = λ {first} {buf} {t} {ns} {P} {asks} st.
-        rw (take-all (c .depth) ns (omega (arith, spaces-length (st .spaces)))) st };
+    turns = record {
+      each = λ {first} {buf} {t} {ns} {P} {asks} st.
+          rw (take-all (c .depth) ns (omega (arith, spaces-length (st .spaces)))) st;
+    };
   }
 
   module _ {c₀ c : Content} (d : ℕ) {i : ℕ} (l : 0 < d) (g : Ending c₀ c d) (x : Indexes s names (c₀ .spaces) (d - 1) i) where
@@ -241,29 +249,31 @@ module _ (s names : List ℕ) where
         rw (← named-more ns (d - 1) (omega (arith, spaces-length (st .spaces), g .few)), z) (g .turns .each st)
 
     module _ (w : Standing s names named c₀) where
-      found-end : (i < length names) × (nameAt s (getD names i 0) ≡ getD (w .namespace) (d - 1) [])
-      found-end = x .each (w .stands .spaces) (omega (arith, g .few))
+      found-end : (i < length names) × (nameAt s (getD names i 0) ≡ getD (w .there .namespace) (d - 1) [])
+      found-end = x .each (w .there .stands .spaces) (omega (arith, g .few))
 
       pub ending-known : i < length names
       ending-known = found-end .0
 
       pub ending-listed : Listed names c
-      ending-listed = before-end (w .stands) .listed
+      ending-listed = before-end (w .there .stands) .listed
 
       pub ending-room : length (push (boundaryOf s names (End (UserDefinedNamespace i))) (pendingOf s names c)) ≤ 16
       ending-room =
-          end-room (named (take (d - 1) (w .namespace))) _ (End (UserDefinedNamespace i))
-          (taken-few (d - 1) (w .namespace) (omega (arith, g .few, w .stands .spaces .shallow)))
-          (ap (λ (y : Name). end (userDefinedNamespace y)) (found-end .1)) (before-end (w .stands))
+          end-room (named (take (d - 1) (w .there .namespace))) _ (End (UserDefinedNamespace i))
+          (taken-few (d - 1) (w .there .namespace) (omega (arith, g .few, w .there .stands .spaces .shallow)))
+          (ap (λ (y : Name). end (userDefinedNamespace y)) (found-end .1)) (before-end (w .there .stands))
 
     pub ending-turn : {r : Content} → Pushes s names c (End (UserDefinedNamespace i)) r → Ending c₀ r (d - 1)
     ending-turn p = record {
       few = omega (arith, g .few);
-      turns = record { each = λ {first} {buf} {t} {ns} {P} {asks} st.
-          ended (named (take (d - 1) ns)) (userDefinedNamespace (getD ns (d - 1) [])) (End (UserDefinedNamespace i))
-          (taken-few (d - 1) ns (omega (arith, g .few, st .spaces .shallow)))
-          (ap (λ (y : Name). end (userDefinedNamespace y)) (x .each (st .spaces) (omega (arith, g .few)) .1))
-          (before-end st) p };
+      turns = record {
+        each = λ {first} {buf} {t} {ns} {P} {asks} st.
+            ended (named (take (d - 1) ns)) (userDefinedNamespace (getD ns (d - 1) [])) (End (UserDefinedNamespace i))
+            (taken-few (d - 1) ns (omega (arith, g .few, st .spaces .shallow)))
+            (ap (λ (y : Name). end (userDefinedNamespace y)) (x .each (st .spaces) (omega (arith, g .few)) .1))
+            (before-end st) p;
+      };
     }
 
   pub ending-done : {c₀ c : Content} (d : ℕ) → d ≤ 0 → Ending c₀ c d → Turns s names named (λ _. []) c₀ c
@@ -295,20 +305,22 @@ module _ (s names : List ℕ) where
 
     module _ (w : Standing s names (λ _. []) c₀) where
       pub beginning-listed : Listed names c
-      beginning-listed = g .turns .each (w .stands) .listed
+      beginning-listed = g .turns .each (w .there .stands) .listed
 
       pub beginning-room : length (push (boundaryOf s names (Begin (UserDefinedNamespace i))) (pendingOf s names c)) ≤ 16
       beginning-room =
           begin-room (named (take d ms)) _ (Begin (UserDefinedNamespace i)) few-begin name-begin
-          (g .turns .each (w .stands))
+          (g .turns .each (w .there .stands))
 
     pub beginning-turn : {r : Content} → Pushes s names c (Begin (UserDefinedNamespace i)) r → Beginning ms c₀ r (d + 1)
     beginning-turn q = record {
       few = omega (arith, spaces-length p);
-      turns = record { each = λ st.
-          rw (add-one d, named-more ms d (omega (arith, spaces-length p)))
-          (begun (named (take d ms)) (userDefinedNamespace (getD ms d [])) (Begin (UserDefinedNamespace i)) few-begin
-          name-begin (g .turns .each st) q) };
+      turns = record {
+        each = λ st.
+            rw (add-one d, named-more ms d (omega (arith, spaces-length p)))
+            (begun (named (take d ms)) (userDefinedNamespace (getD ms d [])) (Begin (UserDefinedNamespace i)) few-begin
+            name-begin (g .turns .each st) q);
+      };
     }
 
   pub beginning-done : {ms : List Name} {at : Cursor} {depth : ℕ} {c₀ c : Content} (d : ℕ) → Spaces s names at depth ms →
@@ -320,17 +332,19 @@ module _ (s names : List ℕ) where
   pub sets : {ms : List Name} {at : Cursor} {depth : ℕ} {c ended begun : Content} → Spaces s names at depth ms →
       Turns s names named (λ _. []) c ended → Turns s names (λ _. []) (λ _. named ms) ended begun →
       Sets s names ms c (respaced begun at depth)
-  sets p f g = record { each = λ st.
-      let u = g .each (f .each st) in
-      record {
-        wrote = u .wrote;
-        spaces = p;
-        listed = record { room = u .listed .room; few = u .listed .few; known = u .listed .known };
-        pending = u .pending;
-        section = u .section;
-        few-open = u .few-open;
-        few-set = u .few-set;
-      } }
+  sets p f g = record {
+    each = λ st.
+        let u = g .each (f .each st) in
+        record {
+          wrote = u .wrote;
+          spaces = p;
+          listed = record { room = u .listed .room; few = u .listed .few; known = u .listed .known };
+          pending = u .pending;
+          section = u .section;
+          few-open = u .few-open;
+          few-set = u .few-set;
+        };
+  }
 
   -- the namespace of an item, and that of none
 
@@ -347,7 +361,46 @@ module _ (s names : List ℕ) where
   unfolding namespaceAt many
   no-spaces = (refl, starts-spaces s names)
 
--- ---- for a caller of prepare
+  pub sets-item : {n : ℕ} {x : Item} {v : ItemView} {c r : Content} → ViewOf s names n x v →
+      Sets s names (namespaceAt s names (v .spaces) (v .depth)) c r → Sets s names (x .namespace) c r
+  sets-item {v = v} w p = rw (item-spaces v w .0) at p
+
+  pub sets-none : {c r : Content} → Sets s names (namespaceAt s names (record { at = 0 }) 0) c r → Sets s names [] c r
+  sets-none p = rw (no-spaces .0) at p
+
+-- ---- for callers
+
+-- a state in which the blocks of the namespace are set, and one in which extern "C" is
+module _ {s names first buf : List ℕ} {c : Content} {t : List ℕ} {ns : List Name} {P : List Block} {asks : Bool} where
+  pub outside-in : Stands s names first buf c t ns P (named ns) asks → StandingIn s names buf named c
+  outside-in st =
+      record { first = first; text = t; namespace = ns; opened = P; asks = asks; stands = st }
+
+  pub within-in : Stands s names first buf c t ns P (inside ns) asks → StandingIn s names buf inside c
+  within-in st =
+      record { first = first; text = t; namespace = ns; opened = P; asks = asks; stands = st }
+
+  pub outside : Stands s names first buf c t ns P (named ns) asks → Standing s names named c
+  outside st = record { buf = buf; there = outside-in st }
+
+  pub within : Stands s names first buf c t ns P (inside ns) asks → Standing s names inside c
+  within st = record { buf = buf; there = within-in st }
+
+pub standing-turned : {s names : List ℕ} {from to : List Name → List Block} {c r : Content} →
+    Turns s names from to c r → Standing s names from c → Standing s names to r
+standing-turned p w =
+    let v = w .there in
+    record {
+      buf = w .buf;
+      there = record {
+        first = v .first;
+        text = v .text;
+        namespace = v .namespace;
+        opened = v .opened;
+        asks = v .asks;
+        stands = p .each (v .stands);
+      };
+    }
 
 -- a text in the blocks that are set
 pub piece : {s names first buf between after : List ℕ} {c ready r : Content} {at : ℕ} {t text : List ℕ} {ns : List Name}

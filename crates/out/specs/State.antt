@@ -82,14 +82,18 @@ pub record Stands (s names first buf : List ℕ) (c : Content) (t : List ℕ) (n
   pub few-set : length Q ≤ 8
 
 -- c is some such state, in which these blocks are set
-pub record Standing (s names : List ℕ) (around : List Name → List block.Block) (c : Content) : Type 0 where
+pub record StandingIn (s names buf : List ℕ) (around : List Name → List block.Block) (c : Content) : Type 0 where
   pub first : List ℕ
-  pub buf : List ℕ
   pub text : List ℕ
   pub namespace : List Name
   pub opened : List block.Block
   pub asks : Bool
   pub stands : Stands s names first buf c text namespace opened (around namespace) asks
+
+-- the same where the buffer is not at hand
+pub record Standing (s names : List ℕ) (around : List Name → List block.Block) (c : Content) : Type 0 where
+  pub buf : List ℕ
+  pub there : StandingIn s names buf around c
 
 -- the blocks of a namespace, and extern "C" in them
 abbrev pub inside : List Name → List block.Block

@@ -37,8 +37,8 @@ pub enum Block {
 
 fn write_common(s: &[u8], names: &[u32], b: Block, out: &mut [u8], at: usize) -> usize
     requires { ⌜ Named (now s) (now names) × KnownBlock (now names) b ⌝ }
-    ensures { λ r. ⌜ Wrote (sink (now (out .entry)) at) (block.writeCommon (blockOf (now (s .entry)) (now (names .entry)) b))
-        (sink (now (out .exit)) r) ⌝ }
+    ensures { λ r. ⌜ Wrote (sink (now (out .entry)) at)
+        (block.writeCommon (blockOf (now (s .entry)) (now (names .entry)) b)) (sink (now (out .exit)) r) ⌝ }
 {
     match b {
         Block::UserDefinedNamespace(name) => {
@@ -51,8 +51,8 @@ fn write_common(s: &[u8], names: &[u32], b: Block, out: &mut [u8], at: usize) ->
 
 fn write_begin(s: &[u8], names: &[u32], b: Block, out: &mut [u8], at: usize) -> usize
     requires { ⌜ Named (now s) (now names) × KnownBlock (now names) b ⌝ }
-    ensures { λ r. ⌜ Wrote (sink (now (out .entry)) at) (block.writeBegin (blockOf (now (s .entry)) (now (names .entry)) b))
-        (sink (now (out .exit)) r) ⌝ }
+    ensures { λ r. ⌜ Wrote (sink (now (out .entry)) at)
+        (block.writeBegin (blockOf (now (s .entry)) (now (names .entry)) b)) (sink (now (out .exit)) r) ⌝ }
 {
     let next = write_common(s, names, b, out, at);
     put_bytes(out, next, b" {\n")
@@ -60,8 +60,8 @@ fn write_begin(s: &[u8], names: &[u32], b: Block, out: &mut [u8], at: usize) -> 
 
 fn write_end(s: &[u8], names: &[u32], b: Block, out: &mut [u8], at: usize) -> usize
     requires { ⌜ Named (now s) (now names) × KnownBlock (now names) b ⌝ }
-    ensures { λ r. ⌜ Wrote (sink (now (out .entry)) at) (block.writeEnd (blockOf (now (s .entry)) (now (names .entry)) b))
-        (sink (now (out .exit)) r) ⌝ }
+    ensures { λ r. ⌜ Wrote (sink (now (out .entry)) at)
+        (block.writeEnd (blockOf (now (s .entry)) (now (names .entry)) b)) (sink (now (out .exit)) r) ⌝ }
 {
     let next = put_bytes(out, at, b"} // ");
     let end = write_common(s, names, b, out, next);
@@ -94,6 +94,7 @@ pub enum Boundary {
     End(Block),
 }
 
+// An entry of the pending boundaries.
 pub struct Pending {
     pub boundary: Boundary,
 }
@@ -104,7 +105,7 @@ pub struct Content {
     pub at: usize,
     pub spaces: Cursor,
     pub depth: u32,
-    pub pending: [Pending; 16],
+    pub pending: [Pending; Content::PENDING],
     pub count: usize,
     pub section_pending: bool,
 }
@@ -119,7 +120,7 @@ impl Content {
         let boundary = Boundary::Begin(Block::ExternC);
         let none = Pending { boundary };
         let spaces = Cursor { at: 0 };
-        let pending = [none; 16];
+        let pending = [none; Content::PENDING];
         Content {
             at: 0,
             spaces,
@@ -280,6 +281,7 @@ fn begin_namespaces(
     c
 }
 
+// The namespace whose indexes stand at a position.
 fn set_spaces(
     s: &[u8],
     names: &[u32],
@@ -346,8 +348,8 @@ fn flush_boundary(
     at: usize,
 ) -> usize
     requires { ⌜ Named (now s) (now names) × Known (now names) boundary ⌝ }
-    ensures { λ r. ⌜ Wrote (sink (now (out .entry)) at) (boundaryText section (boundaryOf (now (s .entry)) (now (names .entry)) boundary))
-        (sink (now (out .exit)) r) ⌝ }
+    ensures { λ r. ⌜ Wrote (sink (now (out .entry)) at) (boundaryText section
+        (boundaryOf (now (s .entry)) (now (names .entry)) boundary)) (sink (now (out .exit)) r) ⌝ }
 {
     match boundary {
         Boundary::Begin(block) => {

@@ -17,7 +17,7 @@ sub-d : tie.Need-sub-d Inv-loop μ-loop
 sub-d c = omega arith
 
 name-index-requires : tie.Need-name-index-requires Inv-loop μ-loop
-name-index-requires c κs = (c .before .before .before .before .before .before .pre .0, c .before .before .before .before .before .before .pre .2 .stands .spaces .near, omega (arith, c .before .loop .inv .few, c .before .before .before .before .before .before .pre .2 .stands .spaces .shallow))
+name-index-requires c κs = (c .before .before .before .before .before .before .pre .0, c .before .before .before .before .before .before .pre .2 .there .stands .spaces .near, omega (arith, c .before .loop .inv .few, c .before .before .before .before .before .before .pre .2 .there .stands .spaces .shallow))
 
 push-block-boundary-requires : tie.Need-push-block-boundary-requires Inv-loop μ-loop
 push-block-boundary-requires c κs = (c .before .before .before .before .before .before .before .pre .0, c .before .before .before .before .before .before .before .pre .1, ending-listed _ _ _ (c .before .loop-test .taken) (c .before .before .loop .inv) (c .name-index .ensures) (c .before .before .before .before .before .before .before .pre .2), ending-known _ _ _ (c .before .loop-test .taken) (c .before .before .loop .inv) (c .name-index .ensures) (c .before .before .before .before .before .before .before .pre .2), ending-room _ _ _ (c .before .loop-test .taken) (c .before .before .loop .inv) (c .name-index .ensures) (c .before .before .before .before .before .before .before .pre .2))
