@@ -1,0 +1,4 @@
+pub mod TypeLaws
+pub mod ShapeLaws
+pub mod FunctionLaws
+pub mod CommaLaws
