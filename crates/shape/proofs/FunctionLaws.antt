@@ -1,19 +1,20 @@
 -- Laws of a function's view: what it returns, its receiver, its arguments.
 use mathlib.Core.Path.{_≡_, refl, sym, ap, _∙_}
-use mathlib.Core.List.{List}
+use mathlib.Core.List.{List, [], _∷_}
 use mathlib.Core.Bool.{Bool, true, false, _||_, false≢true}
 use Prim.Native.Nat.{ℕ, zero, suc}
 use native.Mathlib.Omega.{arith}
 use lib.Dec.{eqb, ltb}
 use lib.ListN.{length}
 use borrow.Author.Tests.{ne-eqb}
+use Rattle.lexical.proofs.BoolLaws.{by-cases}
 use Rattle.format.specs.Decode.{got, pick}
 use Rattle.format.specs.Types.{Ret, none, gives}
 use Rattle.format.specs.Sheet.{Function}
 use Rattle.format.specs.Decoding.{type, formOf}
 use Rattle.syntax.specs.Types.{needsIndirectAbi}
 use Rattle.rules.specs.Rules.{isMethod}
-use Rattle.bridge.specs.Write.{indirectReturn}
+use Rattle.bridge.specs.Write.{indirectReturn, slot, direct}
 use Rattle.view.specs.declared.FunctionView.{FunctionView}
 use Rattle.view.specs.Values.{Yields, itemsAt, functionAt, typeHere}
 use Rattle.view.specs.Views.{returnOf, FunctionAt, ArgumentsAt}
@@ -62,6 +63,37 @@ module _ {s names items : List ℕ} {f : FunctionView} (a : FunctionAt s names i
       b ≡ indirectReturn (itemsAt s names items) this (this .return)
   unfolding indirectReturn
   slot-by-type e t h = rw (returned e .0, ← a .view .throws, t) h
+
+  -- ---- the type of its slot, and that of a direct return
+
+  pub indirect-returns : {b : Bool} → b ≡ indirectReturn (itemsAt s names items) this (this .return) → b ≡ true →
+      f .returns ≡ true
+  indirect-returns h e =
+      by-cases (f .returns) (λ q. q) (λ q. absurd (false≢true (slot-none q ∙ sym h ∙ e)))
+
+  module _ {b : Bool} (h : b ≡ indirectReturn (itemsAt s names items) this (this .return)) where
+    pub slot-some : b ≡ true → slot (itemsAt s names items) this ≡ typeHere (length items) s (f .result .at) ∷ []
+    unfolding slot
+    slot-some e = rw (← h, e, returned (indirect-returns h e) .0)
+
+    pub slot-empty : b ≡ false → slot (itemsAt s names items) this ≡ []
+    unfolding slot
+    slot-empty e =
+        rw (← h, e)
+        (by-cases (f .returns) (λ q. rw (returned q .0)) (λ q. rw (returned-none q)))
+
+    pub direct-some : b ≡ false → f .returns ≡ true →
+        direct (itemsAt s names items) this ≡ typeHere (length items) s (f .result .at) ∷ []
+    unfolding direct
+    direct-some e q = rw (← h, e, returned q .0)
+
+    pub direct-slot : b ≡ true → direct (itemsAt s names items) this ≡ []
+    unfolding direct
+    direct-slot e = rw (← h, e, returned (indirect-returns h e) .0)
+
+  pub direct-none : f .returns ≡ false → direct (itemsAt s names items) this ≡ []
+  unfolding direct
+  direct-none q = rw (returned-none q)
 
   -- ---- its receiver and its arguments
 

@@ -5,6 +5,7 @@ use mathlib.Core.Bool.{Bool, true, false, false≢true}
 use Prim.Native.Nat.{ℕ}
 use native.Mathlib.Omega.{arith}
 use lib.Dec.{eqb}
+use lib.ListN.{length}
 use Rattle.format.specs.Decode.{got, many}
 use Rattle.format.specs.Bits.{bits, bit, index}
 use Rattle.format.specs.Types.{Ty, template, pointer}
@@ -15,17 +16,20 @@ use Rattle.format.specs.declared.Pointer.{Pointer}
 use Rattle.format.specs.declared.Pointer.the-variants as Pointer
 use Rattle.format.specs.declared.TypeKind.{TypeKind}
 use Rattle.format.specs.declared.TypeKind.the-variants as Kind
-use Rattle.bridge.specs.Write.{Shape, other, shape}
+use Rattle.bridge.specs.Write.{Shape, other, shape, slotType}
+use Rattle.sink.specs.Sink.{Sink, Wrote}
+use Rattle.sink.proofs.SinkLaws.{wrote-as}
 use Rattle.cursor.specs.declared.Cursor.{Cursor}
 use Rattle.view.specs.declared.Found.{Found}
-use Rattle.view.specs.Values.{nextOf, Yields}
+use Rattle.view.specs.Values.{nextOf, Yields, typeHere, itemsAt}
 use Rattle.view.specs.Views.{Finds}
 use Rattle.view.proofs.ValueLaws.{in-turn, got-value, bit-value, bit-next}
 use Rattle.view.proofs.TypeLaws.{type-body}
 use Rattle.write_type.specs.TypeAt.{tyAt}
 use Rattle.shape.specs.declared.ShapeKind.{ShapeKind}
 use Rattle.shape.specs.declared.ShapeKind.the-variants.{Other}
-use Rattle.shape.specs.Shapes.{templateKind, shapeKind, isRef, ShapeOf}
+use Rattle.shape.specs.declared.ShapeView.{ShapeView}
+use Rattle.shape.specs.Shapes.{templateKind, shapeKind, shapeWith, isRef, hasInner, ShapeOf}
 use Rattle.shape.proofs.TypeLaws.{inner-is, inner-yields}
 
 module _ (n : ℕ) (s : List ℕ) where
@@ -97,8 +101,9 @@ module _ (n : ℕ) (s : List ℕ) where
 
   -- ---- what was read of the type at a position
 
-  module _ (at : ℕ) {t : Ty} {k : Found} (y : Yields (type n s at) t) (f : Finds (bits 4 s at) 4 k) {j : TypeKind}
-      (read : j ≡ kindOf (k .value)) {kind : ShapeKind} (known : kind ≡ shapeKind j) {b : Bool} (test : b ≡ isRef kind) where
+  module _ (at : ℕ) {t : Ty} {k : Found} (y : Yields (type n s at) t) (f : Finds (bits 4 s at) 4 k)
+      {j : TypeKind} (read : j ≡ kindOf (k .value)) {kind : ShapeKind} (known : kind ≡ shapeKind j)
+      {b : Bool} (test : b ≡ isRef kind) where
     body : typeBody j n (typeAt n 7) s (k .next .at) ≡ got t (nextOf (type n s at))
     body = rw read (type-body n s at y f)
 
@@ -108,3 +113,27 @@ module _ (n : ℕ) (s : List ℕ) where
     pub shape-reference : {r : Found} → b ≡ true → Finds (bits 1 s (k .next .at)) 1 r →
         ShapeOf n s (shape t) (record { kind = kind; mutable = eqb (r .value) 1; inner = r .next })
     shape-reference h g = rw known (body-reference j (k .next .at) body g (rw (← known) (sym test ∙ h)))
+
+-- ---- what is written by a view's kind
+
+module _ {n : ℕ} {s : List ℕ} {x : Shape} {v : ShapeView} (o : ShapeOf n s x v) {k : ShapeKind} (e : v .kind ≡ k) where
+  pub shape-as : x ≡ shapeWith k (v .mutable) (tyAt n 7 s (v .inner .at))
+  shape-as = o .is ∙ rw e
+
+  -- a text for each shape
+  pub by-shape : (table : Shape → List ℕ) {r t : Sink} →
+      Wrote r (table (shapeWith k (v .mutable) (tyAt n 7 s (v .inner .at)))) t → Wrote r (table x) t
+  by-shape table p = wrote-as p (ap table (sym shape-as))
+
+  pub has-inner : hasInner k ≡ true → Yields (typeAt n 7 s (v .inner .at)) (tyAt n 7 s (v .inner .at))
+  has-inner h = o .inner (rw e h)
+
+module _ (s names items : List ℕ) (at : ℕ) where
+  abbrev here : Ty
+  here = typeHere (length items) s at
+
+  pub slot-type : {v : ShapeView} {k : ShapeKind} {r t : Sink} → ShapeOf (length items) s (shape here) v → v .kind ≡ k →
+      Wrote r (slotType (itemsAt s names items) here
+      (shapeWith k (v .mutable) (tyAt (length items) 7 s (v .inner .at)))) t →
+      Wrote r (slotType (itemsAt s names items) here (shape here)) t
+  slot-type o e p = by-shape o e (λ x. slotType (itemsAt s names items) here x) p

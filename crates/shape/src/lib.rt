@@ -8,6 +8,7 @@ use types::kind_of;
 use view::FunctionView;
 use view::field;
 use view::needs_indirect_abi;
+use write_type::write_type;
 use write_type::write_type_space;
 ghost use mathlib.Core.Path.{_≡_};
 ghost use mathlib.Core.List.{[]};
@@ -18,7 +19,8 @@ ghost use Rattle.lexical.specs.Bytes.{bytes};
 ghost use Rattle.lexical.specs.Decimal.{pickText};
 ghost use Rattle.format.specs.Decoding.{typeAt, type, formOf};
 ghost use Rattle.rules.specs.Rules.{isMethod};
-ghost use Rattle.bridge.specs.Write.{indirectReturn, writePointer, shape as shapeOf};
+ghost use Rattle.bridge.specs.WriteType.{writeType, writeTypeSpace};
+ghost use Rattle.bridge.specs.Write.{indirectReturn, writePointer, shape as shapeOf, slotType};
 ghost use Rattle.sink.specs.Sink.{sink, Wrote};
 ghost use Rattle.cursor.specs.Checking.{Limited};
 ghost use Rattle.view.specs.Values.{Yields, itemsAt, functionAt, typeHere, Whole};
@@ -123,7 +125,45 @@ pub fn shape(s: &[u8], items: &[u32], c: Cursor) -> ShapeView
     }
 }
 
-// ---- pointers
+// ---- types
+
+// The outermost type at c.
+pub fn write_outermost(
+    s: &[u8],
+    names: &[u32],
+    items: &[u32],
+    c: Cursor,
+    out: &mut [u8],
+    at: usize,
+) -> usize
+    requires { ⌜ Whole (now s) (now names) (now items) ×
+        Yields (type (length (now items)) (now s) (c .at)) (typeHere (length (now items)) (now s) (c .at)) ⌝ }
+    ensures { λ r. ⌜ Wrote (sink (now (out .entry)) at)
+        (writeType (itemsAt (now (s .entry)) (now (names .entry)) (now (items .entry)))
+        (typeHere (length (now (items .entry))) (now (s .entry)) (c .at))) (sink (now (out .exit)) r) ⌝ }
+{
+    let walked = write_type(s, names, items, c, 8, out, at);
+    walked.at
+}
+
+// The same with a space behind it, where one belongs.
+pub fn write_outermost_space(
+    s: &[u8],
+    names: &[u32],
+    items: &[u32],
+    c: Cursor,
+    out: &mut [u8],
+    at: usize,
+) -> usize
+    requires { ⌜ Whole (now s) (now names) (now items) ×
+        Yields (type (length (now items)) (now s) (c .at)) (typeHere (length (now items)) (now s) (c .at)) ⌝ }
+    ensures { λ r. ⌜ Wrote (sink (now (out .entry)) at)
+        (writeTypeSpace (itemsAt (now (s .entry)) (now (names .entry)) (now (items .entry)))
+        (typeHere (length (now (items .entry))) (now (s .entry)) (c .at))) (sink (now (out .exit)) r) ⌝ }
+{
+    let walked = write_type_space(s, names, items, c, 8, out, at);
+    walked.at
+}
 
 // The bytes of a text unless `no`.
 pub fn put_unless(out: &mut [u8], at: usize, no: bool, text: &[u8]) -> usize
@@ -155,6 +195,34 @@ pub fn write_pointer(
     let walked = write_type_space(s, names, items, inner, 7, out, at);
     let behind = put_unless(out, walked.at, mutable, b"const ");
     put_bytes(out, behind, b"*")
+}
+
+// What the return slot holds for the type at c.
+pub fn write_slot_type(
+    s: &[u8],
+    names: &[u32],
+    items: &[u32],
+    c: Cursor,
+    out: &mut [u8],
+    at: usize,
+) -> usize
+    requires { ⌜ Whole (now s) (now names) (now items) ×
+        Yields (type (length (now items)) (now s) (c .at)) (typeHere (length (now items)) (now s) (c .at)) ⌝ }
+    ensures { λ r. ⌜ Wrote (sink (now (out .entry)) at)
+        (slotType (itemsAt (now (s .entry)) (now (names .entry)) (now (items .entry)))
+        (typeHere (length (now (items .entry))) (now (s .entry)) (c .at))
+        (shapeOf (typeHere (length (now (items .entry))) (now (s .entry)) (c .at)))) (sink (now (out .exit)) r) ⌝ }
+{
+    let v = shape(s, items, c);
+    let kind = v.kind;
+    match kind {
+        ShapeKind::Ref => write_pointer(s, names, items, v.inner, v.mutable, out, at),
+        ShapeKind::RustBox => write_outermost(s, names, items, c, out, at),
+        ShapeKind::UniquePtr => write_outermost(s, names, items, c, out, at),
+        ShapeKind::Str => write_outermost(s, names, items, c, out, at),
+        ShapeKind::SliceRef => write_outermost(s, names, items, c, out, at),
+        ShapeKind::Other => write_outermost(s, names, items, c, out, at),
+    }
 }
 
 // ---- functions
