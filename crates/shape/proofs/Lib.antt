@@ -2,3 +2,4 @@ pub mod TypeLaws
 pub mod ShapeLaws
 pub mod FunctionLaws
 pub mod CommaLaws
+pub mod ArgumentLaws

@@ -4,6 +4,7 @@ use format::Pointer;
 use format::Template;
 use format::TypeKind;
 use sink::put_bytes;
+use sink::put_when;
 use types::kind_of;
 use view::FunctionView;
 use view::field;
@@ -245,6 +246,13 @@ pub fn needs_comma(others: bool, count: u32) -> bool
         return true;
     }
     0 < count
+}
+
+// A comma before a parameter, where one is needed.
+pub fn put_comma(out: &mut [u8], at: usize, needed: bool) -> usize
+    ensures { λ r. ⌜ Wrote (sink (now (out .entry)) at) (pickText needed (bytes ", ") []) (sink (now (out .exit)) r) ⌝ }
+{
+    put_when(out, at, needed, b", ")
 }
 
 // Whether a function returns by a slot.
