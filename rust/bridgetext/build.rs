@@ -4,8 +4,14 @@ use std::env;
 use std::fs;
 use std::path::{Path, PathBuf};
 
+/// The services that came after the check: an older archive has not all.
+const LATER: [&str; 2] = ["bridgetext_struct_order", "bridgetext_write"];
+
 fn main() {
-    println!("cargo::rustc-check-cfg=cfg(bridgetext_library, bridgetext_struct_order)");
+    println!("cargo::rustc-check-cfg=cfg(bridgetext_library)");
+    for service in LATER {
+        println!("cargo::rustc-check-cfg=cfg({service})");
+    }
     println!("cargo::rerun-if-env-changed=BRIDGETEXT_LIB_DIR");
     println!("cargo::rerun-if-env-changed=BRIDGETEXT_REQUIRED");
 
@@ -21,8 +27,11 @@ fn main() {
         println!("cargo::rustc-link-search=native={}", folder.display());
         println!("cargo::rustc-link-lib=static=exports");
         println!("cargo::rustc-cfg=bridgetext_library");
-        if has_symbol(&archive, b"bridgetext_struct_order") {
-            println!("cargo::rustc-cfg=bridgetext_struct_order");
+        println!("cargo::metadata=archive={}", archive.display());
+        for service in LATER {
+            if has_symbol(&archive, service.as_bytes()) {
+                println!("cargo::rustc-cfg={service}");
+            }
         }
     } else if env::var_os("BRIDGETEXT_REQUIRED").is_some_and(|value| value == "1") {
         println!(

@@ -21,7 +21,7 @@ use Rattle.rules.specs.declared.Checked.the-variants.{Accepted, Refused}
 use Rattle.rules.specs.Rules.{wrongPart, taken, unfitArgument, ring}
 use Rattle.rules.specs.Judge as Judge
 use Rattle.rules.specs.Judge.{ruled, checkedOf, check}
-use Rattle.check_sheet.specs.Ruled.{ruledItems}
+use Rattle.check_sheet.specs.Ruled.{elseChecked, ruledParts, ruledItems}
 
 pub check-refused : (s : List ℕ) {e : Refusal} → decode s ≡ fault e → Refused e ≡ check s
 unfolding check Judge.judge
@@ -30,7 +30,8 @@ check-refused s h = rw h
 by-rules : (a b c d : Bool) (x : Sheet) →
     checkedOf (pick a (Judge.refused WrongPart) (pick b (Judge.refused Taken)
     (pick c (Judge.refused UnfitArgument) (pick d (Judge.refused Ring) (Judge.accepted x))))) ≡
-    pick a (Refused WrongPart) (pick b (Refused Taken) (pick c (Refused UnfitArgument) (pick d (Refused Ring) Accepted)))
+    elseChecked (pick a (Refused WrongPart) (pick b (Refused Taken) (pick c (Refused UnfitArgument) Accepted)))
+    (pick d (Refused Ring) Accepted)
 by-rules true b c d x = refl
 by-rules false true c d x = refl
 by-rules false false true d x = refl
@@ -38,7 +39,7 @@ by-rules false false false true x = refl
 by-rules false false false false x = refl
 
 pub check-decoded : (s : List ℕ) {x : Sheet} {m : ℕ} → decode s ≡ got x m → check s ≡ ruledItems (x .items)
-unfolding check Judge.judge ruled ruledItems
+unfolding check Judge.judge ruled ruledItems ruledParts
 check-decoded s {x} h =
     rw h (by-rules (wrongPart (x .items)) (taken (x .items)) (unfitArgument (x .items)) (ring (x .items)) x)
 

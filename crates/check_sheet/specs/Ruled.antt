@@ -7,9 +7,21 @@ use Rattle.rules.specs.declared.Checked.{Checked}
 use Rattle.rules.specs.declared.Checked.the-variants.{Accepted, Refused}
 use Rattle.rules.specs.Rules.{wrongPart, taken, unfitArgument, ring}
 
-unfoldable pub ruledItems : List Item → Checked
-ruledItems items =
+-- rules 9 to 11
+unfoldable pub ruledParts : List Item → Checked
+ruledParts items =
     pick (wrongPart items) (Refused WrongPart)
     (pick (taken items) (Refused Taken)
-    (pick (unfitArgument items) (Refused UnfitArgument)
-    (pick (ring items) (Refused Ring) Accepted)))
+    (pick (unfitArgument items) (Refused UnfitArgument) Accepted))
+
+-- rule 12
+abbrev pub ruledRing : List Item → Checked
+ruledRing items = pick (ring items) (Refused Ring) Accepted
+
+-- a refusal, else the next answer
+abbrev pub elseChecked : Checked → Checked → Checked
+elseChecked (Refused e) next = Refused e
+elseChecked Accepted next = next
+
+unfoldable pub ruledItems : List Item → Checked
+ruledItems items = elseChecked (ruledParts items) (ruledRing items)

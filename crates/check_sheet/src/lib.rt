@@ -17,7 +17,7 @@ ghost use Rattle.decode.specs.Tables.{Tables, Answers};
 ghost use Rattle.rules.specs.Rules.{taken as takenOf};
 ghost use Rattle.rules.specs.Judge.{check as checkOf};
 ghost use Rattle.view.specs.Values.{itemsAt, Whole};
-ghost use Rattle.check_sheet.specs.Ruled.{ruledItems};
+ghost use Rattle.check_sheet.specs.Ruled.{ruledParts, ruledRing, ruledItems};
 
 // Rule 10, with room for the digests that it needs.
 fn taken_in(s: &[u8], names: &[u32], items: &[u32], digests: &mut [u32]) -> bool
@@ -38,10 +38,10 @@ fn is_taken(s: &[u8], names: &[u32], items: &[u32]) -> bool
     taken_in(s, names, items, &mut digests)
 }
 
-// Rules 9 to 12, the lowest number first.
-pub fn judge(s: &[u8], names: &[u32], items: &[u32]) -> Checked
+// Rules 9 to 11, the lowest number first.
+pub fn judge_parts(s: &[u8], names: &[u32], items: &[u32]) -> Checked
     requires { ⌜ Whole (now s) (now names) (now items) ⌝ }
-    ensures { λ r. ⌜ r ≡ ruledItems (itemsAt (now (s .entry)) (now (names .entry)) (now (items .entry))) ⌝ }
+    ensures { λ r. ⌜ r ≡ ruledParts (itemsAt (now (s .entry)) (now (names .entry)) (now (items .entry))) ⌝ }
 {
     let wrong = wrong_part(s, names, items);
     if wrong {
@@ -55,11 +55,31 @@ pub fn judge(s: &[u8], names: &[u32], items: &[u32]) -> Checked
     if unfit {
         return Checked::Refused(Refusal::UnfitArgument);
     }
+    Checked::Accepted
+}
+
+// Rule 12.
+fn judge_ring(s: &[u8], names: &[u32], items: &[u32]) -> Checked
+    requires { ⌜ Whole (now s) (now names) (now items) ⌝ }
+    ensures { λ r. ⌜ r ≡ ruledRing (itemsAt (now (s .entry)) (now (names .entry)) (now (items .entry))) ⌝ }
+{
     let held = ring(s, names, items);
     if held {
         return Checked::Refused(Refusal::Ring);
     }
     Checked::Accepted
+}
+
+// Rules 9 to 12, the lowest number first.
+pub fn judge(s: &[u8], names: &[u32], items: &[u32]) -> Checked
+    requires { ⌜ Whole (now s) (now names) (now items) ⌝ }
+    ensures { λ r. ⌜ r ≡ ruledItems (itemsAt (now (s .entry)) (now (names .entry)) (now (items .entry))) ⌝ }
+{
+    let parts = judge_parts(s, names, items);
+    match parts {
+        Checked::Refused(e) => Checked::Refused(e),
+        Checked::Accepted => judge_ring(s, names, items),
+    }
 }
 
 // A decoded sheet, with the two tables that its decoding filled.

@@ -1,5 +1,4 @@
--- What is pending on the way from the open blocks to others, however often the blocks were set without a write: the
--- ends and begins past the longest beginning that both have.
+-- Laws of what is pending on the way from the open blocks to others.
 use mathlib.Core.Path.{_≡_, refl, sym, ap, _∙_}
 use mathlib.Core.List.{List, [], _∷_, _++_}
 use mathlib.Core.Bool.{true, false, cond, false≢true}
@@ -7,6 +6,7 @@ use Rattle.lexical.proofs.BoolLaws.{by-cases, fails-too}
 use Rattle.lexical.proofs.ByteLaws.{same-eq, same-refl}
 use Rattle.bridge.specs.Block.{Block, userDefinedNamespace, externC, sameBlock}
 use Rattle.bridge.specs.Out.{Boundary, begin, end, push, isPending}
+use Rattle.pieces.specs.Between.{ending, beginning, between}
 
 -- ---- equal blocks
 
@@ -23,21 +23,7 @@ block-refl externC = refl
 block-differ : (a b : Block) → sameBlock a b ≡ false → sameBlock b a ≡ false
 block-differ a b e = fails-too (sameBlock b a) (sameBlock a b) (λ f. rw (block-eq b a f) (block-refl a)) e
 
--- ---- pending boundaries, the last one first
-
-unfoldable pub ending : List Block → List Boundary
-ending [] = []
-ending (a ∷ P) = end a ∷ ending P
-
-unfoldable pub beginning : List Block → List Boundary → List Boundary
-beginning [] pending = pending
-beginning (b ∷ Q) pending = beginning Q (begin b ∷ pending)
-
--- from the blocks P, outermost first, to the blocks Q
-unfoldable pub between : List Block → List Block → List Boundary
-between [] Q = beginning Q []
-between (a ∷ P) [] = ending (a ∷ P)
-between (a ∷ P) (b ∷ Q) = cond (sameBlock a b) (between P Q) (beginning (b ∷ Q) (ending (a ∷ P)))
+-- ---- pending boundaries
 
 between-none : (P : List Block) → between P [] ≡ ending P
 unfolding between beginning ending

@@ -13,8 +13,8 @@ use Rattle.bridge.specs.Out.{Boundary, begin, end, Content, new, some, nextSect
 use Rattle.bridge.specs.Out.{beginNamespaces, setNamespace, flushAll, isPending, flushBlocks}
 use Rattle.bridge.specs.Out.{append, write, flush}
 use Rattle.pieces.specs.Pieces.{blankLine, openings, closings, change}
-use Rattle.pieces.proofs.Boundaries.{block-eq, block-refl, ending, beginning, between, between-same, push-begin}
-use Rattle.pieces.proofs.Boundaries.{push-end, none-pending}
+use Rattle.pieces.specs.Between.{named, ending, beginning, between}
+use Rattle.pieces.proofs.Boundaries.{block-eq, block-refl, between-same, push-begin, push-end, none-pending}
 
 -- ---- texts
 
@@ -73,7 +73,7 @@ unbroken t ns opened pending asks =
     record { text = t; namespace = ns; opened = opened; pending = pending; sectionPending = asks; panicked = false }
 
 -- the blocks P are open, and Q are set
-pub standing : List ℕ → List Name → List Block → List Block → Bool → Content
+unfoldable pub standing : List ℕ → List Name → List Block → List Block → Bool → Content
 standing t ns P Q asks = unbroken t ns (innermostFirst P []) (between P Q) asks
 
 pub new-standing : nextSection new ≡ standing [] [] [] [] true
@@ -96,9 +96,6 @@ unfolding standing nextSection
 section-asked t ns P Q asks = refl
 
 -- ---- set_namespace
-
-abbrev pub named : List Name → List Block
-named ns = map userDefinedNamespace ns
 
 begun : (t : List ℕ) (ns : List Name) (P Q : List Block) (asks : Bool) (names : List Name) →
     beginNamespaces names (standing t ns P Q asks) ≡ standing t ns P (Q ++ named names) asks
@@ -223,14 +220,20 @@ flushed-write (a ∷ P) (b ∷ Q) outer t ns pending asks s h =
     (behind-openings (t ++ closings (a ∷ P) []) true (b ∷ Q) s
     ∙ behind-closings t (a ∷ P) [] (blankLine true (openings (b ∷ Q) s)))))
 
+-- the blocks flushed and the text behind them
+pub flushed-append : (t : List ℕ) (ns : List Name) (P Q : List Block) (asks : Bool) (s : List ℕ) →
+    append s (flushBlocks (standing t ns P Q asks)) ≡ standing (t ++ change (some t) asks P Q s) ns Q Q false
+unfolding flushBlocks standing
+flushed-append t ns P Q asks s =
+    by-cases (isPending (between P Q))
+    (λ e. rw (e, between-same Q) (flushed-write P Q [] t ns (between P Q) asks s e))
+    (λ e. rw (none-pending P Q e, between-same Q, change-none (some t) asks Q s)
+    (ap (λ (x : List ℕ). unbroken x ns (innermostFirst Q []) [] false) (picked-blank t (asks && some t) s)))
+
 pub piece-written : (t : List ℕ) (ns : List Name) (P Q : List Block) (asks : Bool) (s : List ℕ) → some s ≡ true →
     write s (standing t ns P Q asks) ≡ standing (t ++ change (some t) asks P Q s) ns Q Q false
-unfolding write flushBlocks standing
-piece-written t ns P Q asks s h =
-    by-cases (isPending (between P Q))
-    (λ e. rw (h, e, between-same Q) (flushed-write P Q [] t ns (between P Q) asks s e))
-    (λ e. rw (none-pending P Q e, h, between-same Q, change-none (some t) asks Q s)
-    (ap (λ (x : List ℕ). unbroken x ns (innermostFirst Q []) [] false) (picked-blank t (asks && some t) s)))
+unfolding write
+piece-written t ns P Q asks s h = rw h (flushed-append t ns P Q asks s)
 
 pub nothing-written : (c : Content) → write [] c ≡ c
 unfolding write
@@ -241,7 +244,7 @@ nothing-written c = refl
 abbrev pub Ends : Content → List ℕ → Type 0
 Ends c t = (c .text ≡ t) × (c .panicked ≡ false)
 
-blocks-flushed : (t : List ℕ) (ns : List Name) (P : List Block) (asks : Bool) →
+pub blocks-flushed : (t : List ℕ) (ns : List Name) (P : List Block) (asks : Bool) →
     Ends (flushBlocks (standing t ns P [] asks)) (t ++ closings P [])
 unfolding flushBlocks standing between beginning ending closings
 blocks-flushed t ns [] asks = (sym (append-nil t), refl)

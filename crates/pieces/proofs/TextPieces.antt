@@ -18,7 +18,8 @@ use Rattle.bridge.specs.Write.{writeOpaqueTypeLayoutDecls, layoutDefinition, wr
 use Rattle.bridge.specs.Write.{writeRustFunctionShim, declare, define, forEach, writeFunctions, content, text}
 use Rattle.pieces.specs.Pieces.{Piece, namespaces, declared, defined, declarationPieces, definitionPieces, pieces}
 use Rattle.pieces.specs.Pieces.{blankLine, openings, closings, change, piecesText, bodyText}
-use Rattle.pieces.proofs.Machine.{some-right, some-closings, change-append, standing, named, Ends, push-begin-block}
+use Rattle.pieces.specs.Between.{named}
+use Rattle.pieces.proofs.Machine.{some-right, some-closings, change-append, standing, Ends, push-begin-block}
 use Rattle.pieces.proofs.Machine.{push-end-block, section-asked, namespace-set, piece-written, nothing-written}
 use Rattle.pieces.proofs.Machine.{new-standing, all-flushed}
 

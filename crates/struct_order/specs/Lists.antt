@@ -4,8 +4,10 @@ use mathlib.Core.List.{List}
 use Prim.Native.Nat.{ℕ}
 use lib.ListN.{length}
 use Rattle.refusal.specs.declared.Refusal.the-variants.{Ring}
-use Rattle.format.specs.Decode.{pick}
-use Rattle.format.specs.Sheet.{Item}
+use Rattle.format.specs.Decode.{got, pick}
+use Rattle.format.specs.Sheet.{Item, Sheet}
+use Rattle.format.specs.Decoding.{decode}
+use Rattle.view.specs.Values.{itemsAt, Whole}
 use Rattle.toposort.specs.Sort.{order}
 use Rattle.rules.specs.Rules.{holds, structs, ring}
 use Rattle.services.specs.declared.Written.{Written}
@@ -20,3 +22,11 @@ orderOf items = order (holds items) (length items) (structs items)
 pub record Lists (items : List Item) (buffer : List ℕ) (answer : Written) (after : List ℕ) : Type 0 where
   pub answers : answer ≡ pick (ring items) (Written.Refused Ring) (fitted (orderOf items) (length buffer))
   pub leaves : after ≡ pick (ring items) buffer (overlaid (orderOf items) buffer)
+
+-- the sheet s is decoded, and its items are those that the two tables of positions give
+pub record Decodes (s names items : List ℕ) : Type 0 where
+  pub whole : Whole s names items
+  pub sheet : Sheet
+  pub end : ℕ
+  pub decoded : decode s ≡ got sheet end
+  pub same : itemsAt s names items ≡ sheet .items

@@ -1,11 +1,21 @@
-// The struct order of a sheet: one byte per item number, counted from 0.
+// The struct order service: one byte per item number, counted from 0.
+use check_sheet::judge_parts;
+use decode::Decoded;
+use decode::Outline;
+use decode::decode;
 use order::order_of;
 use refusal::Refusal;
+use rules::Checked;
 use services::Written;
 use sink::put_bytes;
 use toposort::Step;
+ghost use Prim.Native.Nat.{_≤_};
+ghost use lib.ListN.{length};
+ghost use Rattle.format.specs.Decoding.{decode as decodeOf};
+ghost use Rattle.decode.specs.Tables.{Tables, Answers};
+ghost use Rattle.services.specs.Services.{Orders};
 ghost use Rattle.view.specs.Values.{itemsAt, Whole};
-ghost use Rattle.struct_order.specs.Lists.{Lists};
+ghost use Rattle.struct_order.specs.Lists.{Lists, Decodes};
 
 // Lists the structs of a decoded sheet for which rules 9 to 11 hold. A refusal leaves `buf` as it was.
 pub fn list_order(s: &[u8], names: &[u32], items: &[u32], buf: &mut [u8]) -> Written
@@ -25,4 +35,54 @@ pub fn list_order(s: &[u8], names: &[u32], items: &[u32], buf: &mut [u8]) -> Wri
             Written::Length(end)
         }
     }
+}
+
+// A decoded sheet: rules 9 to 11, then the list.
+fn order_ruled(s: &[u8], names: &[u32], items: &[u32], buf: &mut [u8]) -> Written
+    requires { ⌜ Decodes (now s) (now names) (now items) ⌝ }
+    ensures { λ r. ⌜ Orders (now (s .entry)) (now (buf .entry)) r (now (buf .exit)) ⌝ }
+{
+    let parts = judge_parts(s, names, items);
+    match parts {
+        Checked::Refused(e) => Written::Refused(e),
+        Checked::Accepted => list_order(s, names, items, buf),
+    }
+}
+
+// A decoded sheet, with the two tables that its decoding filled.
+fn order_decoded(sheet: &[u8], o: Outline, names: &[u32], items: &[u32], buf: &mut [u8]) -> Written
+    requires { ⌜ Tables (now sheet) (decodeOf (now sheet)) o (now names) (now items) ×
+        (1023 ≤ length (now names)) × (255 ≤ length (now items)) ⌝ }
+    ensures { λ r. ⌜ Orders (now (sheet .entry)) (now (buf .entry)) r (now (buf .exit)) ⌝ }
+{
+    let n = o.names as usize;
+    let k = o.items as usize;
+    order_ruled(sheet, &names[..n], &items[..k], buf)
+}
+
+// The answer to a sheet, from that of its decoding.
+fn answer(
+    sheet: &[u8],
+    d: Decoded,
+    names: &[u32; Outline::NAMES],
+    items: &[u32; Outline::ITEMS],
+    buf: &mut [u8],
+) -> Written
+    requires { ⌜ Answers (now sheet) (decodeOf (now sheet)) d (now names) (now items) ⌝ }
+    ensures { λ r. ⌜ Orders (now (sheet .entry)) (now (buf .entry)) r (now (buf .exit)) ⌝ }
+{
+    match d {
+        Decoded::Refused(e) => Written::Refused(e),
+        Decoded::Whole(o) => order_decoded(sheet, o, names, items, buf),
+    }
+}
+
+// Any bytes: the list's length, or the refusal. A refusal leaves `buf` as it was.
+pub fn struct_order(sheet: &[u8], buf: &mut [u8]) -> Written
+    ensures { λ r. ⌜ Orders (now (sheet .entry)) (now (buf .entry)) r (now (buf .exit)) ⌝ }
+{
+    let mut names = [0u32; Outline::NAMES];
+    let mut items = [0u32; Outline::ITEMS];
+    let d = decode(sheet, &mut names, &mut items);
+    answer(sheet, d, &names, &items, buf)
 }

@@ -9,3 +9,7 @@ pub fn check(_sheet: &[u8]) -> i64 {
 pub fn struct_order(_sheet: &[u8], _buf: &mut [u8]) -> i64 {
     panic!("{ABSENT}")
 }
+
+pub fn write(_sheet: &[u8], _buf: &mut [u8]) -> i64 {
+    panic!("{ABSENT}")
+}

@@ -1,5 +1,6 @@
-//! The proved services on sheets, for a host in Rust: check a sheet, and list
-//! its structs in the order in which C++ can define them.
+//! The proved services on sheets, for a host in Rust: check a sheet, write its
+//! text, and list its structs in the order in which C++ can define them.
+//! `include/bridgetext.h` is the same for a host in C or C++.
 //!
 //! The services are a static library, `libexports.a`, that `rt staticlib
 //! exports` writes. `build.rs` looks for it in the folder `BRIDGETEXT_LIB_DIR`,
@@ -27,7 +28,17 @@ pub const HAVE_LIBRARY: bool = cfg!(bridgetext_library);
 /// Whether it lists struct orders.
 pub const HAVE_STRUCT_ORDER: bool = cfg!(bridgetext_struct_order);
 
+/// Whether it writes texts.
+pub const HAVE_WRITE: bool = cfg!(bridgetext_write);
+
 /// Checks a sheet: any bytes of any length.
+///
+/// ```
+/// use bridgetext::Refusal;
+/// # if !bridgetext::HAVE_LIBRARY { return }
+/// assert_eq!(bridgetext::check(&[0x10, 0, 0]), Ok(()));
+/// assert_eq!(bridgetext::check(&[0x20, 0, 0]), Err(Refusal::Edition));
+/// ```
 pub fn check(sheet: &[u8]) -> Result<(), Refusal> {
     match answer(library::check(sheet))? {
         0 => Ok(()),
@@ -40,6 +51,36 @@ pub fn check(sheet: &[u8]) -> Result<(), Refusal> {
 /// was, and after a refusal all of it does.
 pub fn struct_order(sheet: &[u8], buf: &mut [u8]) -> Result<usize, Refusal> {
     answer(library::struct_order(sheet, buf))
+}
+
+/// Writes the sheet's text to the start of `buf`, and says how long it is. The
+/// rest of `buf` stays as it was, and after a refusal all of it does.
+///
+/// No length is known beforehand; a sheet of 32,768 bytes can stand for more
+/// than 73 million bytes of text. A host that takes any text grows its buffer:
+///
+/// ```
+/// use bridgetext::Refusal;
+///
+/// fn text(sheet: &[u8]) -> Result<Vec<u8>, Refusal> {
+///     let mut buf = vec![0; 65_536];
+///     loop {
+///         match bridgetext::write(sheet, &mut buf) {
+///             Err(Refusal::Overrun) => buf.resize(2 * buf.len(), 0),
+///             answer => {
+///                 buf.truncate(answer?);
+///                 return Ok(buf);
+///             }
+///         }
+///     }
+/// }
+/// # if !bridgetext::HAVE_WRITE { return }
+///
+/// assert_eq!(text(&[0x10, 0, 0]), Ok(Vec::new()));
+/// assert_eq!(text(&[0x10, 0, 0, 0]), Err(Refusal::Tail));
+/// ```
+pub fn write(sheet: &[u8], buf: &mut [u8]) -> Result<usize, Refusal> {
+    answer(library::write(sheet, buf))
 }
 
 /// An answer across C linkage: a length, or a refusal's number negated.

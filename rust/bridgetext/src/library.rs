@@ -11,6 +11,13 @@ mod c {
             buf: *mut u8,
             buf_len: usize,
         ) -> i64;
+        #[cfg(bridgetext_write)]
+        pub fn bridgetext_write(
+            sheet: *const u8,
+            sheet_len: usize,
+            buf: *mut u8,
+            buf_len: usize,
+        ) -> i64;
     }
 }
 
@@ -28,4 +35,15 @@ pub fn struct_order(sheet: &[u8], buf: &mut [u8]) -> i64 {
 #[cfg(not(bridgetext_struct_order))]
 pub fn struct_order(_sheet: &[u8], _buf: &mut [u8]) -> i64 {
     panic!("the library has no struct order");
+}
+
+#[cfg(bridgetext_write)]
+pub fn write(sheet: &[u8], buf: &mut [u8]) -> i64 {
+    // SAFETY: as above.
+    unsafe { c::bridgetext_write(sheet.as_ptr(), sheet.len(), buf.as_mut_ptr(), buf.len()) }
+}
+
+#[cfg(not(bridgetext_write))]
+pub fn write(_sheet: &[u8], _buf: &mut [u8]) -> i64 {
+    panic!("the library writes no text");
 }

@@ -43,7 +43,9 @@ fn the_stored_file_covers_every_answer() {
 #[test]
 fn the_examples_are_what_the_crate_writes() {
     let skipped = oracle::skipped();
-    for name in ["mill", "header", "doxygen1", "doxygen2", "method", "reopen"] {
+    for name in [
+        "mill", "header", "doxygen1", "doxygen2", "method", "reopen", "structs",
+    ] {
         let read = |end: &str| {
             let path = vectors().join("examples").join(format!("{name}.{end}"));
             fs::read_to_string(path).unwrap()

@@ -1,15 +1,27 @@
 //! One sheet through a service, and what the service owes for it.
 
+use bridgetext::Refusal;
 use sheet::{Kind, Sheet, Type};
+use std::fmt::{self, Display};
 
 /// What the struct order service owes, but for the buffer: the list, or the
 /// number of the check's refusal.
 pub type Order = Result<Vec<u8>, u8>;
 
+/// The same for the write service: the text, or the refusal.
+pub type Text = Result<Vec<u8>, u8>;
+
+/// A service that writes into a buffer.
+#[derive(Clone, Copy)]
+pub enum Service {
+    StructOrder,
+    Write,
+}
+
 const OVERRUN: u8 = 13;
 
 /// Bytes on each side of a buffer that must stay as they are.
-const MARGIN: usize = 64;
+pub const MARGIN: usize = 64;
 
 /// Asks for a check, twice; the answer's number, or what is wrong with it.
 pub fn check(bytes: &[u8]) -> Result<u8, String> {
@@ -55,10 +67,44 @@ pub fn plain_order(sheet: &Sheet) -> Vec<u8> {
     list
 }
 
-/// Buffer lengths around that of the list, with none and with a large one.
-pub fn lengths(order: &Order, large: usize) -> Vec<usize> {
-    let list = order.as_ref().map_or(0, Vec::len);
-    let mut lengths = vec![0, list.saturating_sub(1), list, list + 1, large];
+/// The text by the crate's writer; without its source by crate `plain`.
+pub fn wanted_text(bytes: &[u8]) -> Text {
+    let sheet = sheet::read(bytes).map_err(|refusal| refusal.number())?;
+    Ok(if oracle::HAVE_SOURCE {
+        oracle::text(&sheet)
+    } else {
+        plain::text(&sheet)
+    })
+}
+
+/// The text of an accepted sheet by the service or, while the library has none,
+/// by [`wanted_text`].
+pub fn text(sheet: &Sheet) -> Vec<u8> {
+    let bytes = sheet::encode(sheet);
+    if !bridgetext::HAVE_WRITE {
+        return wanted_text(&bytes).unwrap();
+    }
+    let mut text = vec![0; 1 << 24];
+    let length = bridgetext::write(&bytes, &mut text).unwrap();
+    text.truncate(length);
+    text
+}
+
+/// The same for the struct order.
+pub fn order(sheet: &Sheet) -> Vec<u8> {
+    if !bridgetext::HAVE_STRUCT_ORDER {
+        return plain_order(sheet);
+    }
+    let mut list = vec![0; 255];
+    let length = bridgetext::struct_order(&sheet::encode(sheet), &mut list).unwrap();
+    list.truncate(length);
+    list
+}
+
+/// Buffer lengths around that of the answer, with none and with a large one.
+pub fn lengths(wanted: &Result<Vec<u8>, u8>, large: usize) -> Vec<usize> {
+    let length = wanted.as_ref().map_or(0, Vec::len);
+    let mut lengths = vec![0, length.saturating_sub(1), length, length + 1, large];
     lengths.sort();
     lengths.dedup();
     lengths
@@ -68,51 +114,95 @@ pub fn lengths(order: &Order, large: usize) -> Vec<usize> {
 /// the answer and every byte in and around the buffer. Says how many of the
 /// calls were overruns, or what is wrong.
 pub fn struct_order(bytes: &[u8], order: &Order, lengths: &[usize]) -> Result<u64, String> {
-    if !bridgetext::HAVE_STRUCT_ORDER {
+    with_buffers(Service::StructOrder, bytes, order, lengths, MARGIN)
+}
+
+/// The same for the text.
+pub fn write(bytes: &[u8], text: &Text, lengths: &[usize]) -> Result<u64, String> {
+    with_buffers(Service::Write, bytes, text, lengths, MARGIN)
+}
+
+/// The same with another margin; with none, a buffer is alone on the heap.
+pub fn with_buffers(
+    service: Service,
+    bytes: &[u8],
+    wanted: &Result<Vec<u8>, u8>,
+    lengths: &[usize],
+    margin: usize,
+) -> Result<u64, String> {
+    if !service.is_there() {
         return Ok(0);
     }
     let mut overruns = 0;
     for length in lengths {
         // Of two complementary fillings a write leaves at most one as it was.
         for flip in [0x00, 0xff] {
-            overruns += u64::from(with_buffer(bytes, order, *length, flip)? == Err(OVERRUN));
+            let answer = with_buffer(service, bytes, wanted, *length, margin, flip)
+                .map_err(|error| format!("{service} with a buffer of {length}{error}"))?;
+            overruns += u64::from(answer == Err(OVERRUN));
         }
     }
     Ok(overruns)
 }
 
 fn with_buffer(
+    service: Service,
     bytes: &[u8],
-    order: &Order,
+    wanted: &Result<Vec<u8>, u8>,
     length: usize,
+    margin: usize,
     flip: u8,
 ) -> Result<Result<usize, u8>, String> {
-    let fill = (0..length + 2 * MARGIN).map(|at| (at as u8).wrapping_mul(151) ^ flip);
+    let fill = (0..length + 2 * margin).map(|at| (at as u8).wrapping_mul(151) ^ flip);
     let mut memory: Vec<u8> = fill.collect();
     let mut wanted_memory = memory.clone();
-    let wanted = match order {
+    let wanted = match wanted {
         Err(refusal) => Err(*refusal),
-        Ok(list) if list.len() > length => Err(OVERRUN),
-        Ok(list) => {
-            wanted_memory[MARGIN..][..list.len()].copy_from_slice(list);
-            Ok(list.len())
+        Ok(bytes) if bytes.len() > length => Err(OVERRUN),
+        Ok(bytes) => {
+            wanted_memory[margin..][..bytes.len()].copy_from_slice(bytes);
+            Ok(bytes.len())
         }
     };
-    let buffer = &mut memory[MARGIN..][..length];
-    let answer = bridgetext::struct_order(bytes, buffer).map_err(|refusal| refusal.number());
+    let buffer = &mut memory[margin..][..length];
+    let answer = service.ask(bytes, buffer).map_err(Refusal::number);
     if answer != wanted {
-        return Err(format!(
-            "struct order with a buffer of {length} answers {answer:?}, not {wanted:?}"
-        ));
+        return Err(format!(" answers {answer:?}, not {wanted:?}"));
+    }
+    if memory == wanted_memory {
+        return Ok(answer);
     }
     let mut both = memory.iter().zip(&wanted_memory);
-    if let Some(at) = both.position(|(one, two)| one != two) {
-        return Err(format!(
-            "struct order with a buffer of {length}: byte {} of the buffer is {}, not {}",
-            at as i64 - MARGIN as i64,
-            memory[at],
-            wanted_memory[at]
-        ));
+    let at = both.position(|(one, two)| one != two).unwrap();
+    Err(format!(
+        ": byte {} of the buffer is {}, not {}",
+        at as i64 - margin as i64,
+        memory[at],
+        wanted_memory[at]
+    ))
+}
+
+impl Service {
+    fn is_there(self) -> bool {
+        match self {
+            Service::StructOrder => bridgetext::HAVE_STRUCT_ORDER,
+            Service::Write => bridgetext::HAVE_WRITE,
+        }
     }
-    Ok(answer)
+
+    fn ask(self, bytes: &[u8], buffer: &mut [u8]) -> Result<usize, Refusal> {
+        match self {
+            Service::StructOrder => bridgetext::struct_order(bytes, buffer),
+            Service::Write => bridgetext::write(bytes, buffer),
+        }
+    }
+}
+
+impl Display for Service {
+    fn fmt(&self, out: &mut fmt::Formatter) -> fmt::Result {
+        out.write_str(match self {
+            Service::StructOrder => "struct order",
+            Service::Write => "write",
+        })
+    }
 }

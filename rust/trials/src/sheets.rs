@@ -1,8 +1,92 @@
-//! Sheets for the trials: many structs from a seed, and fixed large ones.
+//! Sheets for the trials: many structs or functions from a seed, and fixed
+//! large ones.
 
 use sheet::{
-    Arg, Form, Function, Item, ItemIndex, Kind, NameIndex, Rng, Sheet, Type, generate, limit,
+    Arg, Form, Function, Item, ItemIndex, Kind, NameIndex, Rng, Sheet, Type, encode, generate,
+    limit,
 };
+
+/// Any sheet for the write service; one in 2,000 is full of functions.
+pub fn texts(rng: &mut Rng) -> Vec<u8> {
+    if rng.one_in(2_000) {
+        encode(&many_functions(rng))
+    } else {
+        generate::any(rng)
+    }
+}
+
+/// 255 functions, or a few types and functions of every form.
+pub fn many_functions(rng: &mut Rng) -> Sheet {
+    let mut sheet = Sheet::empty();
+    sheet.header = rng.one_in(4);
+    sheet.doxygen = rng.bit();
+    let words = (0..limit::ITEMS + limit::ARGUMENTS).map(|i| format!("f{i}").into_bytes());
+    sheet.names = words.collect();
+    let types: Vec<ItemIndex> = (0..rng.below(2) * rng.between(1, 6))
+        .map(|i| i as ItemIndex)
+        .collect();
+    for i in 0..limit::ITEMS {
+        let kind = match types.get(i) {
+            Some(_) => a_type(rng),
+            None => Kind::Function(a_function(rng, i, &types)),
+        };
+        let depth = rng.below(3);
+        sheet.items.push(Item {
+            namespace: (0..depth).map(|_| rng.below(2) as NameIndex).collect(),
+            name: i as NameIndex,
+            kind,
+        });
+    }
+    sheet
+}
+
+fn a_type(rng: &mut Rng) -> Kind {
+    let pointer = rng.bit();
+    match rng.below(3) {
+        0 => struct_of(Vec::new()),
+        1 => Kind::CxxType { pointer },
+        _ => Kind::RustType { pointer },
+    }
+}
+
+fn a_function(rng: &mut Rng, number: usize, types: &[ItemIndex]) -> Function {
+    let form = match (rng.below(4), types) {
+        (0, _) | (_, []) => Form::Free,
+        (1, types) => Form::ConstMethod(*rng.pick(types)),
+        (2, types) => Form::MutMethod(*rng.pick(types)),
+        (_, types) => Form::Associated(*rng.pick(types)),
+    };
+    let arguments = match rng.below(16) {
+        0 => limit::ARGUMENTS,
+        _ => rng.below(5),
+    };
+    let args = (0..arguments).map(|i| Arg {
+        name: (number + i) as NameIndex,
+        ty: match a_signature_type(rng, types) {
+            Type::CxxVector(inner) => Type::RustVec(inner),
+            ty => ty,
+        },
+    });
+    let args = args.collect();
+    Function {
+        rust_name: number as NameIndex,
+        form,
+        throws: rng.one_in(3),
+        ret: rng.bit().then(|| a_signature_type(rng, types)),
+        args,
+        comment: vec![b" line".to_vec(); rng.below(3)],
+    }
+}
+
+fn a_signature_type(rng: &mut Rng, types: &[ItemIndex]) -> Type {
+    let depth = match rng.below(100) {
+        0 => rng.between(4, limit::TYPE_DEPTH),
+        1..=10 => 3,
+        11..=40 => 2,
+        _ => 1,
+    };
+    generate::type_of_depth(rng, types, depth)
+}
 
 /// A sheet of structs that hold one another, among other items: chains,
 /// diamonds, stars, forests, many fields; one in twelve may have a ring.
@@ -14,7 +98,7 @@ pub fn structs(rng: &mut Rng) -> Sheet {
         _ => (rng.between(1, 15), rng.below(6)),
     };
     let mut held: Vec<Vec<usize>> = vec![Vec::new(); count];
-    match rng.below(7) {
+    match rng.below(8) {
         // A chain, and diamonds one behind the other.
         0 => (1..count).for_each(|i| held[i - 1].push(i)),
         1 => (0..count).for_each(|i| held[i].extend([i + 1, i + 2].iter().filter(|j| **j < count))),
@@ -29,11 +113,15 @@ pub fn structs(rng: &mut Rng) -> Sheet {
                 }
             }
         }
-        // Anything that goes upwards, with few fields and with as many as fit.
+        // Anything that goes upwards, with few fields, with any number of them,
+        // and with as many as there can be.
         shape => {
-            let most = if shape == 5 { 4 } else { limit::FIELDS };
             for (i, held) in held.iter_mut().enumerate().take(count - 1) {
-                let fields = rng.below(most + 1);
+                let fields = match shape {
+                    5 => rng.below(5),
+                    6 => rng.below(limit::FIELDS + 1),
+                    _ => limit::FIELDS,
+                };
                 held.extend((0..fields).map(|_| rng.between(i + 1, count - 1)));
             }
         }
@@ -226,4 +314,50 @@ pub fn apart() -> Sheet {
 /// 255 structs, each holding the next 63, those near the end fewer.
 pub fn dense() -> Sheet {
     all_structs(|i| (i + 1..limit::ITEMS).take(limit::FIELDS).collect())
+}
+
+/// As much text as this way gives: one argument, whose type is written three
+/// times and names a type with a long full name in every slot.
+pub fn longest_text() -> Sheet {
+    // The most names that fit; a sheet grows with their number.
+    let (mut fits, mut too_many) = (1, 1 << 17);
+    while fits + 1 < too_many {
+        let names = (fits + too_many) / 2;
+        if encode(&of_names(names)).len() <= limit::SHEET_BYTES {
+            fits = names;
+        } else {
+            too_many = names;
+        }
+    }
+    of_names(fits)
+}
+
+fn of_names(count: usize) -> Sheet {
+    let mut types = vec![Type::Named(0); count];
+    while types.len() > 1 {
+        let slots = types.chunks(limit::SLOTS + 1).map(|part| Type::Fn {
+            ret: part.first().cloned().map(Box::new),
+            args: part[1..].to_vec(),
+        });
+        types = slots.collect();
+    }
+    let args = types.into_iter().map(|ty| Arg {
+        name: 0,
+        ty: Type::RustVec(Box::new(ty)),
+    });
+    let mut sheet = Sheet::empty();
+    sheet.names = vec![vec![b'n'; limit::NAME_CHARS]];
+    sheet.items = vec![
+        Item {
+            namespace: vec![0; limit::NAMESPACES],
+            name: 0,
+            kind: Kind::CxxType { pointer: true },
+        },
+        Item {
+            namespace: Vec::new(),
+            name: 0,
+            kind: function(0, args.collect()),
+        },
+    ];
+    sheet
 }

@@ -1,7 +1,8 @@
-//! Generated and damaged sheets: the services agree with the Rust check and the
-//! crate's `sort`. The program `differential` runs more of them.
+//! Generated and damaged sheets: the services agree with the Rust check, the
+//! crate's `sort` and its writer. The program `differential` runs more of them.
 
 use sheet::{Rng, decode, desc, encode, generate};
+use trials::compare::Text;
 use trials::{compare, sheets};
 
 fn both(sheet: &[u8]) -> Result<u8, String> {
@@ -9,6 +10,12 @@ fn both(sheet: &[u8]) -> Result<u8, String> {
     let order = compare::wanted_order(sheet);
     compare::struct_order(sheet, &order, &compare::lengths(&order, 400))?;
     Ok(answer)
+}
+
+fn text(sheet: &[u8]) -> Result<Text, String> {
+    let text = compare::wanted_text(sheet);
+    compare::write(sheet, &text, &compare::lengths(&text, 65_536))?;
+    Ok(text)
 }
 
 #[test]
@@ -45,6 +52,21 @@ fn large_sheets() {
 }
 
 #[test]
+fn every_buffer_length() {
+    if trials::skipped() {
+        return;
+    }
+    let lengths: Vec<usize> = (0..=258).collect();
+    for sheet in [sheets::apart(), sheets::chain(), sheets::diamonds()] {
+        let sheet = encode(&sheet);
+        let order = compare::wanted_order(&sheet);
+        assert_eq!(order.as_ref().map(Vec::len), Ok(255));
+        let overruns = compare::struct_order(&sheet, &order, &lengths).unwrap();
+        assert!(!bridgetext::HAVE_STRUCT_ORDER || overruns == 2 * 255);
+    }
+}
+
+#[test]
 fn generated_sheets() {
     if trials::skipped() {
         return;
@@ -76,6 +98,70 @@ fn many_structs() {
             panic!("{error}\n{}", desc::hex(&sheet));
         }
     }
+}
+
+#[test]
+fn texts_at_the_limits() {
+    if trials::skipped_write() {
+        return;
+    }
+    let fixed = generate::boundaries().into_iter();
+    for (label, sheet) in fixed.chain(generate::signatures()) {
+        if let Err(error) = text(&sheet) {
+            panic!("{label}: {error}");
+        }
+    }
+}
+
+#[test]
+fn large_texts() {
+    if trials::skipped_write() {
+        return;
+    }
+    let mut rng = Rng::new(5);
+    let many = (0..20).map(|_| sheets::many_functions(&mut rng));
+    let large = [
+        sheets::many_names(),
+        sheets::functions(8),
+        sheets::functions(31),
+        sheets::dense(),
+    ];
+    for (number, sheet) in large.into_iter().chain(many).enumerate() {
+        if let Err(error) = text(&encode(&sheet)) {
+            panic!("sheet {number}: {error}");
+        }
+    }
+}
+
+/// Some 73 million bytes.
+#[test]
+fn the_longest_text() {
+    if trials::skipped_write() {
+        return;
+    }
+    let sheet = encode(&sheets::longest_text());
+    let text = compare::wanted_text(&sheet);
+    let length = text.as_ref().map_or(0, Vec::len);
+    assert!(length > 73_000_000, "{length}");
+    let lengths = [length - 1, length];
+    assert_eq!(compare::write(&sheet, &text, &lengths), Ok(2));
+}
+
+#[test]
+fn generated_texts() {
+    if trials::skipped_write() {
+        return;
+    }
+    let mut rng = Rng::new(6);
+    let mut accepted = 0;
+    for _ in 0..4_000 {
+        let sheet = sheets::texts(&mut rng);
+        match text(&sheet) {
+            Ok(text) => accepted += u32::from(text.is_ok()),
+            Err(error) => panic!("{error}\n{}", desc::hex(&sheet)),
+        }
+    }
+    assert!(accepted > 2_000, "{accepted}");
 }
 
 /// What stands in for the crate's `sort` where its source is not at hand.

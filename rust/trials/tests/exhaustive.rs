@@ -4,14 +4,16 @@ use trials::compare;
 
 fn one(sheet: &[u8]) {
     let answer = compare::check(sheet);
-    // So short a sheet has no struct.
-    let order = match &answer {
+    // So short a sheet has no struct and no text.
+    let nothing = match &answer {
         Ok(0) => Ok(Vec::new()),
         Ok(refusal) => Err(*refusal),
         Err(error) => panic!("{error}\n{sheet:02x?}"),
     };
-    if let Err(error) = compare::struct_order(sheet, &order, &[0, 1]) {
-        panic!("{error}\n{sheet:02x?}");
+    for service in [compare::struct_order, compare::write] {
+        if let Err(error) = service(sheet, &nothing, &[0, 1]) {
+            panic!("{error}\n{sheet:02x?}");
+        }
     }
 }
 

@@ -1,19 +1,24 @@
 //! Every entry of the stored list.
 
-use oracle::vectors::parse;
+use oracle::vectors::{Record, parse};
 use std::fs;
 use std::path::Path;
 use trials::compare;
+
+fn records() -> Vec<Record> {
+    let path = Path::new(env!("CARGO_MANIFEST_DIR")).join("../../vectors/vectors.bin");
+    let records = parse(&fs::read(path).unwrap()).unwrap();
+    assert!(records.len() > 1_000, "{}", records.len());
+    records
+}
 
 #[test]
 fn stored_answers_and_orders() {
     if trials::skipped() {
         return;
     }
-    let path = Path::new(env!("CARGO_MANIFEST_DIR")).join("../../vectors/vectors.bin");
-    let records = parse(&fs::read(path).unwrap()).unwrap();
     let mut overruns = 0;
-    for (number, record) in records.iter().enumerate() {
+    for (number, record) in records().iter().enumerate() {
         let answer = bridgetext::check(&record.sheet).err();
         let answer = answer.map_or(0, |refusal| refusal.number());
         assert_eq!(answer, record.answer, "record {number}");
@@ -27,9 +32,28 @@ fn stored_answers_and_orders() {
             Err(error) => panic!("record {number}: {error}"),
         }
     }
-    assert!(records.len() > 1_000, "{}", records.len());
     assert!(
         !bridgetext::HAVE_STRUCT_ORDER || overruns > 100,
         "{overruns}"
     );
+}
+
+#[test]
+fn stored_texts() {
+    if trials::skipped_write() {
+        return;
+    }
+    let mut overruns = 0;
+    for (number, record) in records().iter().enumerate() {
+        let text = match record.answer {
+            0 => Ok(record.text.clone()),
+            refusal => Err(refusal),
+        };
+        let lengths = compare::lengths(&text, 65_536);
+        match compare::write(&record.sheet, &text, &lengths) {
+            Ok(count) => overruns += count,
+            Err(error) => panic!("record {number}: {error}"),
+        }
+    }
+    assert!(overruns > 1_000, "{overruns}");
 }

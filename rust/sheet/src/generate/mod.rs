@@ -8,7 +8,7 @@ mod graph;
 
 pub use boundary::{boundaries, signatures};
 pub use fault::faulty;
-pub use good::{good, large};
+pub use good::{good, large, type_of_depth};
 pub use graph::graph;
 
 use crate::{Refusal, Rng, encode};

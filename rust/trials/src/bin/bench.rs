@@ -1,6 +1,7 @@
 //! `bench`: the time of the services.
 
 use sheet::{Rng, encode, generate};
+use std::cell::RefCell;
 use std::hint::black_box;
 use std::process::ExitCode;
 use std::time::{Duration, Instant};
@@ -8,10 +9,11 @@ use trials::sheets;
 
 const USAGE: &str = "usage: bench [--runs N]
 
-Times `bridgetext::check` against `sheet::check` on the same sheets, and
-`bridgetext::struct_order` against the crate's `sort`, N runs of each (501
-unless given), one of the first, one of the second and so on. Prints medians
-and their ratio as Markdown. Buffers are not cleared between the runs.
+Times `bridgetext::check` against `sheet::check` on the same sheets,
+`bridgetext::struct_order` against the crate's `sort`, and `bridgetext::write`
+against `plain::write`, N runs of each (501 unless given), one of the first, one
+of the second and so on. Prints medians and their ratio as Markdown. Buffers are
+not cleared between the runs.
 
 Exit code: 0 done, 1 a service answers wrong, 2 wrong use, no library, or not
 built for release.";
@@ -32,7 +34,8 @@ fn main() -> ExitCode {
         eprintln!("bench: not built for release");
         return ExitCode::from(2);
     }
-    match checks(runs).and_then(|()| orders(runs)) {
+    let tables = || checks(runs).and_then(|()| orders(runs));
+    match tables().and_then(|()| texts(runs)) {
         Ok(()) => ExitCode::SUCCESS,
         Err(error) => {
             eprintln!("bench: {error}");
@@ -50,15 +53,17 @@ fn arguments() -> Option<usize> {
     }
 }
 
-fn checks(runs: usize) -> Result<(), String> {
+/// A thousand sheets of at most 300 bytes.
+fn small() -> Vec<Vec<u8>> {
     let mut rng = Rng::new(1);
-    let mut small: Vec<Vec<u8>> = Vec::new();
-    while small.len() < 1_000 {
-        let sheet = encode(&generate::good(&mut rng));
-        if sheet.len() <= 300 {
-            small.push(sheet);
-        }
-    }
+    let sheets = std::iter::repeat_with(|| encode(&generate::good(&mut rng)));
+    sheets
+        .filter(|sheet| sheet.len() <= 300)
+        .take(1_000)
+        .collect()
+}
+
+fn checks(runs: usize) -> Result<(), String> {
     let one = |sheet| vec![encode(&sheet)];
     let cases = [
         (
@@ -74,7 +79,7 @@ fn checks(runs: usize) -> Result<(), String> {
         ("255 functions, 31 arguments", one(sheets::functions(31))),
         ("255 structs, 63 fields", one(sheets::dense())),
         ("255 structs in a chain", one(sheets::chain())),
-        ("1,000 small sheets", small),
+        ("1,000 small sheets", small()),
     ];
     println!("| sheet | bytes | `bridgetext::check` | `sheet::check` | ratio |");
     println!("|---|---|---|---|---|");
@@ -159,6 +164,75 @@ fn orders(runs: usize) -> Result<(), String> {
             proved / from_bytes,
             time(sort),
             proved / sort,
+        );
+    }
+    Ok(())
+}
+
+fn texts(runs: usize) -> Result<(), String> {
+    if !bridgetext::HAVE_WRITE {
+        return Ok(());
+    }
+    let cases = [
+        (
+            "255 functions, 8 arguments",
+            vec![encode(&sheets::functions(8))],
+            runs,
+        ),
+        ("1,000 small sheets", small(), runs),
+        // A run takes long enough to need fewer of them.
+        (
+            "the longest text",
+            vec![encode(&sheets::longest_text())],
+            runs.min(21),
+        ),
+    ];
+    println!();
+    println!(
+        "Both begin with the sheet's bytes, check them, and have room for the text. The plain"
+    );
+    println!(
+        "writer is one pass; the service leaves the buffer as it was where the text has no room."
+    );
+    println!();
+    println!("| sheet | bytes | text | `bridgetext::write` | `plain::write` | ratio |");
+    println!("|---|---|---|---|---|---|");
+    for (label, sheets, runs) in cases {
+        let mut bytes = 0;
+        let mut length = 0;
+        let mut longest = 0;
+        for sheet in &sheets {
+            let text = plain::text(&sheet::read(sheet).unwrap());
+            let mut written = vec![0; text.len()];
+            if bridgetext::write(sheet, &mut written) != Ok(text.len()) || written != text {
+                return Err(format!("{label}: another text than the plain writer's"));
+            }
+            bytes += sheet.len();
+            length += text.len();
+            longest = longest.max(text.len());
+        }
+        let buffers = [
+            RefCell::new(vec![0; longest]),
+            RefCell::new(vec![0; longest]),
+        ];
+        let proved = || {
+            for sheet in &sheets {
+                let buffer = &mut buffers[0].borrow_mut();
+                let _ = black_box(bridgetext::write(black_box(sheet), buffer));
+            }
+        };
+        let rust = || {
+            for sheet in &sheets {
+                let buffer = &mut buffers[1].borrow_mut();
+                let _ = black_box(plain::write(black_box(sheet), buffer));
+            }
+        };
+        let [proved, rust] = medians(runs, [&proved, &rust]);
+        let ratio = proved / rust;
+        println!(
+            "| {label} | {bytes} | {length} | {} | {} | {ratio:.2} |",
+            time(proved),
+            time(rust)
         );
     }
     Ok(())

@@ -6,16 +6,23 @@ use std::io::{self, Write};
 use std::panic;
 use std::process::ExitCode;
 use std::time::Instant;
-use trials::{compare, sheets};
+use trials::compare::{self, Service};
+use trials::features::Features;
+use trials::sheets;
 
-const USAGE: &str = "usage: differential [--count N] [--seed S] [--service check|order]
+const USAGE: &str = "usage: differential [--count N] [--seed S] [--service check|order|write|all]
+                    [--margin M]
 
 Generates N sheets (100000 unless given) from the seed (1 unless given), after
-some 300 fixed ones at the limits, and puts each through both services, or the
-one that is named. A check is compared with the Rust check. The struct order is
-asked for with buffers of every length around the list's, and each answer and
-every byte in and around the buffer are compared with the crate's `sort`; its
-sheets have many structs. Prints how many had which answer.
+some 300 fixed ones at the limits, and puts each through all services, or the
+one that is named. A check is compared with the Rust check. The struct order and
+the text are asked for with buffers of every length around the answer's, and
+each answer and every byte in and around the buffer are compared with the
+crate's `sort` and its writer. The order's sheets have many structs. Prints how
+many had which answer and, for the text, what occurred in the accepted ones.
+
+With --margin 0 a buffer has nothing around it (64 bytes unless given), so that
+valgrind sees every byte too far.
 
 Exit code: 0 all agree, 1 a difference or a panic (the sheet is printed as
 hex), 2 wrong use or no library.";
@@ -29,8 +36,12 @@ fn main() -> ExitCode {
         eprintln!("differential: no library (run rt staticlib exports and build again)");
         return ExitCode::from(2);
     }
-    if options.order && !oracle::HAVE_SOURCE {
-        eprintln!("differential: no cxx-build source, so the order is that of a plain walk");
+    if options.write && !bridgetext::HAVE_WRITE {
+        eprintln!("differential: the library writes no text");
+        return ExitCode::from(2);
+    }
+    if (options.order || options.write) && !oracle::HAVE_SOURCE {
+        eprintln!("differential: no cxx-build source, so order and text are those of plain Rust");
     }
     let start = Instant::now();
     let mut totals = Totals::default();
@@ -44,6 +55,8 @@ fn main() -> ExitCode {
         options.sheet(&mut rng)
     });
     for sheet in fixed.chain(generated) {
+        // No byte more than the sheet has, for valgrind.
+        let sheet = sheet.into_boxed_slice();
         let run = panic::AssertUnwindSafe(|| totals.run(&options, &sheet));
         let result = panic::catch_unwind(run).unwrap_or_else(|_| Err("a panic".into()));
         if let Err(error) = result {
@@ -64,6 +77,8 @@ struct Options {
     seed: u64,
     check: bool,
     order: bool,
+    write: bool,
+    margin: usize,
 }
 
 impl Options {
@@ -72,7 +87,9 @@ impl Options {
             count: 100_000,
             seed: 1,
             check: true,
-            order: true,
+            order: bridgetext::HAVE_STRUCT_ORDER,
+            write: bridgetext::HAVE_WRITE,
+            margin: compare::MARGIN,
         };
         let mut args = std::env::args().skip(1);
         while let Some(flag) = args.next() {
@@ -80,17 +97,26 @@ impl Options {
             match (flag.as_str(), value.as_str()) {
                 ("--count", _) => options.count = value.parse().ok()?,
                 ("--seed", _) => options.seed = value.parse().ok()?,
-                ("--service", "check") => options.order = false,
-                ("--service", "order") => options.check = false,
+                ("--margin", _) => options.margin = value.parse().ok()?,
+                ("--service", "all") => {}
+                ("--service", name @ ("check" | "order" | "write")) => {
+                    options.check = name == "check";
+                    options.order = name == "order";
+                    options.write = name == "write";
+                }
                 _ => return None,
             }
         }
-        (options.check || options.order).then_some(options)
+        Some(options)
     }
 
     fn sheet(&self, rng: &mut Rng) -> Vec<u8> {
         if !self.order || rng.one_in(4) {
-            return generate::any(rng);
+            return if self.write {
+                sheets::texts(rng)
+            } else {
+                generate::any(rng)
+            };
         }
         let mut sheet = encode(&sheets::structs(rng));
         if rng.one_in(6) {
@@ -104,10 +130,18 @@ impl Options {
 struct Totals {
     answers: [u64; 13],
     sheet_bytes: usize,
-    structs: usize,
-    longest: usize,
+    orders: Answers,
+    texts: Answers,
+    features: Features,
+}
+
+/// What a service with a buffer was asked for.
+#[derive(Default)]
+struct Answers {
     calls: usize,
     overruns: u64,
+    bytes: usize,
+    longest: usize,
 }
 
 impl Totals {
@@ -121,14 +155,33 @@ impl Totals {
             let list = order.as_ref().map_or(0, Vec::len);
             let mut lengths = compare::lengths(&order, 400);
             lengths.extend([list.saturating_sub(2), list + 2, list / 2]);
-            self.overruns += compare::struct_order(sheet, &order, &lengths)?;
-            self.calls += 2 * lengths.len();
-            self.structs += list;
-            self.longest = self.longest.max(list);
+            let service = Service::StructOrder;
+            let overruns = compare::with_buffers(service, sheet, &order, &lengths, options.margin)?;
+            self.orders.add(list, lengths.len(), overruns);
+        }
+        if options.write {
+            let text = compare::wanted_text(sheet);
+            let length = text.as_ref().map_or(0, Vec::len);
+            let lengths = compare::lengths(&text, 2 * length + 1_000);
+            let service = Service::Write;
+            let overruns = compare::with_buffers(service, sheet, &text, &lengths, options.margin)?;
+            self.texts.add(length, lengths.len(), overruns);
+            if answer == 0 {
+                self.features.count(&sheet::decode(sheet).unwrap());
+            }
         }
         self.answers[usize::from(answer)] += 1;
         self.sheet_bytes += sheet.len();
         Ok(())
+    }
+}
+
+impl Answers {
+    fn add(&mut self, bytes: usize, lengths: usize, overruns: u64) {
+        self.calls += 2 * lengths;
+        self.overruns += overruns;
+        self.bytes += bytes;
+        self.longest = self.longest.max(bytes);
     }
 }
 
@@ -140,12 +193,18 @@ impl Display for Totals {
             writeln!(out, "refused {number:2}    {count}")?;
         }
         writeln!(out, "sheet bytes   {}", self.sheet_bytes)?;
-        if self.calls > 0 {
-            writeln!(out, "buffers       {}", self.calls)?;
-            writeln!(out, "overruns (13) {}", self.overruns)?;
-            writeln!(out, "structs       {}", self.structs)?;
-            writeln!(out, "longest list  {}", self.longest)?;
+        let services = [
+            (&self.orders, "structs       ", "longest list  "),
+            (&self.texts, "text bytes    ", "longest text  "),
+        ];
+        for (answers, bytes, longest) in services {
+            if answers.calls > 0 {
+                writeln!(out, "buffers       {}", answers.calls)?;
+                writeln!(out, "overruns (13) {}", answers.overruns)?;
+                writeln!(out, "{bytes}{}", answers.bytes)?;
+                writeln!(out, "{longest}{}", answers.longest)?;
+            }
         }
-        Ok(())
+        write!(out, "{}", self.features)
     }
 }

@@ -8,10 +8,10 @@ use trials::stack::Stack;
 
 const USAGE: &str = "usage: stack
 
-Runs the services, and for comparison the Rust check, each on a painted stack:
-on large sheets, on those at the limits, on 2,000 generated ones and on 2,000
-of many structs. Prints the most bytes of stack that each took, wrapper
-included, and the sheet.
+Runs the services, and for comparison the Rust check and the plain Rust writer,
+each on a painted stack: on large sheets, on those at the limits, on 2,000
+generated ones and on 2,000 of many structs. Prints the most bytes of stack that
+each took, wrapper included, and the sheet.
 
 Exit code: 0 done, 1 a call took 1 MiB or more, 2 wrong use or no library.";
 
@@ -25,6 +25,8 @@ fn main() -> ExitCode {
         return ExitCode::from(2);
     }
     let mut buffer = [0; 255];
+    let mut text = vec![0; 80 << 20];
+    let mut plain_text = text.clone();
     let deepest = [
         deepest(|sheet| {
             let _ = black_box(bridgetext::check(sheet));
@@ -35,7 +37,15 @@ fn main() -> ExitCode {
             }
         }),
         deepest(|sheet| {
+            if bridgetext::HAVE_WRITE {
+                let _ = black_box(bridgetext::write(sheet, &mut text));
+            }
+        }),
+        deepest(|sheet| {
             black_box(sheet::check(sheet));
+        }),
+        deepest(|sheet| {
+            let _ = black_box(plain::write(sheet, &mut plain_text));
         }),
     ];
     println!("| call | peak stack, bytes | sheet |");
@@ -43,7 +53,9 @@ fn main() -> ExitCode {
     let calls = [
         "`bridgetext::check`",
         "`bridgetext::struct_order`",
+        "`bridgetext::write`",
         "`sheet::check`",
+        "`plain::write`",
     ];
     for (call, deepest) in calls.iter().zip(deepest) {
         let Ok((depth, label)) = deepest else {
@@ -81,6 +93,7 @@ fn all() -> impl Iterator<Item = (String, Vec<u8>)> {
         ),
         ("255 structs in diamonds", sheets::diamonds()),
         ("255 structs with 63 fields", sheets::dense()),
+        ("the longest text", sheets::longest_text()),
     ];
     let large = large.map(|(label, sheet)| (label.to_string(), encode(&sheet)));
     let generated = (0..2_000).map(|number| {

@@ -1,0 +1,235 @@
+// `write_rust_function_decl_impl` of bridge/write.rs, and the layout functions of an opaque type.
+use cursor::Cursor;
+use mangle::write_cxx_name;
+use mangle::write_extern_fn;
+use mangle::write_operator;
+use parameters::write_parameters;
+use shape::ShapeKind;
+use shape::indirect_return;
+use shape::shape;
+use shape::write_outermost_space;
+use shape::write_pointer;
+use sink::put_bytes;
+use view::FunctionView;
+use view::ItemView;
+ghost use mathlib.Core.Path.{_≡_};
+ghost use Prim.Native.Nat.{_≤_};
+ghost use lib.ListN.{length};
+ghost use Rattle.lexical.specs.Bytes.{bytes};
+ghost use Rattle.format.specs.Decoding.{type};
+ghost use Rattle.syntax.specs.Items.{itemAt};
+ghost use Rattle.bridge.specs.Write.{shape as shapeOf, directReturn, externReturn};
+ghost use Rattle.bridge.specs.Write.{functionDecl, layoutDecl, layoutDefinition};
+ghost use Rattle.sink.specs.Sink.{sink, Wrote};
+ghost use Rattle.view.specs.Values.{Yields, itemsAt, functionAt, typeHere, Whole};
+ghost use Rattle.view.specs.Views.{ItemAt, FunctionAt, ArgumentsAt};
+
+// ---- texts
+
+fn put_void(out: &mut [u8], at: usize) -> usize
+    ensures { λ r. ⌜ Wrote (sink (now (out .entry)) at) (bytes "void ") (sink (now (out .exit)) r) ⌝ }
+{
+    put_bytes(out, at, b"void ")
+}
+
+fn put_fat(out: &mut [u8], at: usize) -> usize
+    ensures { λ r. ⌜ Wrote (sink (now (out .entry)) at) (bytes "::rust::repr::Fat ") (sink (now (out .exit)) r) ⌝ }
+{
+    put_bytes(out, at, b"::rust::repr::Fat ")
+}
+
+fn put_ptr_len(out: &mut [u8], at: usize) -> usize
+    ensures { λ r. ⌜ Wrote (sink (now (out .entry)) at) (bytes "::rust::repr::PtrLen ") (sink (now (out .exit)) r) ⌝ }
+{
+    put_bytes(out, at, b"::rust::repr::PtrLen ")
+}
+
+// ---- the return type
+
+// The type at c where it is returned directly.
+fn write_direct_return(
+    s: &[u8],
+    names: &[u32],
+    items: &[u32],
+    c: Cursor,
+    out: &mut [u8],
+    at: usize,
+) -> usize
+    requires { ⌜ Whole (now s) (now names) (now items) ×
+        Yields (type (length (now items)) (now s) (c .at)) (typeHere (length (now items)) (now s) (c .at)) ⌝ }
+    ensures { λ r. ⌜ Wrote (sink (now (out .entry)) at)
+        (directReturn (itemsAt (now (s .entry)) (now (names .entry)) (now (items .entry)))
+        (typeHere (length (now (items .entry))) (now (s .entry)) (c .at))
+        (shapeOf (typeHere (length (now (items .entry))) (now (s .entry)) (c .at)))) (sink (now (out .exit)) r) ⌝ }
+{
+    let v = shape(s, items, c);
+    let kind = v.kind;
+    match kind {
+        ShapeKind::RustBox => write_pointer(s, names, items, v.inner, true, out, at),
+        ShapeKind::UniquePtr => write_pointer(s, names, items, v.inner, true, out, at),
+        ShapeKind::Ref => write_pointer(s, names, items, v.inner, v.mutable, out, at),
+        ShapeKind::Str => put_fat(out, at),
+        ShapeKind::SliceRef => put_fat(out, at),
+        ShapeKind::Other => write_outermost_space(s, names, items, c, out, at),
+    }
+}
+
+// `write_extern_return_type_space`
+fn write_extern_return(
+    s: &[u8],
+    names: &[u32],
+    items: &[u32],
+    f: FunctionView,
+    out: &mut [u8],
+    at: usize,
+) -> usize
+    requires { ⌜ Whole (now s) (now names) (now items) × FunctionAt (now s) (now names) (now items) f ⌝ }
+    ensures { λ r. ⌜ Wrote (sink (now (out .entry)) at)
+        (externReturn (itemsAt (now (s .entry)) (now (names .entry)) (now (items .entry)))
+        (functionAt (now (s .entry)) (now (names .entry)) (now (items .entry)) (f .number)))
+        (sink (now (out .exit)) r) ⌝ }
+{
+    if f.throws {
+        return put_ptr_len(out, at);
+    }
+    let indirect = indirect_return(s, names, items, f);
+    if indirect {
+        return put_void(out, at);
+    }
+    if f.returns {
+        return write_direct_return(s, names, items, f.result, out, at);
+    }
+    put_void(out, at)
+}
+
+// ---- the declaration
+
+fn put_open(out: &mut [u8], at: usize) -> usize
+    ensures { λ r. ⌜ Wrote (sink (now (out .entry)) at) (bytes "(") (sink (now (out .exit)) r) ⌝ }
+{
+    put_bytes(out, at, b"(")
+}
+
+fn put_close(out: &mut [u8], at: usize) -> usize
+    ensures { λ r. ⌜ Wrote (sink (now (out .entry)) at) (bytes ") noexcept;\n") (sink (now (out .exit)) r) ⌝ }
+{
+    put_bytes(out, at, b") noexcept;\n")
+}
+
+// `write_rust_function_decl_impl`
+pub fn write_function_decl(
+    s: &[u8],
+    names: &[u32],
+    items: &[u32],
+    v: ItemView,
+    f: FunctionView,
+    offsets: &[u32],
+    out: &mut [u8],
+    at: usize,
+) -> usize
+    requires { ⌜ Whole (now s) (now names) (now items) × ItemAt (now s) (now names) (now items) v ×
+        FunctionAt (now s) (now names) (now items) f × (f .number ≡ v .number) ×
+        ArgumentsAt (now s) (now names) (now items) f (now offsets) × (f .arguments ≤ length (now offsets)) ⌝ }
+    ensures { λ r. ⌜ Wrote (sink (now (out .entry)) at)
+        (functionDecl (itemsAt (now (s .entry)) (now (names .entry)) (now (items .entry)))
+        (itemAt (itemsAt (now (s .entry)) (now (names .entry)) (now (items .entry))) (v .number))
+        (functionAt (now (s .entry)) (now (names .entry)) (now (items .entry)) (v .number)))
+        (sink (now (out .exit)) r) ⌝ }
+{
+    let returned = write_extern_return(s, names, items, f, out, at);
+    let named = write_extern_fn(s, names, items, v, f, out, returned);
+    let opened = put_open(out, named);
+    let listed = write_parameters(s, names, items, f, offsets, out, opened);
+    put_close(out, listed)
+}
+
+// ---- layout functions
+
+fn put_size_type(out: &mut [u8], at: usize) -> usize
+    ensures { λ r. ⌜ Wrote (sink (now (out .entry)) at) (bytes "::std::size_t ") (sink (now (out .exit)) r) ⌝ }
+{
+    put_bytes(out, at, b"::std::size_t ")
+}
+
+fn put_noexcept(out: &mut [u8], at: usize) -> usize
+    ensures { λ r. ⌜ Wrote (sink (now (out .entry)) at) (bytes "() noexcept;\n") (sink (now (out .exit)) r) ⌝ }
+{
+    put_bytes(out, at, b"() noexcept;\n")
+}
+
+fn put_layout(out: &mut [u8], at: usize) -> usize
+    ensures { λ r. ⌜ Wrote (sink (now (out .entry)) at) (bytes "::layout::") (sink (now (out .exit)) r) ⌝ }
+{
+    put_bytes(out, at, b"::layout::")
+}
+
+fn put_begin(out: &mut [u8], at: usize) -> usize
+    ensures { λ r. ⌜ Wrote (sink (now (out .entry)) at) (bytes "() noexcept {\n") (sink (now (out .exit)) r) ⌝ }
+{
+    put_bytes(out, at, b"() noexcept {\n")
+}
+
+fn put_return(out: &mut [u8], at: usize) -> usize
+    ensures { λ r. ⌜ Wrote (sink (now (out .entry)) at) (bytes "  return ") (sink (now (out .exit)) r) ⌝ }
+{
+    put_bytes(out, at, b"  return ")
+}
+
+fn put_call(out: &mut [u8], at: usize) -> usize
+    ensures { λ r. ⌜ Wrote (sink (now (out .entry)) at) (bytes "();\n") (sink (now (out .exit)) r) ⌝ }
+{
+    put_bytes(out, at, b"();\n")
+}
+
+fn put_end(out: &mut [u8], at: usize) -> usize
+    ensures { λ r. ⌜ Wrote (sink (now (out .entry)) at) (bytes "}\n") (sink (now (out .exit)) r) ⌝ }
+{
+    put_bytes(out, at, b"}\n")
+}
+
+// The declaration of an opaque type's size or alignment.
+pub fn write_layout_decl(
+    s: &[u8],
+    names: &[u32],
+    items: &[u32],
+    v: ItemView,
+    name: &[u8],
+    out: &mut [u8],
+    at: usize,
+) -> usize
+    requires { ⌜ Whole (now s) (now names) (now items) × ItemAt (now s) (now names) (now items) v ⌝ }
+    ensures { λ r. ⌜ Wrote (sink (now (out .entry)) at)
+        (layoutDecl (itemAt (itemsAt (now (s .entry)) (now (names .entry)) (now (items .entry))) (v .number))
+        (now (name .entry))) (sink (now (out .exit)) r) ⌝ }
+{
+    let typed = put_size_type(out, at);
+    let named = write_operator(s, names, items, v, name, out, typed);
+    put_noexcept(out, named)
+}
+
+// Its definition as a member of the type's layout.
+pub fn write_layout_definition(
+    s: &[u8],
+    names: &[u32],
+    items: &[u32],
+    v: ItemView,
+    member: &[u8],
+    name: &[u8],
+    out: &mut [u8],
+    at: usize,
+) -> usize
+    requires { ⌜ Whole (now s) (now names) (now items) × ItemAt (now s) (now names) (now items) v ⌝ }
+    ensures { λ r. ⌜ Wrote (sink (now (out .entry)) at)
+        (layoutDefinition (itemAt (itemsAt (now (s .entry)) (now (names .entry)) (now (items .entry))) (v .number))
+        (now (member .entry)) (now (name .entry))) (sink (now (out .exit)) r) ⌝ }
+{
+    let typed = put_size_type(out, at);
+    let of = write_cxx_name(s, names, items, v.number, out, typed);
+    let inside = put_layout(out, of);
+    let named = put_bytes(out, inside, member);
+    let begun = put_begin(out, named);
+    let returned = put_return(out, begun);
+    let called = write_operator(s, names, items, v, name, out, returned);
+    let ended = put_call(out, called);
+    put_end(out, ended)
+}

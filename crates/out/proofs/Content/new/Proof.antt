@@ -1,0 +1,13 @@
+use borrow.Author.Needs.{needs}
+use Rattle.out.proofs.StateLaws.{starts}
+use Rattle.out.proofs.Content.new.Statement.{statement}
+use Rattle.out.proofs.Content.new.Tie as tie
+
+returns : tie.Need-returns
+returns c = starts
+
+pub new-spec : {M : Type 1} → statement M
+new-spec =
+    tie.close
+    (tie.spec
+    returns)

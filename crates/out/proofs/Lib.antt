@@ -1,0 +1,4 @@
+pub mod BlockLaws
+pub mod PendingLaws
+pub mod StateLaws
+pub mod FlushLaws

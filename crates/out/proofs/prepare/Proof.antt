@@ -1,0 +1,18 @@
+use borrow.Author.Needs.{needs}
+use Rattle.out.proofs.FlushLaws.{prepares}
+use Rattle.out.proofs.prepare.Statement.{statement}
+use Rattle.out.proofs.prepare.Tie as tie
+
+returns : tie.Need-returns
+returns c = prepares _ _ (c .before .before .before .before .before .before .before .before .flush-blocks .ensures) (c .before .before .before .before .before .is-blank .ensures) (c .before .before .put-when .ensures)
+
+pub prepare-spec : {M : Type 1} → statement M
+prepare-spec =
+    tie.close
+    (tie.spec
+    (λ c κs. search needs)
+    (λ c κs. search needs)
+    (λ c. search needs)
+    (λ c κs. search needs)
+    (λ c. search needs)
+    returns)

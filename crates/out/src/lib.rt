@@ -1,0 +1,432 @@
+// Text with pending boundaries and sections: the port of block.rs and out.rs. The text stands in a buffer that the
+// caller lends, from its first byte on.
+use cursor::Cursor;
+use cursor::width;
+use put_name::put_name_of;
+use sink::put_bytes;
+use sink::put_when;
+use view::ItemView;
+use view::field;
+use view::same_name;
+ghost use mathlib.Core.Path.{_≡_};
+ghost use mathlib.Core.List.{[]};
+ghost use mathlib.Core.Bool.{_&&_};
+ghost use Prim.Native.Nat.{_<_, _≤_};
+ghost use lib.ListN.{length};
+ghost use lib.Dec.{ltb};
+ghost use Rattle.sink.specs.Sink.{sink, Wrote};
+ghost use Rattle.syntax.specs.Items.{itemAt};
+ghost use Rattle.view.specs.Values.{itemsAt, Named, Whole};
+ghost use Rattle.view.specs.Digests.{digestsAt};
+ghost use Rattle.view.specs.Views.{ItemAt};
+ghost use Rattle.bridge.specs.Block as block;
+ghost use Rattle.bridge.specs.Out as machine;
+ghost use Rattle.pieces.specs.Between.{named};
+ghost use Rattle.out.specs.State.{blockOf, boundaryOf, KnownBlock, Known, pendingOf, Listed, namespaceAt, Spaces};
+ghost use Rattle.out.specs.State.{Standing, inside};
+ghost use Rattle.out.specs.Steps.{Starts, Asks, Places, appendedTo, Pushes, Turns, Sets, Indexes, boundaryText};
+ghost use Rattle.out.specs.Steps.{isEnd, Flushing, Prepares, Flushes};
+
+// ---- block.rs
+
+// A namespace holds the index of its name.
+pub enum Block {
+    UserDefinedNamespace(u32),
+    ExternC,
+}
+
+fn write_common(s: &[u8], names: &[u32], b: Block, out: &mut [u8], at: usize) -> usize
+    requires { ⌜ Named (now s) (now names) × KnownBlock (now names) b ⌝ }
+    ensures { λ r. ⌜ Wrote (sink (now (out .entry)) at)
+        (block.writeCommon (blockOf (now (s .entry)) (now (names .entry)) b)) (sink (now (out .exit)) r) ⌝ }
+{
+    match b {
+        Block::UserDefinedNamespace(name) => {
+            let next = put_bytes(out, at, b"namespace ");
+            put_name_of(s, names, name, out, next)
+        }
+        Block::ExternC => put_bytes(out, at, b"extern \"C\""),
+    }
+}
+
+fn write_begin(s: &[u8], names: &[u32], b: Block, out: &mut [u8], at: usize) -> usize
+    requires { ⌜ Named (now s) (now names) × KnownBlock (now names) b ⌝ }
+    ensures { λ r. ⌜ Wrote (sink (now (out .entry)) at)
+        (block.writeBegin (blockOf (now (s .entry)) (now (names .entry)) b)) (sink (now (out .exit)) r) ⌝ }
+{
+    let next = write_common(s, names, b, out, at);
+    put_bytes(out, next, b" {\n")
+}
+
+fn write_end(s: &[u8], names: &[u32], b: Block, out: &mut [u8], at: usize) -> usize
+    requires { ⌜ Named (now s) (now names) × KnownBlock (now names) b ⌝ }
+    ensures { λ r. ⌜ Wrote (sink (now (out .entry)) at)
+        (block.writeEnd (blockOf (now (s .entry)) (now (names .entry)) b)) (sink (now (out .exit)) r) ⌝ }
+{
+    let next = put_bytes(out, at, b"} // ");
+    let end = write_common(s, names, b, out, next);
+    put_bytes(out, end, b"\n")
+}
+
+// Whether two blocks are the same: two names are equal when their characters are.
+fn same_block(s: &[u8], names: &[u32], digests: &[u32], a: Block, b: Block) -> bool
+    requires { ⌜ Named (now s) (now names) × (now digests ≡ digestsAt (now s) (now names)) ×
+        KnownBlock (now names) a × KnownBlock (now names) b ⌝ }
+    ensures { λ r. ⌜ r ≡ block.sameBlock (blockOf (now (s .entry)) (now (names .entry)) a)
+        (blockOf (now (s .entry)) (now (names .entry)) b) ⌝ }
+{
+    match a {
+        Block::UserDefinedNamespace(m) => match b {
+            Block::UserDefinedNamespace(n) => same_name(s, names, digests, m, n),
+            Block::ExternC => false,
+        },
+        Block::ExternC => match b {
+            Block::UserDefinedNamespace(_) => false,
+            Block::ExternC => true,
+        },
+    }
+}
+
+// ---- out.rs
+
+pub enum Boundary {
+    Begin(Block),
+    End(Block),
+}
+
+// An entry of the pending boundaries.
+pub struct Pending {
+    pub boundary: Boundary,
+}
+
+// The place behind the text; where the indexes of the names of the namespace that is set stand, and how many there
+// are; the pending boundaries, the oldest first; and whether a section is pending.
+pub struct Content {
+    pub at: usize,
+    pub spaces: Cursor,
+    pub depth: u32,
+    pub pending: [Pending; Content::PENDING],
+    pub count: usize,
+    pub section_pending: bool,
+}
+
+impl Content {
+    // The most pending boundaries: eight ends and eight begins.
+    pub const PENDING: usize = 16;
+
+    pub fn new() -> Content
+        ensures { λ r. ⌜ Starts r ⌝ }
+    {
+        let boundary = Boundary::Begin(Block::ExternC);
+        let none = Pending { boundary };
+        let spaces = Cursor { at: 0 };
+        let pending = [none; Content::PENDING];
+        Content {
+            at: 0,
+            spaces,
+            depth: 0,
+            pending,
+            count: 0,
+            section_pending: false,
+        }
+    }
+}
+
+// The same state behind more text.
+pub fn placed(mut c: Content, at: usize) -> Content
+    ensures { λ r. ⌜ Places c at r ⌝ }
+{
+    c.at = at;
+    c
+}
+
+pub fn next_section(mut c: Content) -> Content
+    ensures { λ r. ⌜ Asks c r ⌝ }
+{
+    c.section_pending = true;
+    c
+}
+
+// Whether a boundary is the reverse of the last one.
+fn cancels(s: &[u8], names: &[u32], digests: &[u32], boundary: Boundary, last: Boundary) -> bool
+    requires { ⌜ Named (now s) (now names) × (now digests ≡ digestsAt (now s) (now names)) ×
+        Known (now names) boundary × Known (now names) last ⌝ }
+    ensures { λ r. ⌜ r ≡ machine.cancels (boundaryOf (now (s .entry)) (now (names .entry)) boundary)
+        (boundaryOf (now (s .entry)) (now (names .entry)) last) ⌝ }
+{
+    match boundary {
+        Boundary::Begin(a) => match last {
+            Boundary::Begin(_) => false,
+            Boundary::End(b) => same_block(s, names, digests, a, b),
+        },
+        Boundary::End(a) => match last {
+            Boundary::Begin(b) => same_block(s, names, digests, a, b),
+            Boundary::End(_) => false,
+        },
+    }
+}
+
+// One boundary more.
+fn appended(mut c: Content, boundary: Boundary) -> Content
+    requires { ⌜ c .count < 16 ⌝ }
+    ensures { λ r. ⌜ r ≡ appendedTo c boundary ⌝ }
+{
+    let p = Pending { boundary };
+    let n = c.count;
+    c.pending[n] = p;
+    c.count = n + 1;
+    c
+}
+
+// A boundary cancels only a pending last boundary that is its reverse.
+fn push_block_boundary(
+    s: &[u8],
+    names: &[u32],
+    digests: &[u32],
+    mut c: Content,
+    boundary: Boundary,
+) -> Content
+    requires { ⌜ Named (now s) (now names) × (now digests ≡ digestsAt (now s) (now names)) × Listed (now names) c ×
+        Known (now names) boundary × (length (machine.push (boundaryOf (now s) (now names) boundary)
+        (pendingOf (now s) (now names) c)) ≤ 16) ⌝ }
+    ensures { λ r. ⌜ Pushes (now (s .entry)) (now (names .entry)) c boundary r ⌝ }
+{
+    let n = c.count;
+    if n == 0 {
+        return appended(c, boundary);
+    }
+    let i = n - 1;
+    let p = c.pending[i];
+    let last = p.boundary;
+    let reverse = cancels(s, names, digests, boundary, last);
+    if reverse {
+        c.count = i;
+        return c;
+    }
+    appended(c, boundary)
+}
+
+pub fn begin_extern_c(s: &[u8], names: &[u32], digests: &[u32], c: Content) -> Content
+    requires { ⌜ Named (now s) (now names) × (now digests ≡ digestsAt (now s) (now names)) ×
+        Standing (now s) (now names) named c ⌝ }
+    ensures { λ r. ⌜ Turns (now (s .entry)) (now (names .entry)) named inside c r ⌝ }
+{
+    let boundary = Boundary::Begin(Block::ExternC);
+    push_block_boundary(s, names, digests, c, boundary)
+}
+
+pub fn end_extern_c(s: &[u8], names: &[u32], digests: &[u32], c: Content) -> Content
+    requires { ⌜ Named (now s) (now names) × (now digests ≡ digestsAt (now s) (now names)) ×
+        Standing (now s) (now names) inside c ⌝ }
+    ensures { λ r. ⌜ Turns (now (s .entry)) (now (names .entry)) inside named c r ⌝ }
+{
+    let boundary = Boundary::End(Block::ExternC);
+    push_block_boundary(s, names, digests, c, boundary)
+}
+
+// ---- set_namespace
+
+// The index of name d of a namespace.
+fn name_index(s: &[u8], names: &[u32], spaces: Cursor, d: u32) -> u32
+    requires { ⌜ Named (now s) (now names) × (spaces .at ≤ 262144) × (d < 7) ⌝ }
+    ensures { λ r. ⌜ Indexes (now (s .entry)) (now (names .entry)) spaces d r ⌝ }
+{
+    let w = width(names.len() as u32);
+    let at = spaces.at + d * w;
+    let name = field(s, Cursor { at }, w);
+    name.value
+}
+
+// The blocks of the namespace end, innermost first.
+fn end_namespaces(s: &[u8], names: &[u32], digests: &[u32], mut c: Content) -> Content
+    requires { ⌜ Named (now s) (now names) × (now digests ≡ digestsAt (now s) (now names)) ×
+        Standing (now s) (now names) named c ⌝ }
+    ensures { λ r. ⌜ Turns (now (s .entry)) (now (names .entry)) named (λ _. []) c r ⌝ }
+{
+    let spaces = c.spaces;
+    let mut d = c.depth;
+    while 0 < d {
+        d = d - 1;
+        let name = name_index(s, names, spaces, d);
+        let block = Block::UserDefinedNamespace(name);
+        let boundary = Boundary::End(block);
+        c = push_block_boundary(s, names, digests, c, boundary);
+    }
+    c
+}
+
+// The blocks of another begin, outermost first.
+fn begin_namespaces(
+    s: &[u8],
+    names: &[u32],
+    digests: &[u32],
+    mut c: Content,
+    spaces: Cursor,
+    depth: u32,
+) -> Content
+    requires { ⌜ Named (now s) (now names) × (now digests ≡ digestsAt (now s) (now names)) ×
+        Standing (now s) (now names) (λ _. []) c ×
+        Spaces (now s) (now names) spaces depth (namespaceAt (now s) (now names) spaces depth) ⌝ }
+    ensures { λ r. ⌜ Turns (now (s .entry)) (now (names .entry)) (λ _. [])
+        (λ _. named (namespaceAt (now (s .entry)) (now (names .entry)) spaces depth)) c r ⌝ }
+{
+    let mut d: u32 = 0;
+    while d < depth {
+        let name = name_index(s, names, spaces, d);
+        let block = Block::UserDefinedNamespace(name);
+        let boundary = Boundary::Begin(block);
+        c = push_block_boundary(s, names, digests, c, boundary);
+        d = d + 1;
+    }
+    c
+}
+
+// The namespace whose indexes stand at a position.
+fn set_spaces(
+    s: &[u8],
+    names: &[u32],
+    digests: &[u32],
+    c: Content,
+    spaces: Cursor,
+    depth: u32,
+) -> Content
+    requires { ⌜ Named (now s) (now names) × (now digests ≡ digestsAt (now s) (now names)) ×
+        Standing (now s) (now names) named c ×
+        Spaces (now s) (now names) spaces depth (namespaceAt (now s) (now names) spaces depth) ⌝ }
+    ensures { λ r. ⌜ Sets (now (s .entry)) (now (names .entry))
+        (namespaceAt (now (s .entry)) (now (names .entry)) spaces depth) c r ⌝ }
+{
+    let ended = end_namespaces(s, names, digests, c);
+    let mut begun = begin_namespaces(s, names, digests, ended, spaces, depth);
+    begun.spaces = spaces;
+    begun.depth = depth;
+    begun
+}
+
+// The namespace of an item.
+pub fn set_namespace(
+    s: &[u8],
+    names: &[u32],
+    items: &[u32],
+    digests: &[u32],
+    c: Content,
+    v: ItemView,
+) -> Content
+    requires { ⌜ Whole (now s) (now names) (now items) × (now digests ≡ digestsAt (now s) (now names)) ×
+        Standing (now s) (now names) named c × ItemAt (now s) (now names) (now items) v ⌝ }
+    ensures { λ r. ⌜ Sets (now (s .entry)) (now (names .entry))
+        (itemAt (itemsAt (now (s .entry)) (now (names .entry)) (now (items .entry))) (v .number) .namespace) c r ⌝ }
+{
+    let spaces = v.spaces;
+    set_spaces(s, names, digests, c, spaces, v.depth)
+}
+
+// ---- flush_blocks
+
+// The place behind the text, and whether a section is pending.
+pub struct Flushed {
+    pub at: usize,
+    pub section: bool,
+}
+
+fn is_end(boundary: Boundary) -> bool
+    ensures { λ r. ⌜ r ≡ isEnd boundary ⌝ }
+{
+    match boundary {
+        Boundary::Begin(_) => false,
+        Boundary::End(_) => true,
+    }
+}
+
+// One turn of its loop.
+fn flush_boundary(
+    s: &[u8],
+    names: &[u32],
+    boundary: Boundary,
+    section: bool,
+    out: &mut [u8],
+    at: usize,
+) -> usize
+    requires { ⌜ Named (now s) (now names) × Known (now names) boundary ⌝ }
+    ensures { λ r. ⌜ Wrote (sink (now (out .entry)) at) (boundaryText section
+        (boundaryOf (now (s .entry)) (now (names .entry)) boundary)) (sink (now (out .exit)) r) ⌝ }
+{
+    match boundary {
+        Boundary::Begin(block) => {
+            let next = put_when(out, at, section, b"\n");
+            write_begin(s, names, block, out, next)
+        }
+        Boundary::End(block) => write_end(s, names, block, out, at),
+    }
+}
+
+// Its loop.
+fn flush_all(s: &[u8], names: &[u32], c: Content, out: &mut [u8]) -> Flushed
+    requires { ⌜ Named (now s) (now names) × Listed (now names) c ⌝ }
+    ensures { λ r. ⌜ Flushing (now (s .entry)) (now (names .entry)) (now (out .entry)) (now (out .exit))
+        machine.flushAll c r ⌝ }
+{
+    let mut at = c.at;
+    let mut section = 0 < at;
+    let mut i: usize = 0;
+    while i < c.count {
+        let p = c.pending[i];
+        let boundary = p.boundary;
+        at = flush_boundary(s, names, boundary, section, out, at);
+        section = is_end(boundary);
+        i = i + 1;
+    }
+    Flushed { at, section }
+}
+
+fn flush_blocks(s: &[u8], names: &[u32], c: Content, out: &mut [u8]) -> Flushed
+    requires { ⌜ Named (now s) (now names) × Listed (now names) c ⌝ }
+    ensures { λ r. ⌜ Flushing (now (s .entry)) (now (names .entry)) (now (out .entry)) (now (out .exit))
+        (λ _ m. machine.flushBlocks m) c r ⌝ }
+{
+    if c.count == 0 {
+        return Flushed {
+            at: c.at,
+            section: c.section_pending,
+        };
+    }
+    flush_all(s, names, c, out)
+}
+
+// ---- write and flush
+
+// Whether a blank line stands before the text: not at its start.
+fn is_blank(f: Flushed) -> bool
+    ensures { λ r. ⌜ r ≡ (f .section && ltb 0 (f .at)) ⌝ }
+{
+    if f.section {
+        return 0 < f.at;
+    }
+    false
+}
+
+// What `write` does before it appends a text that is not empty.
+pub fn prepare(s: &[u8], names: &[u32], mut c: Content, out: &mut [u8]) -> Content
+    requires { ⌜ Named (now s) (now names) × Listed (now names) c ⌝ }
+    ensures { λ r. ⌜ Prepares (now (s .entry)) (now (names .entry)) (now (out .entry)) (now (out .exit)) c r ⌝ }
+{
+    let f = flush_blocks(s, names, c, out);
+    let blank = is_blank(f);
+    let at = put_when(out, f.at, blank, b"\n");
+    c.at = at;
+    c.count = 0;
+    c.section_pending = false;
+    c
+}
+
+// The end of the text: every block is closed.
+pub fn flush(s: &[u8], names: &[u32], digests: &[u32], c: Content, out: &mut [u8]) -> usize
+    requires { ⌜ Named (now s) (now names) × (now digests ≡ digestsAt (now s) (now names)) ×
+        Standing (now s) (now names) named c ⌝ }
+    ensures { λ r. ⌜ Flushes (now (s .entry)) (now (names .entry)) (now (out .entry)) (now (out .exit)) c r ⌝ }
+{
+    let spaces = Cursor { at: 0 };
+    let outermost = set_spaces(s, names, digests, c, spaces, 0);
+    let f = flush_blocks(s, names, outermost, out);
+    f.at
+}

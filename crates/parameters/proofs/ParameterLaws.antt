@@ -1,0 +1,146 @@
+-- Laws of the parameters of a declaration.
+use mathlib.Core.Path.{_≡_, refl, sym, _∙_}
+use mathlib.Core.List.{List, [], _++_, map, append-nil}
+use mathlib.Core.Bool.{Bool, true, false, _||_, false≢true}
+use Prim.Native.Nat.{ℕ, zero, suc}
+use lib.Dec.{eqb, ltb}
+use lib.ListN.{length, getD}
+use Rattle.lexical.specs.Bytes.{bytes}
+use Rattle.lexical.specs.Decimal.{pickText}
+use Rattle.format.specs.Types.{Ty, atom, named, template, pointer, str, fn, array}
+use Rattle.format.specs.Sheet.{Form, free, constMethod, mutMethod, associated, Argument, Function, Item}
+use Rattle.format.specs.Decoding.{formOf}
+use Rattle.format.specs.declared.TypeKind.{TypeKind}
+use Rattle.syntax.specs.Items.{itemAt, fullName}
+use Rattle.syntax.specs.Types.{needsIndirectAbi}
+use Rattle.rules.specs.Rules.{isMethod}
+use Rattle.bridge.specs.WriteType.{spaceAfterType}
+use Rattle.bridge.specs.Write.{commas, indirectReturn, shape, externArgType, externArg}
+use Rattle.bridge.specs.Write.{receiver, slot, externParameters}
+use Rattle.sink.specs.Sink.{Sink, Wrote}
+use Rattle.sink.proofs.SinkLaws.{_▷_, wrote-nil, wrote-as}
+use Rattle.view.specs.declared.FunctionView.{FunctionView}
+use Rattle.view.specs.declared.ArgumentView.{ArgumentView}
+use Rattle.view.specs.Values.{nameAt, itemsAt, functionAt, typeHere}
+use Rattle.view.specs.Views.{FunctionAt, ArgumentsAt, ArgumentOf, kindOfType}
+use Rattle.write_type.specs.TypeAt.{tyAt}
+use Rattle.shape.specs.declared.ShapeKind.{ShapeKind}
+use Rattle.shape.specs.declared.ShapeView.{ShapeView}
+use Rattle.shape.specs.Shapes.{shapeWith, ShapeOf}
+use Rattle.shape.proofs.TypeLaws.{here-is}
+use Rattle.shape.proofs.ShapeLaws.{by-shape}
+use Rattle.shape.proofs.FunctionLaws.{slot-some, slot-empty, method-is, arguments-count}
+use Rattle.shape.proofs.CommaLaws.{isSome, some-map, some-count, commas-three, commas-none, commas-one}
+use Rattle.parameters.specs.Parts.{hasSpace, slotParameter}
+
+-- ---- types by their shapes
+
+module _ (s names items : List ℕ) (at : ℕ) where
+  abbrev here : Ty
+  here = typeHere (length items) s at
+
+  module _ {v : ShapeView} (o : ShapeOf (length items) s (shape here) v) {k : ShapeKind} (e : v .kind ≡ k)
+      {r t : Sink} where
+    pub arg-type :
+        Wrote r (externArgType (itemsAt s names items) here
+        (shapeWith k (v .mutable) (tyAt (length items) 7 s (v .inner .at)))) t →
+        Wrote r (externArgType (itemsAt s names items) here (shape here)) t
+    arg-type p = by-shape o e (λ x. externArgType (itemsAt s names items) here x) p
+
+-- ---- the parts of a function
+
+module _ {s names items : List ℕ} {f : FunctionView} (a : FunctionAt s names items f) where
+  abbrev this : Function
+  this = functionAt s names items (f .number)
+
+  abbrev all : List Item
+  all = itemsAt s names items
+
+  abbrev result : Ty
+  result = typeHere (length items) s (f .result .at)
+
+  -- ---- the receiver
+
+  module _ {b : Bool} (h : b ≡ isMethod (formOf (f .form) (f .owner))) where
+    pub receiver-some : b ≡ true →
+        fullName (itemAt all (f .owner)) ++ pickText (eqb (f .form) 1) (bytes " const") [] ++ bytes " &self" ≡
+        commas false (receiver all (this .form))
+    receiver-some e = rw (a .view .form) (by-form (f .form) (f .owner) (sym h ∙ e))
+      where
+        by-form : (k i : ℕ) → isMethod (formOf k i) ≡ true →
+            fullName (itemAt all i) ++ pickText (eqb k 1) (bytes " const") [] ++ bytes " &self" ≡
+            commas false (receiver all (formOf k i))
+        by-form zero i q = absurd (false≢true q)
+        by-form (suc zero) i q = sym (commas-one false _)
+        by-form (suc (suc zero)) i q = rw append-nil (sym (commas-one false _))
+        by-form (suc (suc (suc k))) i q = absurd (false≢true q)
+
+    pub receiver-none : b ≡ false → [] ≡ commas false (receiver all (this .form))
+    receiver-none e = rw (a .view .form) (by-form (f .form) (f .owner) (sym h ∙ e))
+      where
+        by-form : (k i : ℕ) → isMethod (formOf k i) ≡ false → [] ≡ commas false (receiver all (formOf k i))
+        by-form zero i q = sym (commas-none false)
+        by-form (suc zero) i q = absurd (false≢true (sym q))
+        by-form (suc (suc zero)) i q = absurd (false≢true (sym q))
+        by-form (suc (suc (suc k))) i q = sym (commas-none false)
+
+    pub receiver-owner : b ≡ true → f .form ≡ 0 → ⊥
+    receiver-owner e z = false≢true (rw z at (sym h ∙ e))
+
+  receiver-count : (x : Form) → isSome (receiver all x) ≡ isMethod x
+  receiver-count free = refl
+  receiver-count (constMethod i) = refl
+  receiver-count (mutMethod i) = refl
+  receiver-count (associated i) = refl
+
+  -- ---- the slot
+
+  module _ {b : Bool} (h : b ≡ indirectReturn all this (this .return)) (comma : Bool) where
+    pub slot-written : {r t u : Sink} → b ≡ true → Wrote r (pickText comma (bytes ", ") []) t →
+        Wrote t (slotParameter all result) u → Wrote r (commas comma (map (slotParameter all) (slot all this))) u
+    slot-written e p q = wrote-as (p ▷ q) (rw (slot-some a h e) (sym (commas-one comma (slotParameter all result))))
+
+    pub slot-left : (r : Sink) → b ≡ false → Wrote r (commas comma (map (slotParameter all) (slot all this))) r
+    slot-left r e = wrote-as (wrote-nil r) (rw (slot-empty a h e) (sym (commas-none comma)))
+
+  -- ---- the parameters
+
+  module _ {offsets : List ℕ} (g : ArgumentsAt s names items f offsets) {b : Bool}
+      (h : b ≡ isMethod (formOf (f .form) (f .owner))) {c : Bool} (d : c ≡ (b || ltb 0 (f .arguments))) where
+    pub parameters : {r t u v : Sink} → Wrote r (commas false (receiver all (this .form))) t →
+        Wrote t (commas b (map (externArg all) (this .arguments))) u →
+        Wrote u (commas c (map (slotParameter all) (slot all this))) v →
+        Wrote r (commas false (externParameters all this)) v
+    unfolding externParameters
+    parameters p q w =
+        let one : isSome (receiver all (this .form)) ≡ b = receiver-count (this .form) ∙ sym (method-is a h) in
+        let two : isSome (map (externArg all) (this .arguments)) ≡ ltb 0 (f .arguments) =
+        some-map (externArg all) (this .arguments) ∙ some-count (this .arguments) (arguments-count g) in
+        wrote-as (p ▷ q ▷ w)
+        (sym (commas-three (receiver all (this .form)) (map (externArg all) (this .arguments)) _ ∙ rw (one, two, ← d)))
+
+-- ---- an argument
+
+pub argument-written : {s names : List ℕ} {n : ℕ} {x : Argument} {v : ArgumentView} (items : List Item) {b : Bool}
+    {r t u w : Sink} → ArgumentOf s names n x v → b ≡ needsIndirectAbi items (typeHere n s (v .of .at)) →
+    Wrote r (externArgType items (typeHere n s (v .of .at)) (shape (typeHere n s (v .of .at)))) t →
+    Wrote t (pickText b (bytes "*") []) u → Wrote u (nameAt s (getD names (v .name) 0)) w →
+    Wrote r (externArg items x) w
+unfolding externArg
+argument-written {s} {n} {v} items o h p q z =
+    wrote-as (p ▷ q ▷ z) (rw (h, here-is n s (v .of .at) (o .of), o .name))
+
+-- ---- the space after a type
+
+pub space-after : (t : Ty) {k : TypeKind} {b : Bool} → k ≡ kindOfType t → b ≡ hasSpace k →
+    pickText b (bytes " ") [] ≡ spaceAfterType t
+space-after t e h = rw (h, e) (by-type t)
+  where
+    by-type : (t : Ty) → pickText (hasSpace (kindOfType t)) (bytes " ") [] ≡ spaceAfterType t
+    by-type (atom a) = refl
+    by-type (named i) = refl
+    by-type (template k t) = refl
+    by-type (pointer k m t) = refl
+    by-type str = refl
+    by-type (fn r ts) = refl
+    by-type (array t n) = refl

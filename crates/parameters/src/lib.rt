@@ -1,0 +1,264 @@
+// The parameters of a Rust function's declaration in C++ (bridge/write.rs `write_rust_function_decl_impl`).
+use cursor::Cursor;
+use format::Pointer;
+use format::TypeKind;
+use mangle::write_full_name;
+use put_name::put_name_of;
+use shape::ShapeKind;
+use shape::indirect_return;
+use shape::is_method;
+use shape::needs_comma;
+use shape::put_comma;
+use shape::shape;
+use shape::write_outermost_space;
+use shape::write_pointer;
+use shape::write_slot_type;
+use sink::put_bytes;
+use sink::put_when;
+use view::FunctionView;
+use view::argument;
+use view::needs_indirect_abi;
+use view::type_kind;
+ghost use mathlib.Core.Path.{_≡_};
+ghost use mathlib.Core.Bool.{false};
+ghost use mathlib.Core.List.{map};
+ghost use Prim.Native.Nat.{_<_, _≤_};
+ghost use lib.ListN.{length};
+ghost use Rattle.format.specs.Decoding.{type};
+ghost use Rattle.bridge.specs.WriteType.{isSlice, spaceAfterType};
+ghost use Rattle.bridge.specs.Write.{commas, shape as shapeOf, externArgType, externArg};
+ghost use Rattle.bridge.specs.Write.{receiver, slot, externParameters};
+ghost use Rattle.sink.specs.Sink.{sink, Wrote};
+ghost use Rattle.view.specs.Values.{Yields, itemsAt, functionAt, argumentAt, typeHere, Whole};
+ghost use Rattle.view.specs.Views.{FunctionAt, ArgumentsAt};
+ghost use Rattle.parameters.specs.Parts.{hasSpace, slotParameter};
+
+// ---- the receiver
+
+// The receiver's parameter, where there is one.
+fn write_receiver(
+    s: &[u8],
+    names: &[u32],
+    items: &[u32],
+    f: FunctionView,
+    out: &mut [u8],
+    at: usize,
+) -> usize
+    requires { ⌜ Whole (now s) (now names) (now items) × FunctionAt (now s) (now names) (now items) f ⌝ }
+    ensures { λ r. ⌜ Wrote (sink (now (out .entry)) at)
+        (commas false (receiver (itemsAt (now (s .entry)) (now (names .entry)) (now (items .entry)))
+        (functionAt (now (s .entry)) (now (names .entry)) (now (items .entry)) (f .number) .form)))
+        (sink (now (out .exit)) r) ⌝ }
+{
+    let method = is_method(f);
+    if method {
+        let named = write_full_name(s, names, items, f.owner, out, at);
+        let shared = f.form == 1;
+        let qualified = put_when(out, named, shared, b" const");
+        return put_bytes(out, qualified, b" &self");
+    }
+    at
+}
+
+// ---- arguments
+
+// The type at c as an argument has it.
+fn write_extern_arg_type(
+    s: &[u8],
+    names: &[u32],
+    items: &[u32],
+    c: Cursor,
+    out: &mut [u8],
+    at: usize,
+) -> usize
+    requires { ⌜ Whole (now s) (now names) (now items) ×
+        Yields (type (length (now items)) (now s) (c .at)) (typeHere (length (now items)) (now s) (c .at)) ⌝ }
+    ensures { λ r. ⌜ Wrote (sink (now (out .entry)) at)
+        (externArgType (itemsAt (now (s .entry)) (now (names .entry)) (now (items .entry)))
+        (typeHere (length (now (items .entry))) (now (s .entry)) (c .at))
+        (shapeOf (typeHere (length (now (items .entry))) (now (s .entry)) (c .at)))) (sink (now (out .exit)) r) ⌝ }
+{
+    let v = shape(s, items, c);
+    let kind = v.kind;
+    match kind {
+        ShapeKind::RustBox => write_pointer(s, names, items, v.inner, true, out, at),
+        ShapeKind::UniquePtr => write_pointer(s, names, items, v.inner, true, out, at),
+        ShapeKind::Ref => write_outermost_space(s, names, items, c, out, at),
+        ShapeKind::Str => write_outermost_space(s, names, items, c, out, at),
+        ShapeKind::SliceRef => write_outermost_space(s, names, items, c, out, at),
+        ShapeKind::Other => write_outermost_space(s, names, items, c, out, at),
+    }
+}
+
+// `write_extern_arg`, for argument j
+fn write_extern_arg(
+    s: &[u8],
+    names: &[u32],
+    items: &[u32],
+    f: FunctionView,
+    offsets: &[u32],
+    j: u32,
+    out: &mut [u8],
+    at: usize,
+) -> usize
+    requires { ⌜ Whole (now s) (now names) (now items) × ArgumentsAt (now s) (now names) (now items) f (now offsets) ×
+        (j < f .arguments) × (f .arguments ≤ length (now offsets)) ⌝ }
+    ensures { λ r. ⌜ Wrote (sink (now (out .entry)) at)
+        (externArg (itemsAt (now (s .entry)) (now (names .entry)) (now (items .entry)))
+        (argumentAt (now (s .entry)) (now (names .entry)) (now (items .entry)) (f .number) j))
+        (sink (now (out .exit)) r) ⌝ }
+{
+    let a = argument(s, names, items, f, offsets, j);
+    let typed = write_extern_arg_type(s, names, items, a.of, out, at);
+    let indirect = needs_indirect_abi(s, names, items, a.of);
+    let marked = put_when(out, typed, indirect, b"*");
+    put_name_of(s, names, a.name, out, marked)
+}
+
+// Every argument; a comma before the first if `before`.
+fn write_extern_args(
+    s: &[u8],
+    names: &[u32],
+    items: &[u32],
+    f: FunctionView,
+    offsets: &[u32],
+    before: bool,
+    out: &mut [u8],
+    at: usize,
+) -> usize
+    requires { ⌜ Whole (now s) (now names) (now items) × ArgumentsAt (now s) (now names) (now items) f (now offsets) ×
+        (f .arguments ≤ length (now offsets)) ⌝ }
+    ensures { λ r. ⌜ Wrote (sink (now (out .entry)) at)
+        (commas before (map (externArg (itemsAt (now (s .entry)) (now (names .entry)) (now (items .entry))))
+        (functionAt (now (s .entry)) (now (names .entry)) (now (items .entry)) (f .number) .arguments)))
+        (sink (now (out .exit)) r) ⌝ }
+{
+    let mut here = at;
+    let mut comma = before;
+    let mut j: u32 = 0;
+    while j < f.arguments {
+        let next = put_comma(out, here, comma);
+        here = write_extern_arg(s, names, items, f, offsets, j, out, next);
+        comma = true;
+        j = j + 1;
+    }
+    here
+}
+
+// ---- the return slot
+
+fn is_slice(k: Pointer) -> bool
+    ensures { λ r. ⌜ r ≡ isSlice k ⌝ }
+{
+    match k {
+        Pointer::Ref => false,
+        Pointer::Ptr => false,
+        Pointer::SliceRef => true,
+    }
+}
+
+fn has_space(kind: TypeKind) -> bool
+    ensures { λ r. ⌜ r ≡ hasSpace kind ⌝ }
+{
+    match kind {
+        TypeKind::Pointer(k) => is_slice(k),
+        TypeKind::Atom => true,
+        TypeKind::Named => true,
+        TypeKind::Template(_) => true,
+        TypeKind::Str => true,
+        TypeKind::Fn => true,
+        TypeKind::Array => true,
+        TypeKind::Bad => true,
+    }
+}
+
+// `write_space_after_type`, for the type at c
+fn write_space_after_type(
+    s: &[u8],
+    names: &[u32],
+    items: &[u32],
+    c: Cursor,
+    out: &mut [u8],
+    at: usize,
+) -> usize
+    requires { ⌜ Whole (now s) (now names) (now items) ×
+        Yields (type (length (now items)) (now s) (c .at)) (typeHere (length (now items)) (now s) (c .at)) ⌝ }
+    ensures { λ r. ⌜ Wrote (sink (now (out .entry)) at)
+        (spaceAfterType (typeHere (length (now (items .entry))) (now (s .entry)) (c .at)))
+        (sink (now (out .exit)) r) ⌝ }
+{
+    let kind = type_kind(s, items, c);
+    let spaced = has_space(kind);
+    put_when(out, at, spaced, b" ")
+}
+
+// The slot's parameter, for a return of the type at c.
+fn write_slot_parameter(
+    s: &[u8],
+    names: &[u32],
+    items: &[u32],
+    c: Cursor,
+    out: &mut [u8],
+    at: usize,
+) -> usize
+    requires { ⌜ Whole (now s) (now names) (now items) ×
+        Yields (type (length (now items)) (now s) (c .at)) (typeHere (length (now items)) (now s) (c .at)) ⌝ }
+    ensures { λ r. ⌜ Wrote (sink (now (out .entry)) at)
+        (slotParameter (itemsAt (now (s .entry)) (now (names .entry)) (now (items .entry)))
+        (typeHere (length (now (items .entry))) (now (s .entry)) (c .at))) (sink (now (out .exit)) r) ⌝ }
+{
+    let typed = write_slot_type(s, names, items, c, out, at);
+    let spaced = write_space_after_type(s, names, items, c, out, typed);
+    put_bytes(out, spaced, b"*return$")
+}
+
+// The slot's parameter, where there is one; a comma before it if `before`.
+fn write_slot(
+    s: &[u8],
+    names: &[u32],
+    items: &[u32],
+    f: FunctionView,
+    before: bool,
+    out: &mut [u8],
+    at: usize,
+) -> usize
+    requires { ⌜ Whole (now s) (now names) (now items) × FunctionAt (now s) (now names) (now items) f ⌝ }
+    ensures { λ r. ⌜ Wrote (sink (now (out .entry)) at)
+        (commas before (map (slotParameter (itemsAt (now (s .entry)) (now (names .entry)) (now (items .entry))))
+        (slot (itemsAt (now (s .entry)) (now (names .entry)) (now (items .entry)))
+        (functionAt (now (s .entry)) (now (names .entry)) (now (items .entry)) (f .number)))))
+        (sink (now (out .exit)) r) ⌝ }
+{
+    let indirect = indirect_return(s, names, items, f);
+    if indirect {
+        let next = put_comma(out, at, before);
+        return write_slot_parameter(s, names, items, f.result, out, next);
+    }
+    at
+}
+
+// ---- all of them
+
+// The parameters: the receiver, the arguments, the slot.
+pub fn write_parameters(
+    s: &[u8],
+    names: &[u32],
+    items: &[u32],
+    f: FunctionView,
+    offsets: &[u32],
+    out: &mut [u8],
+    at: usize,
+) -> usize
+    requires { ⌜ Whole (now s) (now names) (now items) × FunctionAt (now s) (now names) (now items) f ×
+        ArgumentsAt (now s) (now names) (now items) f (now offsets) × (f .arguments ≤ length (now offsets)) ⌝ }
+    ensures { λ r. ⌜ Wrote (sink (now (out .entry)) at)
+        (commas false (externParameters (itemsAt (now (s .entry)) (now (names .entry)) (now (items .entry)))
+        (functionAt (now (s .entry)) (now (names .entry)) (now (items .entry)) (f .number))))
+        (sink (now (out .exit)) r) ⌝ }
+{
+    let method = is_method(f);
+    let received = write_receiver(s, names, items, f, out, at);
+    let listed = write_extern_args(s, names, items, f, offsets, method, out, received);
+    let comma = needs_comma(method, f.arguments);
+    write_slot(s, names, items, f, comma, out, listed)
+}

@@ -1,0 +1,5 @@
+pub mod TypeLaws
+pub mod ShapeLaws
+pub mod FunctionLaws
+pub mod CommaLaws
+pub mod ArgumentLaws

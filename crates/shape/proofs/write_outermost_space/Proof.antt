@@ -1,0 +1,18 @@
+use borrow.Author.Needs.{needs}
+use Rattle.shape.proofs.TypeLaws.{type-at, outermost}
+use Rattle.shape.proofs.write_outermost_space.Statement.{statement}
+use Rattle.shape.proofs.write_outermost_space.Tie as tie
+
+write-type-space-requires : tie.Need-write-type-space-requires
+write-type-space-requires c κs = (c .before .before .before .before .before .pre .0, outermost _ _ _ (c .before .before .before .before .before .pre .1))
+
+returns : tie.Need-returns
+returns c = rw (type-at _ _ _) (c .before .before .write-type-space .ensures .0)
+
+pub write-outermost-space-spec : {M : Type 1} → statement M
+write-outermost-space-spec =
+    tie.close
+    (tie.spec
+    write-type-space-requires
+    (λ c. search needs)
+    returns)

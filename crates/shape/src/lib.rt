@@ -1,0 +1,272 @@
+// The types that a call treats in a way of their own, and what a declaration and a shim write alike.
+use cursor::Cursor;
+use format::Pointer;
+use format::Template;
+use format::TypeKind;
+use sink::put_bytes;
+use sink::put_when;
+use types::kind_of;
+use view::FunctionView;
+use view::field;
+use view::needs_indirect_abi;
+use write_type::write_type;
+use write_type::write_type_space;
+ghost use mathlib.Core.Path.{_≡_};
+ghost use mathlib.Core.List.{[]};
+ghost use mathlib.Core.Bool.{_||_};
+ghost use lib.Dec.{ltb};
+ghost use lib.ListN.{length};
+ghost use Rattle.lexical.specs.Bytes.{bytes};
+ghost use Rattle.lexical.specs.Decimal.{pickText};
+ghost use Rattle.format.specs.Decoding.{typeAt, type, formOf};
+ghost use Rattle.rules.specs.Rules.{isMethod};
+ghost use Rattle.bridge.specs.WriteType.{writeType, writeTypeSpace};
+ghost use Rattle.bridge.specs.Write.{indirectReturn, writePointer, shape as shapeOf, slotType};
+ghost use Rattle.sink.specs.Sink.{sink, Wrote};
+ghost use Rattle.cursor.specs.Checking.{Limited};
+ghost use Rattle.view.specs.Values.{Yields, itemsAt, functionAt, typeHere, Whole};
+ghost use Rattle.view.specs.Views.{FunctionAt};
+ghost use Rattle.write_type.specs.TypeAt.{tyAt};
+ghost use Rattle.shape.specs.Shapes.{templateKind, pointerKind, shapeKind, isRef, ShapeOf};
+
+// ---- shapes
+
+pub enum ShapeKind {
+    RustBox,
+    UniquePtr,
+    Ref,
+    Str,
+    SliceRef,
+    Other,
+}
+
+// A type's shape; where it has an inner type, whether that is mutable and where it stands.
+pub struct ShapeView {
+    pub kind: ShapeKind,
+    pub mutable: bool,
+    pub inner: Cursor,
+}
+
+fn template_kind(k: Template) -> ShapeKind
+    ensures { λ r. ⌜ r ≡ templateKind k ⌝ }
+{
+    match k {
+        Template::RustBox => ShapeKind::RustBox,
+        Template::RustVec => ShapeKind::Other,
+        Template::UniquePtr => ShapeKind::UniquePtr,
+        Template::SharedPtr => ShapeKind::Other,
+        Template::WeakPtr => ShapeKind::Other,
+        Template::CxxVector => ShapeKind::Other,
+    }
+}
+
+fn pointer_kind(k: Pointer) -> ShapeKind
+    ensures { λ r. ⌜ r ≡ pointerKind k ⌝ }
+{
+    match k {
+        Pointer::Ref => ShapeKind::Ref,
+        Pointer::Ptr => ShapeKind::Other,
+        Pointer::SliceRef => ShapeKind::SliceRef,
+    }
+}
+
+fn shape_kind(kind: TypeKind) -> ShapeKind
+    ensures { λ r. ⌜ r ≡ shapeKind kind ⌝ }
+{
+    match kind {
+        TypeKind::Template(k) => template_kind(k),
+        TypeKind::Pointer(k) => pointer_kind(k),
+        TypeKind::Str => ShapeKind::Str,
+        TypeKind::Atom => ShapeKind::Other,
+        TypeKind::Named => ShapeKind::Other,
+        TypeKind::Fn => ShapeKind::Other,
+        TypeKind::Array => ShapeKind::Other,
+        TypeKind::Bad => ShapeKind::Other,
+    }
+}
+
+fn is_ref(kind: ShapeKind) -> bool
+    ensures { λ r. ⌜ r ≡ isRef kind ⌝ }
+{
+    match kind {
+        ShapeKind::Ref => true,
+        ShapeKind::RustBox => false,
+        ShapeKind::UniquePtr => false,
+        ShapeKind::Str => false,
+        ShapeKind::SliceRef => false,
+        ShapeKind::Other => false,
+    }
+}
+
+// The shape of the outermost type at c.
+pub fn shape(s: &[u8], items: &[u32], c: Cursor) -> ShapeView
+    requires { ⌜ Limited (now s) ×
+        Yields (type (length (now items)) (now s) (c .at)) (typeHere (length (now items)) (now s) (c .at)) ⌝ }
+    ensures { λ r. ⌜ ShapeOf (length (now (items .entry))) (now (s .entry))
+        (shapeOf (typeHere (length (now (items .entry))) (now (s .entry)) (c .at))) r ⌝ }
+{
+    let k = field(s, c, 4);
+    let kind = shape_kind(kind_of(k.value));
+    let reference = is_ref(kind);
+    if reference {
+        let m = field(s, k.next, 1);
+        let mutable = m.value == 1;
+        let inner = m.next;
+        return ShapeView {
+            kind,
+            mutable,
+            inner,
+        };
+    }
+    let inner = k.next;
+    ShapeView {
+        kind,
+        mutable: true,
+        inner,
+    }
+}
+
+// ---- types
+
+// The outermost type at c.
+pub fn write_outermost(
+    s: &[u8],
+    names: &[u32],
+    items: &[u32],
+    c: Cursor,
+    out: &mut [u8],
+    at: usize,
+) -> usize
+    requires { ⌜ Whole (now s) (now names) (now items) ×
+        Yields (type (length (now items)) (now s) (c .at)) (typeHere (length (now items)) (now s) (c .at)) ⌝ }
+    ensures { λ r. ⌜ Wrote (sink (now (out .entry)) at)
+        (writeType (itemsAt (now (s .entry)) (now (names .entry)) (now (items .entry)))
+        (typeHere (length (now (items .entry))) (now (s .entry)) (c .at))) (sink (now (out .exit)) r) ⌝ }
+{
+    let walked = write_type(s, names, items, c, 8, out, at);
+    walked.at
+}
+
+// The same with a space behind it, where one belongs.
+pub fn write_outermost_space(
+    s: &[u8],
+    names: &[u32],
+    items: &[u32],
+    c: Cursor,
+    out: &mut [u8],
+    at: usize,
+) -> usize
+    requires { ⌜ Whole (now s) (now names) (now items) ×
+        Yields (type (length (now items)) (now s) (c .at)) (typeHere (length (now items)) (now s) (c .at)) ⌝ }
+    ensures { λ r. ⌜ Wrote (sink (now (out .entry)) at)
+        (writeTypeSpace (itemsAt (now (s .entry)) (now (names .entry)) (now (items .entry)))
+        (typeHere (length (now (items .entry))) (now (s .entry)) (c .at))) (sink (now (out .exit)) r) ⌝ }
+{
+    let walked = write_type_space(s, names, items, c, 8, out, at);
+    walked.at
+}
+
+// The bytes of a text unless `no`.
+pub fn put_unless(out: &mut [u8], at: usize, no: bool, text: &[u8]) -> usize
+    ensures { λ r. ⌜ Wrote (sink (now (out .entry)) at) (pickText no [] (now (text .entry)))
+        (sink (now (out .exit)) r) ⌝ }
+{
+    if no {
+        return at;
+    }
+    put_bytes(out, at, text)
+}
+
+// The pointer that stands for a reference to the type at inner.
+pub fn write_pointer(
+    s: &[u8],
+    names: &[u32],
+    items: &[u32],
+    inner: Cursor,
+    mutable: bool,
+    out: &mut [u8],
+    at: usize,
+) -> usize
+    requires { ⌜ Whole (now s) (now names) (now items) ×
+        Yields (typeAt (length (now items)) 7 (now s) (inner .at)) (tyAt (length (now items)) 7 (now s) (inner .at)) ⌝ }
+    ensures { λ r. ⌜ Wrote (sink (now (out .entry)) at)
+        (writePointer (itemsAt (now (s .entry)) (now (names .entry)) (now (items .entry))) mutable
+        (tyAt (length (now (items .entry))) 7 (now (s .entry)) (inner .at))) (sink (now (out .exit)) r) ⌝ }
+{
+    let walked = write_type_space(s, names, items, inner, 7, out, at);
+    let behind = put_unless(out, walked.at, mutable, b"const ");
+    put_bytes(out, behind, b"*")
+}
+
+// What the return slot holds for the type at c.
+pub fn write_slot_type(
+    s: &[u8],
+    names: &[u32],
+    items: &[u32],
+    c: Cursor,
+    out: &mut [u8],
+    at: usize,
+) -> usize
+    requires { ⌜ Whole (now s) (now names) (now items) ×
+        Yields (type (length (now items)) (now s) (c .at)) (typeHere (length (now items)) (now s) (c .at)) ⌝ }
+    ensures { λ r. ⌜ Wrote (sink (now (out .entry)) at)
+        (slotType (itemsAt (now (s .entry)) (now (names .entry)) (now (items .entry)))
+        (typeHere (length (now (items .entry))) (now (s .entry)) (c .at))
+        (shapeOf (typeHere (length (now (items .entry))) (now (s .entry)) (c .at)))) (sink (now (out .exit)) r) ⌝ }
+{
+    let v = shape(s, items, c);
+    let kind = v.kind;
+    match kind {
+        ShapeKind::Ref => write_pointer(s, names, items, v.inner, v.mutable, out, at),
+        ShapeKind::RustBox => write_outermost(s, names, items, c, out, at),
+        ShapeKind::UniquePtr => write_outermost(s, names, items, c, out, at),
+        ShapeKind::Str => write_outermost(s, names, items, c, out, at),
+        ShapeKind::SliceRef => write_outermost(s, names, items, c, out, at),
+        ShapeKind::Other => write_outermost(s, names, items, c, out, at),
+    }
+}
+
+// ---- functions
+
+// Whether a function has a receiver.
+pub fn is_method(f: FunctionView) -> bool
+    ensures { λ r. ⌜ r ≡ isMethod (formOf (f .form) (f .owner)) ⌝ }
+{
+    if f.form == 1 {
+        return true;
+    }
+    f.form == 2
+}
+
+// Whether a comma stands before what follows `count` parameters, which stand behind others or not.
+pub fn needs_comma(others: bool, count: u32) -> bool
+    ensures { λ r. ⌜ r ≡ (others || ltb 0 count) ⌝ }
+{
+    if others {
+        return true;
+    }
+    0 < count
+}
+
+// A comma before a parameter, where one is needed.
+pub fn put_comma(out: &mut [u8], at: usize, needed: bool) -> usize
+    ensures { λ r. ⌜ Wrote (sink (now (out .entry)) at) (pickText needed (bytes ", ") []) (sink (now (out .exit)) r) ⌝ }
+{
+    put_when(out, at, needed, b", ")
+}
+
+// Whether a function returns by a slot.
+pub fn indirect_return(s: &[u8], names: &[u32], items: &[u32], f: FunctionView) -> bool
+    requires { ⌜ Whole (now s) (now names) (now items) × FunctionAt (now s) (now names) (now items) f ⌝ }
+    ensures { λ r. ⌜ r ≡ indirectReturn (itemsAt (now (s .entry)) (now (names .entry)) (now (items .entry)))
+        (functionAt (now (s .entry)) (now (names .entry)) (now (items .entry)) (f .number))
+        (functionAt (now (s .entry)) (now (names .entry)) (now (items .entry)) (f .number) .return) ⌝ }
+{
+    if f.returns {
+        if f.throws {
+            return true;
+        }
+        return needs_indirect_abi(s, names, items, f.result);
+    }
+    false
+}

@@ -1,0 +1,10 @@
+//! Tells the tests where the archive is, and lets what they load call them.
+
+use std::env;
+
+fn main() {
+    println!("cargo::rerun-if-changed=build.rs");
+    println!("cargo::rustc-link-arg-tests=-rdynamic");
+    let archive = env::var("DEP_EXPORTS_ARCHIVE").unwrap_or_default();
+    println!("cargo::rustc-env=BRIDGETEXT_ARCHIVE={archive}");
+}
