@@ -19,7 +19,8 @@ use Rattle.bridge.specs.Out.{begin, end, some, flushBoundary, flushAll, flushBl
 use Rattle.pieces.specs.Pieces.{closings, change}
 use Rattle.pieces.specs.Between.{named, between}
 use Rattle.pieces.proofs.Boundaries.{between-same}
-use Rattle.pieces.proofs.Machine.{standing, flushed-append, blocks-flushed}
+use Rattle.pieces.specs.Between.{standing}
+use Rattle.pieces.proofs.Machine.{flushed-append, blocks-flushed}
 use Rattle.out.specs.declared.Boundary.{Boundary}
 use Rattle.out.specs.declared.Boundary.the-variants.{Begin, End}
 use Rattle.out.specs.declared.Pending.{Pending}

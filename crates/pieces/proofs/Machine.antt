@@ -14,6 +14,7 @@ use Rattle.bridge.specs.Out.{beginNamespaces, setNamespace, flushAll, isPending
 use Rattle.bridge.specs.Out.{append, write, flush}
 use Rattle.pieces.specs.Pieces.{blankLine, openings, closings, change}
 use Rattle.pieces.specs.Between.{named, ending, beginning, between}
+use Rattle.pieces.specs.Between.{innermostFirst, unbroken, standing}
 use Rattle.pieces.proofs.Boundaries.{block-eq, block-refl, between-same, push-begin, push-end, none-pending}
 
 -- ---- texts
@@ -55,26 +56,13 @@ change-append started asks (a ∷ P) (b ∷ Q) r s =
     (λ e. rw e (closings-append (a ∷ P) (blankLine true (openings (b ∷ Q) r)) s
     ∙ ap (λ (x : List ℕ). closings (a ∷ P) (blankLine true x)) (openings-append (b ∷ Q) r s)))
 
-change-none : (started asks : Bool) (P : List Block) (r : List ℕ) →
+pub change-none : (started asks : Bool) (P : List Block) (r : List ℕ) →
     change started asks P P r ≡ blankLine (asks && started) r
 unfolding change
 change-none started asks [] r = refl
 change-none started asks (a ∷ P) r = rw (block-refl a) (change-none started asks P r)
 
 -- ---- states
-
--- the open blocks as the machine has them, in front of others
-pub innermostFirst : List Block → List Block → List Block
-innermostFirst [] outer = outer
-innermostFirst (b ∷ bs) outer = innermostFirst bs (b ∷ outer)
-
-abbrev unbroken : List ℕ → List Name → List Block → List Boundary → Bool → Content
-unbroken t ns opened pending asks =
-    record { text = t; namespace = ns; opened = opened; pending = pending; sectionPending = asks; panicked = false }
-
--- the blocks P are open, and Q are set
-unfoldable pub standing : List ℕ → List Name → List Block → List Block → Bool → Content
-standing t ns P Q asks = unbroken t ns (innermostFirst P []) (between P Q) asks
 
 pub new-standing : nextSection new ≡ standing [] [] [] [] true
 unfolding standing innermostFirst between beginning nextSection

@@ -18,8 +18,8 @@ use Rattle.bridge.specs.Write.{writeOpaqueTypeLayoutDecls, layoutDefinition, wr
 use Rattle.bridge.specs.Write.{writeRustFunctionShim, declare, define, forEach, writeFunctions, content, text}
 use Rattle.pieces.specs.Pieces.{Piece, namespaces, declared, defined, declarationPieces, definitionPieces, pieces}
 use Rattle.pieces.specs.Pieces.{blankLine, openings, closings, change, piecesText, bodyText}
-use Rattle.pieces.specs.Between.{named}
-use Rattle.pieces.proofs.Machine.{some-right, some-closings, change-append, standing, Ends, push-begin-block}
+use Rattle.pieces.specs.Between.{named, standing}
+use Rattle.pieces.proofs.Machine.{some-right, some-closings, change-append, Ends, push-begin-block}
 use Rattle.pieces.proofs.Machine.{push-end-block, section-asked, namespace-set, piece-written, nothing-written}
 use Rattle.pieces.proofs.Machine.{new-standing, all-flushed}
 
@@ -67,22 +67,22 @@ piece-text t P p ps h =
 
 -- ---- no piece is empty
 
-some-layout-decl : (x : Item) (name : List ℕ) → some (layoutDecl x name) ≡ true
+pub some-layout-decl : (x : Item) (name : List ℕ) → some (layoutDecl x name) ≡ true
 unfolding layoutDecl
 some-layout-decl x name = refl
 
-some-function-decl : (items : List Item) (x : Item) (f : Function) → some (functionDecl items x f) ≡ true
+pub some-function-decl : (items : List Item) (x : Item) (f : Function) → some (functionDecl items x f) ≡ true
 unfolding functionDecl
 some-function-decl items x f =
     some-right
     (externReturn items f ++ externFn items (x .namespace) f ++ bytes "(" ++ commas false (externParameters items f))
     (bytes ") noexcept;\n") refl
 
-some-layout-definition : (x : Item) (m name : List ℕ) → some (layoutDefinition x m name) ≡ true
+pub some-layout-definition : (x : Item) (m name : List ℕ) → some (layoutDefinition x m name) ≡ true
 unfolding layoutDefinition
 some-layout-definition x m name = refl
 
-some-shim : (s : Sheet) (x : Item) (f : Function) → some (functionShim s x f) ≡ true
+pub some-shim : (s : Sheet) (x : Item) (f : Function) → some (functionShim s x f) ≡ true
 unfolding functionShim shimBody
 some-shim s x f =
     some-right (pickText (isFree (f .form)) (writeDoc (s .doxygen) (f .comment)) [] ++ shimDecl (s .items) x f)

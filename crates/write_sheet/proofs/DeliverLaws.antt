@@ -85,5 +85,8 @@ pub writes-tables : (s : List ℕ) {o : Outline} {names items buffer after : Lis
     Writes s buffer r after
 writes-tables s {o} {names} {items} {buffer} {after} {r} t a b j =
     writes-judged s (t .items .decoded)
-    (rw (t .items .header, t .items .doxygen,
-    items-are t (le-trans (t .few) a) (le-trans (t .items .few) b)) at j)
+    (rw (
+      t .items .header,
+      t .items .doxygen,
+      items-are t (le-trans (t .few) a) (le-trans (t .items .few) b),
+    ) at j)

@@ -34,15 +34,7 @@ fn deliver(
         (text (sheetOf header doxygen (itemsAt (now (s .entry)) (now (names .entry)) (now (items .entry)))))
         (now (buf .entry)) r (now (buf .exit)) ⌝ }
 {
-    let length = write_text(
-        s,
-        names,
-        digests,
-        items,
-        header,
-        doxygen,
-        &mut buf[..0],
-    );
+    let length = write_text(s, names, digests, items, header, doxygen, &mut buf[..0]);
     if buf.len() < length {
         return Written::Refused(Refusal::Overrun);
     }

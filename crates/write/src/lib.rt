@@ -1,0 +1,226 @@
+// The text of a sheet: the port of write.rs' two passes. Every function is lent the sheet, the tables of the positions
+// of its names and items, the digests of the names, room for the positions of a function's arguments, and the buffer.
+use format::ItemKind;
+use forward::write_forward_declarations;
+use out::Content;
+use out::flush;
+use out::next_section;
+use out::placed;
+use sections::write_opaque_type_layout;
+use sections::write_opaque_type_layout_decls;
+use sections::write_rust_function_decl;
+use sections::write_rust_function_shim;
+use view::FunctionView;
+use view::item;
+ghost use mathlib.Core.Path.{_≡_};
+ghost use Prim.Native.Nat.{_≤_, _<_};
+ghost use lib.ListN.{length};
+ghost use Rattle.sink.specs.Sink.{sink, Wrote};
+ghost use Rattle.syntax.specs.Items.{itemAt};
+ghost use Rattle.bridge.specs.Write.{forEach, writeFunctions, text};
+ghost use Rattle.view.specs.Values.{itemsAt, Whole};
+ghost use Rattle.view.specs.Digests.{digestsAt};
+ghost use Rattle.sections.specs.Runs.{Held, Runs, sheetOf};
+ghost use Rattle.write.specs.Passes.{declareItem, defineItem, Begins, Ends};
+
+// ---- the two passes
+
+// Item i in the first pass.
+fn declare(
+    s: &[u8],
+    names: &[u32],
+    items: &[u32],
+    digests: &[u32],
+    i: u32,
+    offsets: &mut [u32],
+    c: Content,
+    out: &mut [u8],
+) -> Content
+    requires { ⌜ Whole (now s) (now names) (now items) × (now digests ≡ digestsAt (now s) (now names)) ×
+        (i < length (now items)) × (31 ≤ length (now offsets)) × Held (now s) (now names) (now out) c ⌝ }
+    ensures { λ r. ⌜ Runs (now (s .entry)) (now (names .entry)) (now (out .entry)) (now (out .exit))
+        (declareItem (itemsAt (now (s .entry)) (now (names .entry)) (now (items .entry)))
+        (itemAt (itemsAt (now (s .entry)) (now (names .entry)) (now (items .entry))) i)) c r ⌝ }
+{
+    let v = item(s, names, items, i);
+    let kind = v.kind;
+    match kind {
+        ItemKind::RustFunction => {
+            write_rust_function_decl(s, names, items, digests, v, offsets, c, out)
+        }
+        ItemKind::RustType => write_opaque_type_layout_decls(s, names, items, digests, v, c, out),
+        ItemKind::Struct => c,
+        ItemKind::Enum => c,
+        ItemKind::CxxType => c,
+        ItemKind::Bad => c,
+    }
+}
+
+// Item i in the second pass.
+fn define(
+    s: &[u8],
+    names: &[u32],
+    items: &[u32],
+    digests: &[u32],
+    header: bool,
+    doxygen: bool,
+    i: u32,
+    offsets: &mut [u32],
+    c: Content,
+    out: &mut [u8],
+) -> Content
+    requires { ⌜ Whole (now s) (now names) (now items) × (now digests ≡ digestsAt (now s) (now names)) ×
+        (i < length (now items)) × (31 ≤ length (now offsets)) × Held (now s) (now names) (now out) c ⌝ }
+    ensures { λ r. ⌜ Runs (now (s .entry)) (now (names .entry)) (now (out .entry)) (now (out .exit))
+        (defineItem (sheetOf header doxygen (itemsAt (now (s .entry)) (now (names .entry)) (now (items .entry))))
+        (itemAt (itemsAt (now (s .entry)) (now (names .entry)) (now (items .entry))) i)) c r ⌝ }
+{
+    let v = item(s, names, items, i);
+    let kind = v.kind;
+    match kind {
+        ItemKind::RustFunction => write_rust_function_shim(
+            s, names, items, digests, header, doxygen, v, offsets, c, out,
+        ),
+        ItemKind::RustType => {
+            if header {
+                return c;
+            }
+            write_opaque_type_layout(s, names, items, digests, v, c, out)
+        }
+        ItemKind::Struct => c,
+        ItemKind::Enum => c,
+        ItemKind::CxxType => c,
+        ItemKind::Bad => c,
+    }
+}
+
+fn declare_all(
+    s: &[u8],
+    names: &[u32],
+    items: &[u32],
+    digests: &[u32],
+    offsets: &mut [u32],
+    mut c: Content,
+    out: &mut [u8],
+) -> Content
+    requires { ⌜ Whole (now s) (now names) (now items) × (now digests ≡ digestsAt (now s) (now names)) ×
+        (31 ≤ length (now offsets)) × Held (now s) (now names) (now out) c ⌝ }
+    ensures { λ r. ⌜ Runs (now (s .entry)) (now (names .entry)) (now (out .entry)) (now (out .exit))
+        (forEach (declareItem (itemsAt (now (s .entry)) (now (names .entry)) (now (items .entry))))
+        (itemsAt (now (s .entry)) (now (names .entry)) (now (items .entry)))) c r ⌝ }
+{
+    let n = items.len() as u32;
+    let mut i: u32 = 0;
+    while i < n {
+        c = declare(s, names, items, digests, i, offsets, c, out);
+        i = i + 1;
+    }
+    c
+}
+
+fn define_all(
+    s: &[u8],
+    names: &[u32],
+    items: &[u32],
+    digests: &[u32],
+    header: bool,
+    doxygen: bool,
+    offsets: &mut [u32],
+    mut c: Content,
+    out: &mut [u8],
+) -> Content
+    requires { ⌜ Whole (now s) (now names) (now items) × (now digests ≡ digestsAt (now s) (now names)) ×
+        (31 ≤ length (now offsets)) × Held (now s) (now names) (now out) c ⌝ }
+    ensures { λ r. ⌜ Runs (now (s .entry)) (now (names .entry)) (now (out .entry)) (now (out .exit))
+        (forEach (defineItem (sheetOf header doxygen
+        (itemsAt (now (s .entry)) (now (names .entry)) (now (items .entry)))))
+        (itemsAt (now (s .entry)) (now (names .entry)) (now (items .entry)))) c r ⌝ }
+{
+    let n = items.len() as u32;
+    let mut i: u32 = 0;
+    while i < n {
+        c = define(s, names, items, digests, header, doxygen, i, offsets, c, out);
+        i = i + 1;
+    }
+    c
+}
+
+// A header has no declarations.
+fn write_functions(
+    s: &[u8],
+    names: &[u32],
+    items: &[u32],
+    digests: &[u32],
+    header: bool,
+    doxygen: bool,
+    offsets: &mut [u32],
+    c: Content,
+    out: &mut [u8],
+) -> Content
+    requires { ⌜ Whole (now s) (now names) (now items) × (now digests ≡ digestsAt (now s) (now names)) ×
+        (31 ≤ length (now offsets)) × Held (now s) (now names) (now out) c ⌝ }
+    ensures { λ r. ⌜ Runs (now (s .entry)) (now (names .entry)) (now (out .entry)) (now (out .exit))
+        (writeFunctions (sheetOf header doxygen (itemsAt (now (s .entry)) (now (names .entry)) (now (items .entry)))))
+        c r ⌝ }
+{
+    if header {
+        return define_all(s, names, items, digests, header, doxygen, offsets, c, out);
+    }
+    let declared = declare_all(s, names, items, digests, offsets, c, out);
+    define_all(s, names, items, digests, header, doxygen, offsets, declared, out)
+}
+
+// ---- the text
+
+// The state behind the forward declarations: a section is pending where there are none.
+fn behind_forward(at: usize) -> Content
+    ensures { λ r. ⌜ Begins at r ⌝ }
+{
+    let c = placed(Content::new(), at);
+    if at == 0 {
+        return next_section(c);
+    }
+    c
+}
+
+// What stands behind the forward declarations.
+fn write_body(
+    s: &[u8],
+    names: &[u32],
+    items: &[u32],
+    digests: &[u32],
+    header: bool,
+    doxygen: bool,
+    c: Content,
+    out: &mut [u8],
+) -> usize
+    requires { ⌜ Whole (now s) (now names) (now items) × (now digests ≡ digestsAt (now s) (now names)) ×
+        Held (now s) (now names) (now out) c ⌝ }
+    ensures { λ r. ⌜ Ends (now (s .entry)) (now (names .entry)) (now (out .entry)) (now (out .exit))
+        (writeFunctions (sheetOf header doxygen (itemsAt (now (s .entry)) (now (names .entry)) (now (items .entry)))))
+        c r ⌝ }
+{
+    let mut offsets = [0u32; FunctionView::ARGUMENTS];
+    let written = write_functions(s, names, items, digests, header, doxygen, &mut offsets, c, out);
+    flush(s, names, digests, written, out)
+}
+
+// The text, from the buffer's first byte on; the answer is the place behind it.
+pub fn write_text(
+    s: &[u8],
+    names: &[u32],
+    digests: &[u32],
+    items: &[u32],
+    header: bool,
+    doxygen: bool,
+    out: &mut [u8],
+) -> usize
+    requires { ⌜ Whole (now s) (now names) (now items) × (now digests ≡ digestsAt (now s) (now names)) ⌝ }
+    ensures { λ r. ⌜ Wrote (sink (now (out .entry)) 0)
+        (text (sheetOf header doxygen (itemsAt (now (s .entry)) (now (names .entry)) (now (items .entry)))))
+        (sink (now (out .exit)) r) ⌝ }
+{
+    let at = write_forward_declarations(s, names, digests, items, out, 0);
+    let c = behind_forward(at);
+    write_body(s, names, items, digests, header, doxygen, c, out)
+}
