@@ -1,0 +1,3 @@
+mod ListLaws
+mod SharedLaws
+pub mod GroupLaws
