@@ -22,10 +22,10 @@ use Rattle.nested.proofs.ListLaws.{and-true, and-assoc, filter-append, 
 use Rattle.nested.proofs.ListLaws.{any-same, names-append, member-names, distinct-last}
 use Rattle.nested.proofs.SharedLaws.{space-there, space-none, ends-here, shared-deep, shared-with, shared-next}
 
-abbrev noItem : Item
+abbrev pub noItem : Item
 noItem = record { namespace = []; cxx = []; body = cxxType false }
 
-take-next : (items : List Item) (i : ℕ) → i < length items → take (i + 1) items ≡ take i items ++ (itemAt items i ∷ [])
+pub take-next : (items : List Item) (i : ℕ) → i < length items → take (i + 1) items ≡ take i items ++ (itemAt items i ∷ [])
 unfolding itemAt
 take-next items i l = rw add-one (take-suc items i noItem l)
 

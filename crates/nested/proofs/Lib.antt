@@ -1,3 +1,4 @@
 mod ListLaws
 mod SharedLaws
 pub mod GroupLaws
+pub mod ViewLaws

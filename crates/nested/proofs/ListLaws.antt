@@ -2,10 +2,11 @@
 use mathlib.Core.Path.{_≡_, refl, sym, ap, ap₂, _∙_}
 use mathlib.Core.List.{List, [], _∷_, _++_, append-nil, append-assoc}
 use mathlib.Core.Bool.{Bool, true, false, not, _&&_, _||_, false≢true}
-use Prim.Native.Nat.{ℕ}
-use lib.ListN.{drop}
+use Prim.Native.Nat.{ℕ, zero, suc, _<_}
+use native.Mathlib.Omega.{arith}
+use lib.ListN.{length, getD, take, drop}
 use Rattle.lexical.specs.Bytes.{same, member}
-use Rattle.lexical.proofs.BoolLaws.{by-cases, neither}
+use Rattle.lexical.proofs.BoolLaws.{by-cases, neither, or-right}
 use Rattle.lexical.proofs.ByteLaws.{same-eq}
 use Rattle.format.specs.Decode.{pick}
 use Rattle.format.specs.Sheet.{Name, Item}
@@ -15,6 +16,10 @@ use Rattle.bridge.specs.Nested.{filter, first, nth, isName, distinct, names}
 pub and-true : (b : Bool) → (b && true) ≡ b
 and-true true = refl
 and-true false = refl
+
+pub and-false : (b : Bool) → (b && false) ≡ false
+and-false true = refl
+and-false false = refl
 
 pub and-assoc : (a b c : Bool) → ((a && b) && c) ≡ (a && (b && c))
 and-assoc true b c = refl
@@ -80,6 +85,15 @@ module _ {A : Type 0} where
   unfolding any
   any-last test [] x = or-false (test x)
   any-last test (y ∷ xs) x = rw (any-last test xs x) (sym (or-assoc (test y) (any test xs) (test x)))
+
+  pub any-there : (test : A → Bool) (xs : List A) (n k : ℕ) (z : A) → k < n → k < length xs → test (getD xs k z) ≡ true →
+      any test (take n xs) ≡ true
+  unfolding any
+  any-there test [] n k z h l e = absurd (omega arith)
+  any-there test (x ∷ xs) zero k z h l e = absurd (omega arith)
+  any-there test (x ∷ xs) (suc n) zero z h l e = rw e
+  any-there test (x ∷ xs) (suc n) (suc k) z h l e =
+      or-right (test x) (any test (take n xs)) (any-there test xs n k z (omega arith) (omega arith) e)
 
 pub gather-last : {A B : Type 0} (f : A → List B) (xs : List A) (x : A) → gather f (xs ++ (x ∷ [])) ≡ gather f xs ++ f x
 unfolding gather

@@ -14,7 +14,7 @@ use Rattle.lexical.proofs.ByteLaws.{same-eq}
 use Rattle.format.specs.Sheet.{Name}
 use Rattle.bridge.specs.Nested.{first, none, isName}
 use Rattle.nested.specs.Groups.{shared}
-use Rattle.nested.proofs.ListLaws.{and-true, and-assoc}
+use Rattle.nested.proofs.ListLaws.{and-true, and-false, and-assoc}
 
 -- ---- the namespace at a depth
 
@@ -89,10 +89,6 @@ shared-short zero ms ns h = absurd (omega arith)
 shared-short (suc depth) [] ns h = refl
 shared-short (suc depth) (m ∷ ms) [] h = refl
 shared-short (suc depth) (m ∷ ms) (n ∷ ns) h = rw (shared-short depth ms ns (omega arith)) (and-false (same m n))
-  where
-    and-false : (b : Bool) → (b && false) ≡ false
-    and-false true = refl
-    and-false false = refl
 
 pub shared-low : (depth : ℕ) (ms ns : List Name) → length ns < depth → shared depth ms ns ≡ false
 unfolding shared
@@ -100,10 +96,6 @@ shared-low zero ms ns h = absurd (omega arith)
 shared-low (suc depth) [] ns h = refl
 shared-low (suc depth) (m ∷ ms) [] h = refl
 shared-low (suc depth) (m ∷ ms) (n ∷ ns) h = rw (shared-low depth ms ns (omega arith)) (and-false (same m n))
-  where
-    and-false : (b : Bool) → (b && false) ≡ false
-    and-false true = refl
-    and-false false = refl
 
 module _ (depth d : ℕ) (ms ns : List Name) (h : d < depth) (l : d < length ms) (k : d < length ns) where
   head : shared (depth - d) (drop d ms) (drop d ns) ≡
