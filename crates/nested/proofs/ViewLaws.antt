@@ -218,10 +218,10 @@ module _ (s names items : List ℕ) where
       first-found e =
           rw (any-there test all (v .number) k noItem l inside (sym t ∙ e))
 
-    pub first-end : {k : ℕ} → v .number ≤ k → k ≤ v .number → any test (take k all) ≡ false →
+    pub first-end : (k : ℕ) → v .number ≤ k → k ≤ v .number → any test (take k all) ≡ false →
         true ≡ isFirst all depth (v .number)
     unfolding isFirst
-    first-end {k} g l h = let z : k ≡ v .number = omega arith in rw (rw z at h)
+    first-end k g l h = let z : k ≡ v .number = omega arith in rw (rw z at h)
 
   module _ (leader : Item) (depth from : ℕ) where
     abbrev Since : ℕ → Type 0
@@ -237,8 +237,8 @@ module _ (s names items : List ℕ) where
       pub next-found : r ≡ true → Next all leader depth from i
       next-found e = record { most = let z = there in omega arith; none = h; found = λ _. sym t ∙ e }
 
-    pub next-end : {n i : ℕ} → n ≡ length items → n ≤ i → i ≤ length items → Since i → Next all leader depth from n
-    next-end {n} {i} e g l h =
+    pub next-end : {n : ℕ} (i : ℕ) → n ≡ length items → n ≤ i → i ≤ length items → Since i → Next all leader depth from n
+    next-end {n} i e g l h =
         let z : n ≡ i = omega arith in
         let c = count in
         record {
