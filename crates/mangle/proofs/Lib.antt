@@ -1,0 +1,2 @@
+pub mod SegmentLaws
+pub mod NameLaws
