@@ -37,6 +37,14 @@ all-members leader items =
     filter-same (belongs leader 0) (λ x. needsForwardDeclaration (x .body))
     (λ x. and-true (needsForwardDeclaration (x .body))) items
 
+-- a group has no member before its first
+pub first-members : (items : List Item) (depth k : ℕ) → isFirst items depth k ≡ true →
+    members (itemAt items k) depth (take k items) ≡ []
+unfolding isFirst members
+first-members items depth k h =
+    filter-none (belongs (itemAt items k) depth) (take k items)
+    (not-true (any (belongs (itemAt items k) depth) (take k items)) h)
+
 module _ (leader : Item) (depth : ℕ) where
   -- ---- a group's own entries
 

@@ -1,4 +1,4 @@
-mod ListLaws
-mod SharedLaws
+pub mod ListLaws
+pub mod SharedLaws
 pub mod GroupLaws
 pub mod ViewLaws

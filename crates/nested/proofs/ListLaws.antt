@@ -95,10 +95,15 @@ module _ {A : Type 0} where
   any-there test (x ∷ xs) (suc n) (suc k) z h l e =
       or-right (test x) (any test (take n xs)) (any-there test xs n k z (omega arith) (omega arith) e)
 
-pub gather-last : {A B : Type 0} (f : A → List B) (xs : List A) (x : A) → gather f (xs ++ (x ∷ [])) ≡ gather f xs ++ f x
-unfolding gather
-gather-last f [] x = append-nil (f x)
-gather-last f (y ∷ xs) x = rw (gather-last f xs x) (sym (append-assoc (f y) (gather f xs) (f x)))
+module _ {A B : Type 0} (f : A → List B) where
+  pub gather-append : (xs ys : List A) → gather f (xs ++ ys) ≡ gather f xs ++ gather f ys
+  unfolding gather
+  gather-append [] ys = refl
+  gather-append (x ∷ xs) ys = rw (gather-append xs ys) (sym (append-assoc (f x) (gather f xs) (gather f ys)))
+
+  pub gather-last : (xs : List A) (x : A) → gather f (xs ++ (x ∷ [])) ≡ gather f xs ++ f x
+  unfolding gather
+  gather-last xs x = gather-append xs (x ∷ []) ∙ ap (λ (l : List B). gather f xs ++ l) (append-nil (f x))
 
 -- ---- names
 
