@@ -16,10 +16,14 @@ use Rattle.syntax.specs.Items.{itemAt}
 use Rattle.rules.specs.Rules.{any, gather}
 use Rattle.bridge.specs.Nested.{filter, directContent, distinct, names, nestedNames}
 use Rattle.bridge.specs.Write.{indent, writeDirect, writeEntries, forwardDeclarations}
+use Rattle.view.specs.declared.ItemView.{ItemView}
 use Rattle.view.specs.Values.{itemsAt}
+use Rattle.view.specs.Views.{ItemAt}
 use Rattle.nested.specs.Groups.{members, isDirect, isFirst, opens, namesBefore, Next}
 use Rattle.nested.proofs.ListLaws.{filter-append, gather-append, gather-last}
-use Rattle.nested.proofs.GroupLaws.{take-next, all-members, first-members, direct-members, opens-one, opens-inner}
+use Rattle.nested.proofs.GroupLaws.{take-next, all-members, first-members, direct-members, opens-deep, opens-first}
+use Rattle.nested.proofs.GroupLaws.{opens-one, opens-inner}
+use Rattle.nested.proofs.ViewLaws.{count}
 use Rattle.forward.specs.Entries.{entry, directBefore, namespaceText, namespacesBefore}
 
 -- ---- the group's own entries
@@ -97,16 +101,18 @@ module _ (items : List Item) (depth : ℕ) where
         ++ writeEntries (7 - (depth + 1)) (depth + 1) (members (itemAt items i) (depth + 1) items))
         (indent depth) (bytes "}\n")))
 
-    pub spaces-turn : {i j : ℕ} {r t u v w : Sink} → i < length items → opens items leader depth i ≡ true →
+    -- item k, which is item i, opens one
+    pub spaces-turn : {i j k : ℕ} {r t u v w : Sink} → k ≡ i → i < length items → opens items leader depth i ≡ true →
         Wrote r (namespacesBefore items leader depth i) t →
-        Wrote t (indent depth ++ bytes "namespace " ++ getD (itemAt items i .namespace) depth [] ++ bytes " {\n") u →
-        Wrote u (writeEntries (7 - (depth + 1)) (depth + 1) (members (itemAt items i) (depth + 1) items)) v →
+        Wrote t (indent depth ++ bytes "namespace " ++ getD (itemAt items k .namespace) depth [] ++ bytes " {\n") u →
+        Wrote u (writeEntries (7 - (depth + 1)) (depth + 1) (members (itemAt items k) (depth + 1) items)) v →
         Wrote v (indent depth ++ bytes "}\n") w → Next items leader depth (i + 1) j →
         Wrote r (namespacesBefore items leader depth j) w
     unfolding namespacesBefore
-    spaces-turn {i} {j} {r} {t} {u} {v} {w} l e p a b c n =
+    spaces-turn {i} {j} {k} {r} {t} {u} {v} {w} d l e p a b c n =
+        let o : opens items leader depth k ≡ true = rw d e in
         let q : Wrote t (namespaceText depth (members leader depth items) (getD (itemAt items i .namespace) depth [])) w
-        = wrote-as (a ▷ b ▷ c) (one-text i l e) in
+        = rw (← d) (wrote-as (a ▷ b ▷ c) (one-text k (rw d l) o)) in
         rw (n .none) (wrote-as (p ▷ q) (sym (space-next i l e)))
 
     -- ---- both
@@ -129,6 +135,19 @@ module _ (items : List Item) (depth : ℕ) where
         Wrote r (writeEntries (7 - depth) depth (members leader depth items)) t
     unfolding writeEntries
     entries-last e p = let z : 7 - depth ≡ 0 = omega arith in wrote-as p (rw z)
+
+-- ---- the view of an item that opens an inner namespace
+
+module _ (leader : Item) (depth : ℕ) {s names items : List ℕ} {v : ItemView} {i : ℕ} (a : ItemAt s names items v)
+    (e : v .number ≡ i) (l : i < length items) (o : opens (itemsAt s names items) leader depth i ≡ true) where
+  there : i < length (itemsAt s names items)
+  there = rw count l
+
+  pub view-deep : depth < v .depth
+  view-deep = rw (a .view .depth, e) (opens-deep leader depth (itemsAt s names items) i there o)
+
+  pub view-first : isFirst (itemsAt s names items) (depth + 1) (v .number) ≡ true
+  view-first = rw e (opens-first leader depth (itemsAt s names items) i there o)
 
 -- ---- all items
 

@@ -234,14 +234,16 @@ module _ (s names items : List ℕ) where
       pub next-turn : r ≡ false → Since (i + 1)
       next-turn e = opens-none leader depth all i there (sym t ∙ e) ∙ h
 
-      pub next-found : r ≡ true → Next all leader depth from i
-      next-found e = record { most = let z = there in omega arith; none = h; found = λ _. sym t ∙ e }
+      pub next-found : from ≤ i → r ≡ true → Next all leader depth from i
+      next-found g e = record { least = g; most = let z = there in omega arith; none = h; found = λ _. sym t ∙ e }
 
-    pub next-end : {n : ℕ} (i : ℕ) → n ≡ length items → n ≤ i → i ≤ length items → Since i → Next all leader depth from n
-    next-end {n} i e g l h =
+    pub next-end : {n : ℕ} (i : ℕ) → n ≡ length items → n ≤ i → i ≤ length items → from ≤ i → Since i →
+        Next all leader depth from n
+    next-end {n} i e g l f h =
         let z : n ≡ i = omega arith in
         let c = count in
         record {
+          least = omega arith;
           most = omega arith;
           none = rw z h;
           found = λ k. absurd (omega arith);

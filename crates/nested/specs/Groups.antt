@@ -58,6 +58,7 @@ namesBefore items leader depth i = nestedNames depth (members leader depth (take
 
 -- from an item on, r is the first that opens an inner namespace, or the number of all items
 pub record Next (items : List Item) (leader : Item) (depth from r : ℕ) : Type 0 where
+  pub least : from ≤ r
   pub most : r ≤ length items
   pub none : namesBefore items leader depth r ≡ namesBefore items leader depth from
   pub found : r < length items → opens items leader depth r ≡ true
