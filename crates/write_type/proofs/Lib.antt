@@ -1,0 +1,3 @@
+pub mod TypeLaws
+mod SpellLaws
+mod ListLaws

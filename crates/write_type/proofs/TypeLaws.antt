@@ -1,0 +1,27 @@
+-- Laws for whoever has a type written: where a decoder yields a type, it is the type at that position.
+use mathlib.Core.Path.{_≡_}
+use mathlib.Core.List.{List}
+use Prim.Native.Nat.{ℕ}
+use Rattle.format.specs.Types.{Ty, str}
+use Rattle.format.specs.Decoding.{typeAt, type}
+use Rattle.view.specs.Values.{Yields}
+use Rattle.view.proofs.ValueLaws.{yielded}
+use Rattle.write_type.specs.TypeAt.{tyAt}
+
+module _ (n levels : ℕ) (s : List ℕ) (at : ℕ) {t : Ty} (h : Yields (typeAt n levels s at) t) where
+  pub type-is : tyAt n levels s at ≡ t
+  unfolding tyAt
+  type-is = yielded str h
+
+  pub type-yields : Yields (typeAt n levels s at) (tyAt n levels s at)
+  type-yields = rw type-is h
+
+-- an outermost type
+module _ (n : ℕ) (s : List ℕ) (at : ℕ) {t : Ty} (h : Yields (type n s at) t) where
+  pub outermost-is : tyAt n 8 s at ≡ t
+  unfolding type
+  outermost-is = type-is n 8 s at h
+
+  pub outermost-yields : Yields (typeAt n 8 s at) (tyAt n 8 s at)
+  unfolding type
+  outermost-yields = type-yields n 8 s at h

@@ -1,0 +1,2 @@
+pub mod TypeAt
+pub mod Spelling
