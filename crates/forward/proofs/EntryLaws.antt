@@ -49,12 +49,18 @@ module _ (items : List Item) (depth : ℕ) where
     direct-is i = rw (direct-members leader depth (take i items))
 
     direct-next : (i : ℕ) → i < length items → directBefore items leader depth (i + 1) ≡
-        directBefore items leader depth i ++ pickText (isDirect leader depth (itemAt items i)) (entry depth (itemAt items i)) []
+        directBefore items leader depth i
+        ++ pickText (isDirect leader depth (itemAt items i)) (entry depth (itemAt items i)) []
     direct-next i l =
         direct-is (i + 1) ∙
-        rw (take-next items i l, filter-append (isDirect leader depth) (take i items) (itemAt items i ∷ []),
-        gather-append (entry depth) (filter (isDirect leader depth) (take i items))
-        (filter (isDirect leader depth) (itemAt items i ∷ [])), one (itemAt items i), direct-is i)
+        rw (
+          take-next items i l,
+          filter-append (isDirect leader depth) (take i items) (itemAt items i ∷ []),
+          gather-append (entry depth) (filter (isDirect leader depth) (take i items))
+              (filter (isDirect leader depth) (itemAt items i ∷ [])),
+          one (itemAt items i),
+          direct-is i,
+        )
 
     pub direct-turn : {i : ℕ} {r t u : Sink} → i < length items → Wrote r (directBefore items leader depth i) t →
         Wrote t (pickText (isDirect leader depth (itemAt items i)) (entry depth (itemAt items i)) []) u →

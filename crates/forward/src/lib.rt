@@ -10,7 +10,7 @@ use sink::put_spaces;
 use view::ItemView;
 use view::item;
 use view::namespace;
-use write_type::write_atom;
+use write_atom::write_atom;
 ghost use mathlib.Core.Path.{_≡_};
 ghost use mathlib.Core.List.{[], _++_};
 ghost use mathlib.Core.Bool.{true};
@@ -56,7 +56,8 @@ fn write_enum_decl(
     out: &mut [u8],
     at: usize,
 ) -> usize
-    requires { ⌜ Whole (now s) (now names) (now items) × ItemAt (now s) (now names) (now items) v × (v .kind ≡ Enum) ⌝ }
+    requires { ⌜ Whole (now s) (now names) (now items) × ItemAt (now s) (now names) (now items) v ×
+        (v .kind ≡ Enum) ⌝ }
     ensures { λ r. ⌜ Wrote (sink (now (out .entry)) at)
         (forwardLine (itemNo (now (s .entry)) (now (names .entry)) (now (items .entry)) (v .number))
         (itemNo (now (s .entry)) (now (names .entry)) (now (items .entry)) (v .number) .body))
@@ -195,7 +196,8 @@ fn open_namespace(
     out: &mut [u8],
     at: usize,
 ) -> usize
-    requires { ⌜ Whole (now s) (now names) (now items) × ItemAt (now s) (now names) (now items) v × (depth < v .depth) ⌝ }
+    requires { ⌜ Whole (now s) (now names) (now items) × ItemAt (now s) (now names) (now items) v ×
+        (depth < v .depth) ⌝ }
     ensures { λ r. ⌜ Wrote (sink (now (out .entry)) at)
         (indentOf depth ++ bytes "namespace " ++
         getD (itemNo (now (s .entry)) (now (names .entry)) (now (items .entry)) (v .number) .namespace) depth [] ++
@@ -210,7 +212,8 @@ fn open_namespace(
 
 fn close_namespace(depth: u32, out: &mut [u8], at: usize) -> usize
     requires { ⌜ depth ≤ 7 ⌝ }
-    ensures { λ r. ⌜ Wrote (sink (now (out .entry)) at) (indentOf depth ++ bytes "}\n") (sink (now (out .exit)) r) ⌝ }
+    ensures { λ r. ⌜ Wrote (sink (now (out .entry)) at) (indentOf depth ++ bytes "}\n")
+        (sink (now (out .exit)) r) ⌝ }
 {
     let begin = indent(depth, out, at);
     put_bytes(out, begin, b"}\n")

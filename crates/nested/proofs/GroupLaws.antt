@@ -25,7 +25,8 @@ use Rattle.nested.proofs.SharedLaws.{space-there, space-none, ends-here
 abbrev pub noItem : Item
 noItem = record { namespace = []; cxx = []; body = cxxType false }
 
-pub take-next : (items : List Item) (i : ℕ) → i < length items → take (i + 1) items ≡ take i items ++ (itemAt items i ∷ [])
+pub take-next : (items : List Item) (i : ℕ) → i < length items →
+    take (i + 1) items ≡ take i items ++ (itemAt items i ∷ [])
 unfolding itemAt
 take-next items i l = rw add-one (take-suc items i noItem l)
 
@@ -58,7 +59,8 @@ module _ (leader : Item) (depth : ℕ) where
       rw e (ends-here depth (x .namespace) d))
       (λ e. rw e)
 
-  pub direct-members : (xs : List Item) → directContent depth (members leader depth xs) ≡ filter (isDirect leader depth) xs
+  pub direct-members : (xs : List Item) →
+      directContent depth (members leader depth xs) ≡ filter (isDirect leader depth) xs
   unfolding directContent members
   direct-members xs =
       filter-twice (λ x. none (nth depth x)) (belongs leader depth) xs ∙
@@ -66,7 +68,8 @@ module _ (leader : Item) (depth : ℕ) where
 
   -- ---- an inner namespace is a group, and each of its items leads it
 
-  module _ (j : Item) (s : shared depth (leader .namespace) (j .namespace) ≡ true) (l : depth < length (j .namespace)) where
+  module _ (j : Item) (s : shared depth (leader .namespace) (j .namespace) ≡ true)
+      (l : depth < length (j .namespace)) where
     inner-test : (x : Item) →
         (belongs leader depth x && isName (getD (j .namespace) depth []) (nth depth x)) ≡ belongs j (depth + 1) x
     unfolding belongs nth
@@ -102,7 +105,8 @@ module _ (leader : Item) (depth : ℕ) where
     unfolding nestedNames member
     name-next xs =
         distinct-last [] (names depth (members leader depth xs)) (getD (j .namespace) depth []) ∙
-        ap (λ (b : Bool). nestedNames depth (members leader depth xs) ++ pick b [] (getD (j .namespace) depth [] ∷ [])) (met xs)
+        ap (λ (b : Bool). nestedNames depth (members leader depth xs) ++ pick b [] (getD (j .namespace) depth [] ∷ []))
+        (met xs)
 
   -- ---- one item more
 
@@ -122,11 +126,13 @@ module _ (leader : Item) (depth : ℕ) where
     x = itemAt items i
 
     before-next : namesBefore items leader depth (i + 1) ≡
-        distinct [] (names depth (members leader depth (take i items)) ++ names depth (filter (belongs leader depth) (x ∷ [])))
+        distinct []
+        (names depth (members leader depth (take i items)) ++ names depth (filter (belongs leader depth) (x ∷ [])))
     unfolding namesBefore nestedNames members
     before-next =
         rw (take-next items i there, filter-append (belongs leader depth) (take i items) (x ∷ []))
-        (ap (distinct []) (names-append depth (filter (belongs leader depth) (take i items)) (filter (belongs leader depth) (x ∷ []))))
+        (ap (distinct [])
+        (names-append depth (filter (belongs leader depth) (take i items)) (filter (belongs leader depth) (x ∷ []))))
 
     unmet : (belongs leader depth x && ltb depth (length (x .namespace))) ≡ false →
         namesBefore items leader depth (i + 1) ≡ namesBefore items leader depth i
@@ -152,12 +158,14 @@ module _ (leader : Item) (depth : ℕ) where
         by-cases (belongs leader depth x && ltb depth (length (x .namespace)))
         (λ d.
         let k : not (any (belongs x (depth + 1)) (take i items)) ≡ false = rw d at e in
-        inside d ∙ rw (not-false (any (belongs x (depth + 1)) (take i items)) k) (append-nil (namesBefore items leader depth i)))
+        inside d ∙ rw (not-false (any (belongs x (depth + 1)) (take i items)) k)
+        (append-nil (namesBefore items leader depth i)))
         unmet
 
     -- it does
     module _ (e : opens items leader depth i ≡ true) where
-      parts : ((belongs leader depth x && ltb depth (length (x .namespace))) ≡ true) × (isFirst items (depth + 1) i ≡ true)
+      parts : ((belongs leader depth x && ltb depth (length (x .namespace))) ≡ true) ×
+          (isFirst items (depth + 1) i ≡ true)
       unfolding opens
       parts = both (belongs leader depth x && ltb depth (length (x .namespace))) (isFirst items (depth + 1) i) e
 
@@ -180,4 +188,5 @@ module _ (leader : Item) (depth : ℕ) where
       unfolding belongs
       opens-inner =
           inner-members x
-          (both (needsForwardDeclaration (x .body)) (shared depth (leader .namespace) (x .namespace)) (apart .0) .1) opens-deep
+          (both (needsForwardDeclaration (x .body)) (shared depth (leader .namespace) (x .namespace)) (apart .0) .1)
+          opens-deep

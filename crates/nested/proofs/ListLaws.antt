@@ -86,8 +86,8 @@ module _ {A : Type 0} where
   any-last test [] x = or-false (test x)
   any-last test (y ∷ xs) x = rw (any-last test xs x) (sym (or-assoc (test y) (any test xs) (test x)))
 
-  pub any-there : (test : A → Bool) (xs : List A) (n k : ℕ) (z : A) → k < n → k < length xs → test (getD xs k z) ≡ true →
-      any test (take n xs) ≡ true
+  pub any-there : (test : A → Bool) (xs : List A) (n k : ℕ) (z : A) → k < n → k < length xs →
+      test (getD xs k z) ≡ true → any test (take n xs) ≡ true
   unfolding any
   any-there test [] n k z h l e = absurd (omega arith)
   any-there test (x ∷ xs) zero k z h l e = absurd (omega arith)

@@ -88,13 +88,14 @@ needs-kind s names items i {k} {l} e d h =
 pub needs-enum : {b : Body} {v : EnumView} → EnumOf b v → not (v .owned) ≡ needsForwardDeclaration b
 needs-enum e = rw (e .is)
 
-pub enum-kind : {s names items : List ℕ} {v : ItemView} {i : ℕ} {k : ItemKind} → ItemAt s names items v → v .number ≡ i →
-    k ≡ kindOfBody (itemNo s names items i .body) → k ≡ Enum → v .kind ≡ Enum
+pub enum-kind : {s names items : List ℕ} {v : ItemView} {i : ℕ} {k : ItemKind} → ItemAt s names items v →
+    v .number ≡ i → k ≡ kindOfBody (itemNo s names items i .body) → k ≡ Enum → v .kind ≡ Enum
 enum-kind {v} {i} a e h d = a .view .kind ∙ rw e (sym h ∙ d)
 
 -- ---- shared namespaces
 
-module _ {s names items : List ℕ} {v w : ItemView} (a : ItemAt s names items v) (b : ItemAt s names items w) (depth : ℕ) where
+module _ {s names items : List ℕ} {v w : ItemView} (a : ItemAt s names items v) (b : ItemAt s names items w)
+    (depth : ℕ) where
   abbrev X : List Name
   X = itemNo s names items (v .number) .namespace
 

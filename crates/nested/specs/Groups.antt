@@ -50,7 +50,8 @@ isFirst items depth i = not (any (belongs (itemAt items i) depth) (take i items)
 -- item i is a member, and the first of an inner namespace
 unfoldable pub opens : List Item → Item → ℕ → ℕ → Bool
 opens items leader depth i =
-    belongs leader depth (itemAt items i) && ltb depth (length (itemAt items i .namespace)) && isFirst items (depth + 1) i
+    belongs leader depth (itemAt items i) && ltb depth (length (itemAt items i .namespace))
+    && isFirst items (depth + 1) i
 
 -- the inner namespaces of the members before item i
 unfoldable pub namesBefore : List Item → Item → ℕ → ℕ → List Name

@@ -1,5 +1,5 @@
-// nested.rs: the items of a namespace's level, without a list of them. A group is named by one of its items, the leader,
-// and a depth: its members need a forward declaration and lie in the leader's first so many namespaces.
+// nested.rs: the items of a namespace's level, without a list of them. A group is named by one of its items, the
+// leader, and a depth: its members need a forward declaration and lie in the leader's first so many namespaces.
 use format::ItemKind;
 use view::ItemView;
 use view::field;
@@ -16,7 +16,8 @@ ghost use Rattle.bridge.specs.Write.{needsForwardDeclaration};
 ghost use Rattle.view.specs.Values.{nameAt, itemsAt, Named, Whole};
 ghost use Rattle.view.specs.Digests.{digestsAt};
 ghost use Rattle.view.specs.Views.{ItemAt};
-ghost use Rattle.nested.specs.Groups.{itemNo, EnumOf, shared, belongs, isDirect, isFirst, opens as opensOf, Next};
+ghost use Rattle.nested.specs.Groups.{itemNo, EnumOf, shared, belongs, isDirect, isFirst, Next};
+ghost use Rattle.nested.specs.Groups.{opens as opensOf};
 
 // ---- items that need a forward declaration
 
@@ -27,8 +28,10 @@ pub struct EnumView {
 }
 
 pub fn enum_of(s: &[u8], names: &[u32], items: &[u32], v: ItemView) -> EnumView
-    requires { ⌜ Whole (now s) (now names) (now items) × ItemAt (now s) (now names) (now items) v × (v .kind ≡ Enum) ⌝ }
-    ensures { λ r. ⌜ EnumOf (itemNo (now (s .entry)) (now (names .entry)) (now (items .entry)) (v .number) .body) r ⌝ }
+    requires { ⌜ Whole (now s) (now names) (now items) × ItemAt (now s) (now names) (now items) v ×
+        (v .kind ≡ Enum) ⌝ }
+    ensures { λ r. ⌜ EnumOf
+        (itemNo (now (s .entry)) (now (names .entry)) (now (items .entry)) (v .number) .body) r ⌝ }
 {
     let pointer = field(s, v.body, 1);
     let atom = field(s, pointer.next, 4);
