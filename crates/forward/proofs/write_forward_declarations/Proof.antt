@@ -1,0 +1,25 @@
+use borrow.Author.Needs.{needs}
+use mathlib.Core.Path.{refl}
+use native.Mathlib.Omega.{arith}
+use Rattle.forward.proofs.EntryLaws.{first-item, forward-none, forward-all}
+use Rattle.forward.proofs.write_forward_declarations.Statement.{statement}
+use Rattle.forward.proofs.write_forward_declarations.Tie as tie
+
+returns : tie.Need-returns
+returns c = forward-none _ _ _ _ (c .if1 .taken)
+
+write-entries-requires : tie.Need-write-entries-requires
+write-entries-requires c κs = (c .before .before .before .before .before .before .before .before .pre .0, c .before .before .before .before .before .before .before .before .pre .1, c .before .item .ensures .1, omega arith, rw (c .before .item .ensures .0) (first-item _))
+
+returns-2 : tie.Need-returns-2
+returns-2 c = forward-all _ _ (c .before .before .write-entries .ensures)
+
+pub write-forward-declarations-spec : {M : Type 1} → statement M
+write-forward-declarations-spec =
+    tie.close
+    (tie.spec
+    returns
+    (λ c κs. search needs)
+    write-entries-requires
+    (λ c. search needs)
+    returns-2)

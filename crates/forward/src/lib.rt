@@ -1,0 +1,279 @@
+// write.rs: `write_forward_declarations`.
+use format::ItemKind;
+use mangle::write_full_name;
+use nested::enum_of;
+use nested::is_direct;
+use nested::next_namespace;
+use put_name::put_name_of;
+use sink::put_bytes;
+use sink::put_spaces;
+use view::ItemView;
+use view::item;
+use view::namespace;
+use write_atom::write_atom;
+ghost use mathlib.Core.Path.{_≡_};
+ghost use mathlib.Core.List.{[], _++_};
+ghost use mathlib.Core.Bool.{true};
+ghost use Prim.Native.Nat.{_-_, _<_, _≤_};
+ghost use lib.ListN.{length, getD};
+ghost use Rattle.lexical.specs.Bytes.{bytes};
+ghost use Rattle.lexical.specs.Decimal.{pickText};
+ghost use Rattle.sink.specs.Sink.{sink, Wrote};
+ghost use Rattle.format.specs.declared.ItemKind.the-variants.{Enum};
+ghost use Rattle.syntax.specs.Items.{fullName};
+ghost use Rattle.bridge.specs.Write.{forwardLine, indent as indentOf, writeDirect, writeEntries, forwardDeclarations};
+ghost use Rattle.view.specs.Values.{itemsAt, Whole};
+ghost use Rattle.view.specs.Digests.{digestsAt};
+ghost use Rattle.view.specs.Views.{ItemAt};
+ghost use Rattle.nested.specs.Groups.{itemNo, members, isDirect, isFirst};
+ghost use Rattle.forward.specs.Entries.{entry};
+
+// ---- an item's line
+
+fn write_struct_decl(
+    s: &[u8],
+    names: &[u32],
+    items: &[u32],
+    v: ItemView,
+    out: &mut [u8],
+    at: usize,
+) -> usize
+    requires { ⌜ Whole (now s) (now names) (now items) × ItemAt (now s) (now names) (now items) v ⌝ }
+    ensures { λ r. ⌜ Wrote (sink (now (out .entry)) at)
+        (bytes "struct " ++ itemNo (now (s .entry)) (now (names .entry)) (now (items .entry)) (v .number) .cxx ++
+        bytes ";\n") (sink (now (out .exit)) r) ⌝ }
+{
+    let name = put_bytes(out, at, b"struct ");
+    let end = put_name_of(s, names, v.name, out, name);
+    put_bytes(out, end, b";\n")
+}
+
+fn write_enum_decl(
+    s: &[u8],
+    names: &[u32],
+    items: &[u32],
+    v: ItemView,
+    out: &mut [u8],
+    at: usize,
+) -> usize
+    requires { ⌜ Whole (now s) (now names) (now items) × ItemAt (now s) (now names) (now items) v ×
+        (v .kind ≡ Enum) ⌝ }
+    ensures { λ r. ⌜ Wrote (sink (now (out .entry)) at)
+        (forwardLine (itemNo (now (s .entry)) (now (names .entry)) (now (items .entry)) (v .number))
+        (itemNo (now (s .entry)) (now (names .entry)) (now (items .entry)) (v .number) .body))
+        (sink (now (out .exit)) r) ⌝ }
+{
+    let e = enum_of(s, names, items, v);
+    let name = put_bytes(out, at, b"enum class ");
+    let colon = put_name_of(s, names, v.name, out, name);
+    let atom = put_bytes(out, colon, b" : ");
+    let end = write_atom(e.atom, out, atom);
+    put_bytes(out, end, b";\n")
+}
+
+fn write_struct_using(
+    s: &[u8],
+    names: &[u32],
+    items: &[u32],
+    v: ItemView,
+    out: &mut [u8],
+    at: usize,
+) -> usize
+    requires { ⌜ Whole (now s) (now names) (now items) × ItemAt (now s) (now names) (now items) v ⌝ }
+    ensures { λ r. ⌜ Wrote (sink (now (out .entry)) at)
+        (bytes "using " ++ itemNo (now (s .entry)) (now (names .entry)) (now (items .entry)) (v .number) .cxx ++
+        bytes " = " ++ fullName (itemNo (now (s .entry)) (now (names .entry)) (now (items .entry)) (v .number)) ++
+        bytes ";\n") (sink (now (out .exit)) r) ⌝ }
+{
+    let name = put_bytes(out, at, b"using ");
+    let equals = put_name_of(s, names, v.name, out, name);
+    let full = put_bytes(out, equals, b" = ");
+    let end = write_full_name(s, names, items, v.number, out, full);
+    put_bytes(out, end, b";\n")
+}
+
+// The forward declaration of an item.
+fn write_line(
+    s: &[u8],
+    names: &[u32],
+    items: &[u32],
+    v: ItemView,
+    out: &mut [u8],
+    at: usize,
+) -> usize
+    requires { ⌜ Whole (now s) (now names) (now items) × ItemAt (now s) (now names) (now items) v ⌝ }
+    ensures { λ r. ⌜ Wrote (sink (now (out .entry)) at)
+        (forwardLine (itemNo (now (s .entry)) (now (names .entry)) (now (items .entry)) (v .number))
+        (itemNo (now (s .entry)) (now (names .entry)) (now (items .entry)) (v .number) .body))
+        (sink (now (out .exit)) r) ⌝ }
+{
+    let kind = v.kind;
+    match kind {
+        ItemKind::Struct => write_struct_decl(s, names, items, v, out, at),
+        ItemKind::Enum => write_enum_decl(s, names, items, v, out, at),
+        ItemKind::CxxType => write_struct_using(s, names, items, v, out, at),
+        ItemKind::RustType => write_struct_decl(s, names, items, v, out, at),
+        ItemKind::RustFunction => at,
+        ItemKind::Bad => at,
+    }
+}
+
+// ---- a level
+
+// Two spaces for each level.
+fn indent(depth: u32, out: &mut [u8], at: usize) -> usize
+    requires { ⌜ depth ≤ 7 ⌝ }
+    ensures { λ r. ⌜ Wrote (sink (now (out .entry)) at) (indentOf depth) (sink (now (out .exit)) r) ⌝ }
+{
+    let count = 2 * depth as usize;
+    put_spaces(out, at, count)
+}
+
+// Item i, where it is one of the group's own entries.
+fn write_entry(
+    s: &[u8],
+    names: &[u32],
+    digests: &[u32],
+    items: &[u32],
+    leader: ItemView,
+    depth: u32,
+    i: u32,
+    out: &mut [u8],
+    at: usize,
+) -> usize
+    requires { ⌜ Whole (now s) (now names) (now items) × (now digests ≡ digestsAt (now s) (now names)) ×
+        ItemAt (now s) (now names) (now items) leader × (depth ≤ 7) × (i < length (now items)) ⌝ }
+    ensures { λ r. ⌜ Wrote (sink (now (out .entry)) at)
+        (pickText (isDirect (itemNo (now (s .entry)) (now (names .entry)) (now (items .entry)) (leader .number)) depth
+        (itemNo (now (s .entry)) (now (names .entry)) (now (items .entry)) i))
+        (entry depth (itemNo (now (s .entry)) (now (names .entry)) (now (items .entry)) i)) [])
+        (sink (now (out .exit)) r) ⌝ }
+{
+    let direct = is_direct(s, names, digests, items, leader, depth, i);
+    if !direct {
+        return at;
+    }
+    let v = item(s, names, items, i);
+    let here = indent(depth, out, at);
+    write_line(s, names, items, v, out, here)
+}
+
+// The group's own entries, from its leader on.
+fn write_direct(
+    s: &[u8],
+    names: &[u32],
+    digests: &[u32],
+    items: &[u32],
+    leader: ItemView,
+    depth: u32,
+    out: &mut [u8],
+    at: usize,
+) -> usize
+    requires { ⌜ Whole (now s) (now names) (now items) × (now digests ≡ digestsAt (now s) (now names)) ×
+        ItemAt (now s) (now names) (now items) leader × (depth ≤ 7) ×
+        (isFirst (itemsAt (now s) (now names) (now items)) depth (leader .number) ≡ true) ⌝ }
+    ensures { λ r. ⌜ Wrote (sink (now (out .entry)) at)
+        (writeDirect depth (members (itemNo (now (s .entry)) (now (names .entry)) (now (items .entry)) (leader .number))
+        depth (itemsAt (now (s .entry)) (now (names .entry)) (now (items .entry))))) (sink (now (out .exit)) r) ⌝ }
+{
+    let n = items.len() as u32;
+    let mut here = at;
+    let mut i = leader.number;
+    while i < n {
+        here = write_entry(s, names, digests, items, leader, depth, i, out, here);
+        i = i + 1;
+    }
+    here
+}
+
+// The head of namespace `depth` of v.
+fn open_namespace(
+    s: &[u8],
+    names: &[u32],
+    items: &[u32],
+    v: ItemView,
+    depth: u32,
+    out: &mut [u8],
+    at: usize,
+) -> usize
+    requires { ⌜ Whole (now s) (now names) (now items) × ItemAt (now s) (now names) (now items) v ×
+        (depth < v .depth) ⌝ }
+    ensures { λ r. ⌜ Wrote (sink (now (out .entry)) at)
+        (indentOf depth ++ bytes "namespace " ++
+        getD (itemNo (now (s .entry)) (now (names .entry)) (now (items .entry)) (v .number) .namespace) depth [] ++
+        bytes " {\n") (sink (now (out .exit)) r) ⌝ }
+{
+    let name = namespace(s, names, items, v, depth);
+    let begin = indent(depth, out, at);
+    let word = put_bytes(out, begin, b"namespace ");
+    let brace = put_name_of(s, names, name, out, word);
+    put_bytes(out, brace, b" {\n")
+}
+
+fn close_namespace(depth: u32, out: &mut [u8], at: usize) -> usize
+    requires { ⌜ depth ≤ 7 ⌝ }
+    ensures { λ r. ⌜ Wrote (sink (now (out .entry)) at) (indentOf depth ++ bytes "}\n")
+        (sink (now (out .exit)) r) ⌝ }
+{
+    let begin = indent(depth, out, at);
+    put_bytes(out, begin, b"}\n")
+}
+
+// The inner `write`: the group's own entries, then its inner namespaces by first appearance.
+fn write_entries(
+    s: &[u8],
+    names: &[u32],
+    digests: &[u32],
+    items: &[u32],
+    leader: ItemView,
+    depth: u32,
+    out: &mut [u8],
+    at: usize,
+) -> usize
+    requires { ⌜ Whole (now s) (now names) (now items) × (now digests ≡ digestsAt (now s) (now names)) ×
+        ItemAt (now s) (now names) (now items) leader × (depth ≤ 7) ×
+        (isFirst (itemsAt (now s) (now names) (now items)) depth (leader .number) ≡ true) ⌝ }
+    ensures { λ r. ⌜ Wrote (sink (now (out .entry)) at)
+        (writeEntries (7 - depth) depth
+        (members (itemNo (now (s .entry)) (now (names .entry)) (now (items .entry)) (leader .number)) depth
+        (itemsAt (now (s .entry)) (now (names .entry)) (now (items .entry))))) (sink (now (out .exit)) r) ⌝ }
+{
+    let n = items.len() as u32;
+    let direct = write_direct(s, names, digests, items, leader, depth, out, at);
+    if depth == 7 {
+        return direct;
+    }
+    let deeper = depth + 1;
+    let mut here = direct;
+    let mut i = next_namespace(s, names, digests, items, leader, depth, leader.number);
+    while i < n {
+        let v = item(s, names, items, i);
+        let head = open_namespace(s, names, items, v, depth, out, here);
+        let tail = write_entries(s, names, digests, items, v, deeper, out, head);
+        here = close_namespace(depth, out, tail);
+        let from = i + 1;
+        i = next_namespace(s, names, digests, items, leader, depth, from);
+    }
+    here
+}
+
+// The forward declarations of a sheet.
+pub fn write_forward_declarations(
+    s: &[u8],
+    names: &[u32],
+    digests: &[u32],
+    items: &[u32],
+    out: &mut [u8],
+    at: usize,
+) -> usize
+    requires { ⌜ Whole (now s) (now names) (now items) × (now digests ≡ digestsAt (now s) (now names)) ⌝ }
+    ensures { λ r. ⌜ Wrote (sink (now (out .entry)) at)
+        (forwardDeclarations (itemsAt (now (s .entry)) (now (names .entry)) (now (items .entry))))
+        (sink (now (out .exit)) r) ⌝ }
+{
+    if items.len() == 0 {
+        return at;
+    }
+    let leader = item(s, names, items, 0);
+    write_entries(s, names, digests, items, leader, 0, out, at)
+}

@@ -1,0 +1,4 @@
+pub mod ListLaws
+pub mod SharedLaws
+pub mod GroupLaws
+pub mod ViewLaws
