@@ -1,0 +1,249 @@
+// The head of a shim.
+use mangle::write_cxx_name;
+use put_name::put_name_of;
+use shape::put_unless;
+use shape::write_outermost_space;
+use sink::put_bytes;
+use sink::put_when;
+use view::FunctionView;
+use view::ItemView;
+use view::argument;
+use view::name_is;
+ghost use mathlib.Core.Path.{_≡_};
+ghost use mathlib.Core.List.{[], _++_, map};
+ghost use mathlib.Core.Bool.{false, _&&_};
+ghost use Prim.Native.Nat.{_≤_, _<_};
+ghost use lib.Dec.{eqb};
+ghost use lib.ListN.{length};
+ghost use Rattle.lexical.specs.Bytes.{bytes};
+ghost use Rattle.lexical.specs.Decimal.{pickText};
+ghost use Rattle.syntax.specs.Items.{itemAt, selfType};
+ghost use Rattle.rules.specs.Rules.{gather};
+ghost use Rattle.bridge.specs.WriteType.{writeTypeSpace, writeReturnType};
+ghost use Rattle.bridge.specs.Write.{commas, isMain, localName, shimDecl};
+ghost use Rattle.sink.specs.Sink.{sink, Wrote};
+ghost use Rattle.view.specs.Values.{itemsAt, functionAt, argumentAt, Whole};
+ghost use Rattle.view.specs.Views.{ItemAt, FunctionAt, ArgumentsAt};
+
+fn both(a: bool, b: bool) -> bool
+    ensures { λ r. ⌜ r ≡ a && b ⌝ }
+{
+    if a {
+        return b;
+    }
+    false
+}
+
+// Whether the function is the program's `main`.
+fn is_main(s: &[u8], names: &[u32], items: &[u32], v: ItemView, f: FunctionView) -> bool
+    requires { ⌜ Whole (now s) (now names) (now items) × ItemAt (now s) (now names) (now items) v ×
+        FunctionAt (now s) (now names) (now items) f ⌝ }
+    ensures { λ r. ⌜ r ≡ isMain (itemAt (itemsAt (now (s .entry)) (now (names .entry)) (now (items .entry)))
+        (v .number)) (functionAt (now (s .entry)) (now (names .entry)) (now (items .entry)) (f .number)) ⌝ }
+{
+    let named = name_is(s, names, v.name, b"main");
+    let root = both(named, v.depth == 0);
+    let free = both(root, f.form == 0);
+    let bare = both(free, f.arguments == 0);
+    let void = both(bare, !f.returns);
+    both(void, !f.throws)
+}
+
+// The type that the function returns.
+fn write_return_type(
+    s: &[u8],
+    names: &[u32],
+    items: &[u32],
+    f: FunctionView,
+    out: &mut [u8],
+    at: usize,
+) -> usize
+    requires { ⌜ Whole (now s) (now names) (now items) × FunctionAt (now s) (now names) (now items) f ⌝ }
+    ensures { λ r. ⌜ Wrote (sink (now (out .entry)) at)
+        (writeReturnType (itemsAt (now (s .entry)) (now (names .entry)) (now (items .entry)))
+        (functionAt (now (s .entry)) (now (names .entry)) (now (items .entry)) (f .number) .return))
+        (sink (now (out .exit)) r) ⌝ }
+{
+    if f.returns {
+        return write_outermost_space(s, names, items, f.result, out, at);
+    }
+    put_bytes(out, at, b"void ")
+}
+
+// The same, but for `main`.
+fn write_shim_type(
+    s: &[u8],
+    names: &[u32],
+    items: &[u32],
+    v: ItemView,
+    f: FunctionView,
+    out: &mut [u8],
+    at: usize,
+) -> usize
+    requires { ⌜ Whole (now s) (now names) (now items) × ItemAt (now s) (now names) (now items) v ×
+        FunctionAt (now s) (now names) (now items) f ⌝ }
+    ensures { λ r. ⌜ Wrote (sink (now (out .entry)) at)
+        (pickText (isMain (itemAt (itemsAt (now (s .entry)) (now (names .entry)) (now (items .entry))) (v .number))
+        (functionAt (now (s .entry)) (now (names .entry)) (now (items .entry)) (f .number))) (bytes "int ")
+        (writeReturnType (itemsAt (now (s .entry)) (now (names .entry)) (now (items .entry)))
+        (functionAt (now (s .entry)) (now (names .entry)) (now (items .entry)) (f .number) .return)))
+        (sink (now (out .exit)) r) ⌝ }
+{
+    let main = is_main(s, names, items, v, f);
+    if main {
+        return put_bytes(out, at, b"int ");
+    }
+    write_return_type(s, names, items, f, out, at)
+}
+
+// The self type's name, where there is one.
+fn write_self_type(
+    s: &[u8],
+    names: &[u32],
+    items: &[u32],
+    f: FunctionView,
+    out: &mut [u8],
+    at: usize,
+) -> usize
+    requires { ⌜ Whole (now s) (now names) (now items) × FunctionAt (now s) (now names) (now items) f ⌝ }
+    ensures { λ r. ⌜ Wrote (sink (now (out .entry)) at)
+        (gather (λ i. itemAt (itemsAt (now (s .entry)) (now (names .entry))
+        (now (items .entry))) i .cxx ++ bytes "::")
+        (selfType (functionAt (now (s .entry)) (now (names .entry)) (now (items .entry)) (f .number) .form)))
+        (sink (now (out .exit)) r) ⌝ }
+{
+    if f.form == 0 {
+        return at;
+    }
+    let behind = write_cxx_name(s, names, items, f.owner, out, at);
+    put_bytes(out, behind, b"::")
+}
+
+// The name that the head defines.
+fn write_local_name(
+    s: &[u8],
+    names: &[u32],
+    items: &[u32],
+    v: ItemView,
+    f: FunctionView,
+    out: &mut [u8],
+    at: usize,
+) -> usize
+    requires { ⌜ Whole (now s) (now names) (now items) × ItemAt (now s) (now names) (now items) v ×
+        FunctionAt (now s) (now names) (now items) f ⌝ }
+    ensures { λ r. ⌜ Wrote (sink (now (out .entry)) at)
+        (localName (itemsAt (now (s .entry)) (now (names .entry)) (now (items .entry)))
+        (itemAt (itemsAt (now (s .entry)) (now (names .entry)) (now (items .entry))) (v .number))
+        (functionAt (now (s .entry)) (now (names .entry)) (now (items .entry)) (f .number)))
+        (sink (now (out .exit)) r) ⌝ }
+{
+    let behind = write_self_type(s, names, items, f, out, at);
+    put_name_of(s, names, v.name, out, behind)
+}
+
+// Parameter j.
+fn write_parameter(
+    s: &[u8],
+    names: &[u32],
+    items: &[u32],
+    f: FunctionView,
+    offsets: &[u32],
+    j: u32,
+    out: &mut [u8],
+    at: usize,
+) -> usize
+    requires { ⌜ Whole (now s) (now names) (now items) × ArgumentsAt (now s) (now names) (now items) f (now offsets) ×
+        (j < f .arguments) × (f .arguments ≤ length (now offsets)) ⌝ }
+    ensures { λ r. ⌜ Wrote (sink (now (out .entry)) at)
+        (writeTypeSpace (itemsAt (now (s .entry)) (now (names .entry)) (now (items .entry)))
+        (argumentAt (now (s .entry)) (now (names .entry)) (now (items .entry)) (f .number) j .type) ++ argumentAt
+        (now (s .entry)) (now (names .entry)) (now (items .entry)) (f .number) j .name) (sink (now (out .exit)) r) ⌝ }
+{
+    let a = argument(s, names, items, f, offsets, j);
+    let behind = write_outermost_space(s, names, items, a.of, out, at);
+    put_name_of(s, names, a.name, out, behind)
+}
+
+// The parameters.
+fn write_parameters(
+    s: &[u8],
+    names: &[u32],
+    items: &[u32],
+    f: FunctionView,
+    offsets: &[u32],
+    out: &mut [u8],
+    at: usize,
+) -> usize
+    requires { ⌜ Whole (now s) (now names) (now items) × ArgumentsAt (now s) (now names) (now items) f (now offsets) ×
+        (f .arguments ≤ length (now offsets)) ⌝ }
+    ensures { λ r. ⌜ Wrote (sink (now (out .entry)) at)
+        (commas false (map (λ a. writeTypeSpace (itemsAt (now (s .entry)) (now (names .entry)) (now (items .entry)))
+        (a .type) ++ a .name) (functionAt (now (s .entry)) (now (names .entry)) (now (items .entry))
+        (f .number) .arguments))) (sink (now (out .exit)) r) ⌝ }
+{
+    let mut here = at;
+    let mut comma = false;
+    let mut j: u32 = 0;
+    while j < f.arguments {
+        let behind = put_when(out, here, comma, b", ");
+        here = write_parameter(s, names, items, f, offsets, j, out, behind);
+        comma = true;
+        j = j + 1;
+    }
+    here
+}
+
+fn put_open(out: &mut [u8], at: usize) -> usize
+    ensures { λ r. ⌜ Wrote (sink (now (out .entry)) at) (bytes "(") (sink (now (out .exit)) r) ⌝ }
+{
+    put_bytes(out, at, b"(")
+}
+
+fn put_close(out: &mut [u8], at: usize) -> usize
+    ensures { λ r. ⌜ Wrote (sink (now (out .entry)) at) (bytes ")") (sink (now (out .exit)) r) ⌝ }
+{
+    put_bytes(out, at, b")")
+}
+
+fn put_const(f: FunctionView, out: &mut [u8], at: usize) -> usize
+    ensures { λ r. ⌜ Wrote (sink (now (out .entry)) at) (pickText (eqb (f .form) 1) (bytes " const") [])
+        (sink (now (out .exit)) r) ⌝ }
+{
+    put_when(out, at, f.form == 1, b" const")
+}
+
+fn put_noexcept(f: FunctionView, out: &mut [u8], at: usize) -> usize
+    ensures { λ r. ⌜ Wrote (sink (now (out .entry)) at) (pickText (f .throws) [] (bytes " noexcept"))
+        (sink (now (out .exit)) r) ⌝ }
+{
+    put_unless(out, at, f.throws, b" noexcept")
+}
+
+// The head of the function's shim.
+pub fn write_shim_decl(
+    s: &[u8],
+    names: &[u32],
+    items: &[u32],
+    v: ItemView,
+    f: FunctionView,
+    offsets: &[u32],
+    out: &mut [u8],
+    at: usize,
+) -> usize
+    requires { ⌜ Whole (now s) (now names) (now items) × ItemAt (now s) (now names) (now items) v ×
+        FunctionAt (now s) (now names) (now items) f × (f .number ≡ v .number) ×
+        ArgumentsAt (now s) (now names) (now items) f (now offsets) × (f .arguments ≤ length (now offsets)) ⌝ }
+    ensures { λ r. ⌜ Wrote (sink (now (out .entry)) at)
+        (shimDecl (itemsAt (now (s .entry)) (now (names .entry)) (now (items .entry)))
+        (itemAt (itemsAt (now (s .entry)) (now (names .entry)) (now (items .entry))) (v .number))
+        (functionAt (now (s .entry)) (now (names .entry)) (now (items .entry)) (f .number)))
+        (sink (now (out .exit)) r) ⌝ }
+{
+    let a = write_shim_type(s, names, items, v, f, out, at);
+    let b = write_local_name(s, names, items, v, f, out, a);
+    let c = put_open(out, b);
+    let d = write_parameters(s, names, items, f, offsets, out, c);
+    let e = put_close(out, d);
+    let g = put_const(f, out, e);
+    put_noexcept(f, out, g)
+}

@@ -1,0 +1,132 @@
+-- Laws of the arguments of a shim's call.
+use mathlib.Core.Path.{_≡_, refl, sym, ap, _∙_}
+use mathlib.Core.List.{List, [], _∷_, _++_, map}
+use mathlib.Core.Bool.{Bool, true, false, not, _&&_, _||_}
+use Prim.Native.Nat.{ℕ}
+use lib.Dec.{ltb}
+use lib.ListN.{length, getD}
+use Rattle.lexical.specs.Bytes.{bytes}
+use Rattle.lexical.specs.Decimal.{pickText}
+use Rattle.sink.specs.Sink.{Sink, Wrote}
+use Rattle.sink.proofs.SinkLaws.{_▷_, wrote-nil, wrote-as}
+use Rattle.format.specs.Decode.{pick}
+use Rattle.format.specs.Types.{Ty, str}
+use Rattle.format.specs.Sheet.{Argument, Function, Item}
+use Rattle.format.specs.Decoding.{formOf}
+use Rattle.syntax.specs.Types.{needsIndirectAbi, isRustString}
+use Rattle.rules.specs.Rules.{isMethod}
+use Rattle.bridge.specs.WriteType.{writeType}
+use Rattle.bridge.specs.Write.{commas, shape, indirectReturn, isHeld, heldLocal, slot, operandEnd, operand, operands}
+use Rattle.view.specs.declared.FunctionView.{FunctionView}
+use Rattle.view.specs.declared.ArgumentView.{ArgumentView}
+use Rattle.view.specs.Values.{nameAt, itemsAt, functionAt, typeHere}
+use Rattle.view.specs.Views.{FunctionAt, ArgumentOf, ArgumentsAt}
+use Rattle.shape.specs.declared.ShapeKind.{ShapeKind}
+use Rattle.shape.specs.declared.ShapeKind.the-variants.{RustBox, UniquePtr, Ref, Str, SliceRef, Other}
+use Rattle.shape.specs.declared.ShapeView.{ShapeView}
+use Rattle.shape.specs.Shapes.{shapeWith, ShapeOf}
+use Rattle.shape.proofs.TypeLaws.{here-is}
+use Rattle.shape.proofs.FunctionLaws.{slot-some, slot-empty, method-is, arguments-count}
+use Rattle.shape.proofs.CommaLaws.{isSome, some-map, some-count, some-pick, commas-three, commas-none, commas-one}
+
+-- what stands behind an argument's name, by its type's kind
+pub end-by-kind : {k j : ShapeKind} (held : Bool) {r t : Sink} → k ≡ j →
+    Wrote r (operandEnd (shapeWith j true str) held) t → Wrote r (operandEnd (shapeWith k true str) held) t
+end-by-kind held e p = rw e p
+
+-- ---- held arguments
+
+module _ (items : List Item) (t : Ty) {string : Bool} (e : string ≡ isRustString t) where
+  pub held-string : string ≡ true → false ≡ isHeld items t
+  unfolding isHeld
+  held-string h = rw (← e, h)
+
+  pub held-other : {b : Bool} → string ≡ false → b ≡ needsIndirectAbi items t → b ≡ isHeld items t
+  unfolding isHeld
+  held-other h q = q ∙ rw (← e, h)
+
+module _ (items : List Item) {s names : List ℕ} {n : ℕ} {x : Argument} {v : ArgumentView} (a : ArgumentOf s names n x v)
+    {held : Bool} (h : held ≡ isHeld items (typeHere n s (v .of .at))) where
+  type-is : typeHere n s (v .of .at) ≡ x .type
+  type-is = here-is n s (v .of .at) (a .of)
+
+  held-is : held ≡ isHeld items (x .type)
+  held-is = h ∙ ap (isHeld items) type-is
+
+  pub local-none : (r : Sink) → held ≡ false → Wrote r (heldLocal items x) r
+  unfolding heldLocal
+  local-none r e = rw (← held-is, e) (wrote-nil r)
+
+  pub local-written : {r t : Sink} → held ≡ true →
+      Wrote r (bytes "  ::rust::ManuallyDrop<" ++ writeType items (typeHere n s (v .of .at)) ++ bytes "> "
+      ++ nameAt s (getD names (v .name) 0) ++ bytes "$(::std::move(" ++ nameAt s (getD names (v .name) 0)
+      ++ bytes "));\n") t →
+      Wrote r (heldLocal items x) t
+  unfolding heldLocal
+  local-written e p = wrote-as p (rw (← held-is, e, type-is, a .name))
+
+  -- ---- operands
+
+  -- behind the name stands the same for any inner type
+  end-of : (k : ShapeKind) (m : Bool) (t : Ty) → operandEnd (shapeWith k true str) held ≡ operandEnd (shapeWith k m t) held
+  end-of RustBox m t = refl
+  end-of UniquePtr m t = refl
+  end-of Ref m t = refl
+  end-of Str m t = refl
+  end-of SliceRef m t = refl
+  end-of Other m t = refl
+
+  pub operand-written : {indirect : Bool} {k : ShapeView} {r t u w : Sink} →
+      indirect ≡ needsIndirectAbi items (typeHere n s (v .of .at)) →
+      ShapeOf n s (shape (typeHere n s (v .of .at))) k → Wrote r (pickText indirect (bytes "&") []) t →
+      Wrote t (nameAt s (getD names (v .name) 0)) u → Wrote u (operandEnd (shapeWith (k .kind) true str) held) w →
+      Wrote r (operand items x) w
+  unfolding operand
+  operand-written {k = k} i o p q z =
+      wrote-as p (ap (λ (b : Bool). pickText b (bytes "&") []) (i ∙ ap (needsIndirectAbi items) type-is)) ▷
+      wrote-as q (a .name) ▷
+      wrote-as z
+      (end-of (k .kind) _ _ ∙ ap (λ y. operandEnd y held) (sym (o .is)) ∙ rw (type-is, held-is))
+
+-- ---- the operands of a call
+
+receiver-is : (m : Bool) (x : List ℕ) → commas false (pick m (x ∷ []) []) ≡ pickText m x []
+receiver-is true x = commas-one false x
+receiver-is false x = commas-none false
+
+module _ {s names items offsets : List ℕ} {f : FunctionView} (a : FunctionAt s names items f)
+    (g : ArgumentsAt s names items f offsets) {indirect : Bool}
+    (i : indirect ≡ indirectReturn (itemsAt s names items) (functionAt s names items (f .number))
+    (functionAt s names items (f .number) .return)) where
+  abbrev this : Function
+  this = functionAt s names items (f .number)
+
+  slot-is : (b : Bool) (x : List ℕ) →
+      pickText indirect (pickText b (bytes ", ") [] ++ x) [] ≡ commas b (map (λ t. x) (slot (itemsAt s names items) this))
+  slot-is b x = by-bit indirect refl
+    where
+      by-bit : (d : Bool) → indirect ≡ d → pickText d (pickText b (bytes ", ") [] ++ x) [] ≡
+          commas b (map (λ t. x) (slot (itemsAt s names items) this))
+      by-bit true e = sym (rw (slot-some a i e) (commas-one b x))
+      by-bit false e = sym (rw (slot-empty a i e) (commas-none b))
+
+  pub operands-written : {method comma : Bool} {r t u v : Sink} → method ≡ isMethod (formOf (f .form) (f .owner)) →
+      Wrote r (pickText method (bytes "*this") []) t →
+      Wrote t (commas method (map (operand (itemsAt s names items)) (this .arguments))) u →
+      comma ≡ (method || ltb 0 (f .arguments)) →
+      Wrote u (pickText indirect (pickText comma (bytes ", ") [] ++ bytes "&return$.value") []) v →
+      Wrote r (commas false (operands (itemsAt s names items) this)) v
+  unfolding operands
+  operands-written {method} {comma} m p q e z =
+      let is = method-is a m in
+      let x = pick (isMethod (this .form)) (bytes "*this" ∷ []) [] in
+      let y = map (operand (itemsAt s names items)) (this .arguments) in
+      let some : isSome x ≡ method = some-pick (isMethod (this .form)) (bytes "*this") ∙ sym is in
+      let any : isSome y ≡ ltb 0 (f .arguments) =
+      some-map (operand (itemsAt s names items)) (this .arguments) ∙ some-count (this .arguments) (arguments-count g) in
+      wrote-as
+      (wrote-as p (ap (λ (b : Bool). pickText b (bytes "*this") []) is ∙
+      sym (receiver-is (isMethod (this .form)) (bytes "*this"))) ▷
+      q ▷ wrote-as z (slot-is comma (bytes "&return$.value")))
+      (sym (commas-three x y (map (λ t. bytes "&return$.value") (slot (itemsAt s names items) this)) ∙
+      rw (some, any, e)))

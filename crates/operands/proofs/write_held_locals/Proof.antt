@@ -1,0 +1,53 @@
+use borrow.Author.Needs.{needs}
+use Prim.Native.Nat.{_-_, _≤_}
+use native.Mathlib.Omega.{arith}
+use Rattle.bridge.specs.Write.{heldLocal}
+use Rattle.sink.specs.Sink.{sink}
+use Rattle.sink.proofs.SinkLaws.{wrote-length}
+use Rattle.view.specs.Values.{itemsAt, functionAt, argumentAt}
+use Rattle.shape.proofs.FunctionLaws.{arguments-count}
+use Rattle.shape.proofs.CommaLaws.{Gathered, gathered-none, gathered-turn, gathered-all}
+use Rattle.operands.proofs.write_held_locals.Statement.{statement}
+use Rattle.operands.proofs.write_held_locals.Tie as tie
+
+abbrev Inv-loop : tie.InvT-loop
+Inv-loop s names items f offsets out₀ at here₀ j₀ out here j = (j ≤ f .arguments) × Gathered (heldLocal (itemsAt s names items)) (functionAt s names items (f .number) .arguments) j (sink out₀ here₀) (sink out here)
+
+abbrev μ-loop : tie.MeasureT-loop
+μ-loop s names items f offsets out₀ at here₀ j₀ out here j = f .arguments - j
+
+loop-holds : tie.Need-loop-holds Inv-loop μ-loop
+loop-holds c = (omega arith, gathered-none _ _ _)
+
+write-held-local-requires : tie.Need-write-held-local-requires Inv-loop μ-loop
+write-held-local-requires c κs = (c .before .before .before .before .before .before .before .before .before .pre .0, c .before .before .before .before .before .before .before .before .before .pre .1, omega arith, omega arith)
+
+add-j : tie.Need-add-j Inv-loop μ-loop
+add-j c = omega arith
+
+loop-less : tie.Need-loop-less Inv-loop μ-loop
+loop-less c = omega arith
+
+loop-again : tie.Need-loop-again Inv-loop μ-loop
+unfolding argumentAt
+loop-again c = (omega arith, gathered-turn _ _ _ (omega (arith, arguments-count (c .before .before .before .before .before .before .before .before .before .before .before .before .pre .1))) (c .before .before .before .before .before .before .loop .inv .1) (c .before .before .write-held-local .ensures))
+
+returns : tie.Need-returns Inv-loop μ-loop
+returns c = gathered-all _ _ (omega (arith, arguments-count (c .before .before .before .before .before .before .before .before .pre .1))) (c .before .before .loop .inv .1)
+
+same-length : tie.Need-same-length Inv-loop μ-loop
+same-length c = wrote-length (returns c)
+
+pub write-held-locals-spec : {M : Type 1} → statement M
+write-held-locals-spec =
+    tie.close
+    (tie.spec
+    Inv-loop
+    μ-loop
+    loop-holds
+    write-held-local-requires
+    add-j
+    loop-less
+    loop-again
+    same-length
+    returns)

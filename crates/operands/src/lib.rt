@@ -1,0 +1,300 @@
+// The arguments of a shim's call: the locals that hold some of them, and the operands.
+use cursor::Cursor;
+use put_name::put_name_of;
+use shape::ShapeKind;
+use shape::is_method;
+use shape::needs_comma;
+use shape::shape;
+use shape::write_outermost;
+use sink::put_bytes;
+use sink::put_when;
+use view::ArgumentView;
+use view::FunctionView;
+use view::argument;
+use view::is_rust_string;
+use view::needs_indirect_abi;
+ghost use mathlib.Core.Path.{_≡_};
+ghost use mathlib.Core.List.{[], _++_, map};
+ghost use mathlib.Core.Bool.{true, false};
+ghost use Prim.Native.Nat.{_≤_, _<_};
+ghost use lib.ListN.{length, getD};
+ghost use Rattle.lexical.specs.Bytes.{bytes};
+ghost use Rattle.lexical.specs.Decimal.{pickText};
+ghost use Rattle.format.specs.Types.{str};
+ghost use Rattle.format.specs.Decoding.{type};
+ghost use Rattle.rules.specs.Rules.{gather};
+ghost use Rattle.bridge.specs.WriteType.{writeType};
+ghost use Rattle.bridge.specs.Write.{commas, indirectReturn, isHeld, heldLocal, operandEnd, operand, operands};
+ghost use Rattle.sink.specs.Sink.{sink, Wrote};
+ghost use Rattle.view.specs.Values.{Yields, nameAt, itemsAt, functionAt, argumentAt, typeHere, Whole};
+ghost use Rattle.view.specs.Views.{FunctionAt, ArgumentsAt};
+ghost use Rattle.shape.specs.Shapes.{shapeWith};
+
+// Whether an argument of the type at c is held in a local.
+fn is_held(s: &[u8], names: &[u32], items: &[u32], c: Cursor) -> bool
+    requires { ⌜ Whole (now s) (now names) (now items) ×
+        Yields (type (length (now items)) (now s) (c .at)) (typeHere (length (now items)) (now s) (c .at)) ⌝ }
+    ensures { λ r. ⌜ r ≡ isHeld (itemsAt (now (s .entry)) (now (names .entry)) (now (items .entry)))
+        (typeHere (length (now (items .entry))) (now (s .entry)) (c .at)) ⌝ }
+{
+    let string = is_rust_string(s, items, c);
+    if string {
+        return false;
+    }
+    needs_indirect_abi(s, names, items, c)
+}
+
+// ---- locals
+
+fn put_manually_drop(out: &mut [u8], at: usize) -> usize
+    ensures { λ r. ⌜ Wrote (sink (now (out .entry)) at) (bytes "  ::rust::ManuallyDrop<")
+        (sink (now (out .exit)) r) ⌝ }
+{
+    put_bytes(out, at, b"  ::rust::ManuallyDrop<")
+}
+
+fn put_angle(out: &mut [u8], at: usize) -> usize
+    ensures { λ r. ⌜ Wrote (sink (now (out .entry)) at) (bytes "> ") (sink (now (out .exit)) r) ⌝ }
+{
+    put_bytes(out, at, b"> ")
+}
+
+fn put_move(out: &mut [u8], at: usize) -> usize
+    ensures { λ r. ⌜ Wrote (sink (now (out .entry)) at) (bytes "$(::std::move(") (sink (now (out .exit)) r) ⌝ }
+{
+    put_bytes(out, at, b"$(::std::move(")
+}
+
+fn put_local_end(out: &mut [u8], at: usize) -> usize
+    ensures { λ r. ⌜ Wrote (sink (now (out .entry)) at) (bytes "));\n") (sink (now (out .exit)) r) ⌝ }
+{
+    put_bytes(out, at, b"));\n")
+}
+
+// The local that holds the argument a.
+fn write_local(
+    s: &[u8],
+    names: &[u32],
+    items: &[u32],
+    a: ArgumentView,
+    out: &mut [u8],
+    at: usize,
+) -> usize
+    requires { ⌜ Whole (now s) (now names) (now items) × (a .name < length (now names)) ×
+        Yields (type (length (now items)) (now s) (a .of .at)) (typeHere (length (now items)) (now s) (a .of .at)) ⌝ }
+    ensures { λ r. ⌜ Wrote (sink (now (out .entry)) at)
+        (bytes "  ::rust::ManuallyDrop<" ++ writeType
+        (itemsAt (now (s .entry)) (now (names .entry)) (now (items .entry)))
+        (typeHere (length (now (items .entry))) (now (s .entry)) (a .of .at)) ++ bytes "> " ++ nameAt (now (s .entry))
+        (getD (now (names .entry)) (a .name) 0) ++ bytes "$(::std::move(" ++ nameAt (now (s .entry))
+        (getD (now (names .entry)) (a .name) 0) ++ bytes "));\n") (sink (now (out .exit)) r) ⌝ }
+{
+    let b = put_manually_drop(out, at);
+    let c = write_outermost(s, names, items, a.of, out, b);
+    let d = put_angle(out, c);
+    let e = put_name_of(s, names, a.name, out, d);
+    let g = put_move(out, e);
+    let h = put_name_of(s, names, a.name, out, g);
+    put_local_end(out, h)
+}
+
+// The local that holds argument j, where one does.
+fn write_held_local(
+    s: &[u8],
+    names: &[u32],
+    items: &[u32],
+    f: FunctionView,
+    offsets: &[u32],
+    j: u32,
+    out: &mut [u8],
+    at: usize,
+) -> usize
+    requires { ⌜ Whole (now s) (now names) (now items) × ArgumentsAt (now s) (now names) (now items) f (now offsets) ×
+        (j < f .arguments) × (f .arguments ≤ length (now offsets)) ⌝ }
+    ensures { λ r. ⌜ Wrote (sink (now (out .entry)) at)
+        (heldLocal (itemsAt (now (s .entry)) (now (names .entry)) (now (items .entry)))
+        (argumentAt (now (s .entry)) (now (names .entry)) (now (items .entry)) (f .number) j))
+        (sink (now (out .exit)) r) ⌝ }
+{
+    let a = argument(s, names, items, f, offsets, j);
+    let held = is_held(s, names, items, a.of);
+    if held {
+        return write_local(s, names, items, a, out, at);
+    }
+    at
+}
+
+// The locals that hold arguments.
+pub fn write_held_locals(
+    s: &[u8],
+    names: &[u32],
+    items: &[u32],
+    f: FunctionView,
+    offsets: &[u32],
+    out: &mut [u8],
+    at: usize,
+) -> usize
+    requires { ⌜ Whole (now s) (now names) (now items) × ArgumentsAt (now s) (now names) (now items) f (now offsets) ×
+        (f .arguments ≤ length (now offsets)) ⌝ }
+    ensures { λ r. ⌜ Wrote (sink (now (out .entry)) at)
+        (gather (heldLocal (itemsAt (now (s .entry)) (now (names .entry)) (now (items .entry))))
+        (functionAt (now (s .entry)) (now (names .entry)) (now (items .entry)) (f .number) .arguments))
+        (sink (now (out .exit)) r) ⌝ }
+{
+    let mut here = at;
+    let mut j: u32 = 0;
+    while j < f.arguments {
+        here = write_held_local(s, names, items, f, offsets, j, out, here);
+        j = j + 1;
+    }
+    here
+}
+
+// ---- operands
+
+fn put_into_raw(out: &mut [u8], at: usize) -> usize
+    ensures { λ r. ⌜ Wrote (sink (now (out .entry)) at) (bytes ".into_raw()") (sink (now (out .exit)) r) ⌝ }
+{
+    put_bytes(out, at, b".into_raw()")
+}
+
+fn put_release(out: &mut [u8], at: usize) -> usize
+    ensures { λ r. ⌜ Wrote (sink (now (out .entry)) at) (bytes ".release()") (sink (now (out .exit)) r) ⌝ }
+{
+    put_bytes(out, at, b".release()")
+}
+
+fn put_value(held: bool, out: &mut [u8], at: usize) -> usize
+    ensures { λ r. ⌜ Wrote (sink (now (out .entry)) at) (pickText held (bytes "$.value") [])
+        (sink (now (out .exit)) r) ⌝ }
+{
+    put_when(out, at, held, b"$.value")
+}
+
+// What stands behind an argument's name.
+fn put_operand_end(kind: ShapeKind, held: bool, out: &mut [u8], at: usize) -> usize
+    ensures { λ r. ⌜ Wrote (sink (now (out .entry)) at) (operandEnd (shapeWith kind true str) held)
+        (sink (now (out .exit)) r) ⌝ }
+{
+    match kind {
+        ShapeKind::RustBox => put_into_raw(out, at),
+        ShapeKind::UniquePtr => put_release(out, at),
+        ShapeKind::Ref => put_value(held, out, at),
+        ShapeKind::Str => put_value(held, out, at),
+        ShapeKind::SliceRef => put_value(held, out, at),
+        ShapeKind::Other => put_value(held, out, at),
+    }
+}
+
+fn put_address(indirect: bool, out: &mut [u8], at: usize) -> usize
+    ensures { λ r. ⌜ Wrote (sink (now (out .entry)) at) (pickText indirect (bytes "&") [])
+        (sink (now (out .exit)) r) ⌝ }
+{
+    put_when(out, at, indirect, b"&")
+}
+
+// Argument j as an operand.
+fn write_operand(
+    s: &[u8],
+    names: &[u32],
+    items: &[u32],
+    f: FunctionView,
+    offsets: &[u32],
+    j: u32,
+    out: &mut [u8],
+    at: usize,
+) -> usize
+    requires { ⌜ Whole (now s) (now names) (now items) × ArgumentsAt (now s) (now names) (now items) f (now offsets) ×
+        (j < f .arguments) × (f .arguments ≤ length (now offsets)) ⌝ }
+    ensures { λ r. ⌜ Wrote (sink (now (out .entry)) at)
+        (operand (itemsAt (now (s .entry)) (now (names .entry)) (now (items .entry)))
+        (argumentAt (now (s .entry)) (now (names .entry)) (now (items .entry)) (f .number) j))
+        (sink (now (out .exit)) r) ⌝ }
+{
+    let a = argument(s, names, items, f, offsets, j);
+    let indirect = needs_indirect_abi(s, names, items, a.of);
+    let held = is_held(s, names, items, a.of);
+    let v = shape(s, items, a.of);
+    let kind = v.kind;
+    let b = put_address(indirect, out, at);
+    let c = put_name_of(s, names, a.name, out, b);
+    put_operand_end(kind, held, out, c)
+}
+
+// The arguments as operands, behind others or not.
+fn write_arguments(
+    s: &[u8],
+    names: &[u32],
+    items: &[u32],
+    f: FunctionView,
+    offsets: &[u32],
+    others: bool,
+    out: &mut [u8],
+    at: usize,
+) -> usize
+    requires { ⌜ Whole (now s) (now names) (now items) × ArgumentsAt (now s) (now names) (now items) f (now offsets) ×
+        (f .arguments ≤ length (now offsets)) ⌝ }
+    ensures { λ r. ⌜ Wrote (sink (now (out .entry)) at)
+        (commas others (map (operand (itemsAt (now (s .entry)) (now (names .entry)) (now (items .entry))))
+        (functionAt (now (s .entry)) (now (names .entry)) (now (items .entry)) (f .number) .arguments)))
+        (sink (now (out .exit)) r) ⌝ }
+{
+    let mut here = at;
+    let mut comma = others;
+    let mut j: u32 = 0;
+    while j < f.arguments {
+        let behind = put_when(out, here, comma, b", ");
+        here = write_operand(s, names, items, f, offsets, j, out, behind);
+        comma = true;
+        j = j + 1;
+    }
+    here
+}
+
+fn put_this(method: bool, out: &mut [u8], at: usize) -> usize
+    ensures { λ r. ⌜ Wrote (sink (now (out .entry)) at) (pickText method (bytes "*this") [])
+        (sink (now (out .exit)) r) ⌝ }
+{
+    put_when(out, at, method, b"*this")
+}
+
+// The slot as an operand, where there is one.
+fn put_slot(indirect: bool, comma: bool, out: &mut [u8], at: usize) -> usize
+    ensures { λ r. ⌜ Wrote (sink (now (out .entry)) at)
+        (pickText indirect (pickText comma (bytes ", ") [] ++ bytes "&return$.value") [])
+        (sink (now (out .exit)) r) ⌝ }
+{
+    if indirect {
+        let behind = put_when(out, at, comma, b", ");
+        return put_bytes(out, behind, b"&return$.value");
+    }
+    at
+}
+
+// The operands of the call.
+pub fn write_operands(
+    s: &[u8],
+    names: &[u32],
+    items: &[u32],
+    f: FunctionView,
+    offsets: &[u32],
+    indirect: bool,
+    out: &mut [u8],
+    at: usize,
+) -> usize
+    requires { ⌜ Whole (now s) (now names) (now items) × FunctionAt (now s) (now names) (now items) f ×
+        ArgumentsAt (now s) (now names) (now items) f (now offsets) × (f .arguments ≤ length (now offsets)) ×
+        (indirect ≡ indirectReturn (itemsAt (now s) (now names) (now items))
+        (functionAt (now s) (now names) (now items) (f .number))
+        (functionAt (now s) (now names) (now items) (f .number) .return)) ⌝ }
+    ensures { λ r. ⌜ Wrote (sink (now (out .entry)) at)
+        (commas false (operands (itemsAt (now (s .entry)) (now (names .entry)) (now (items .entry)))
+        (functionAt (now (s .entry)) (now (names .entry)) (now (items .entry)) (f .number))))
+        (sink (now (out .exit)) r) ⌝ }
+{
+    let method = is_method(f);
+    let a = put_this(method, out, at);
+    let b = write_arguments(s, names, items, f, offsets, method, out, a);
+    let comma = needs_comma(method, f.arguments);
+    put_slot(indirect, comma, out, b)
+}
