@@ -8,6 +8,7 @@ use Rattle.format.specs.Sheet.{Sheet}
 use Rattle.rules.specs.Judge.{judge}
 use Rattle.services.specs.declared.Written.{Written}
 use Rattle.services.specs.declared.Written.the-variants.{Length, Refused}
+use Rattle.bridge.specs.Write.{text}
 use Rattle.services.specs.Services.{structOrder, answerOf, bufferOf, writtenCode}
 
 -- the number, and every byte of the buffer afterwards; f has the bytes for an accepted sheet
@@ -18,6 +19,10 @@ pub record Codes (f : Sheet → List ℕ) (sheet buffer : List ℕ) (code : ℤ)
 -- list a sheet's struct order
 abbrev pub OrdersCode : List ℕ → List ℕ → ℤ → List ℕ → Type 0
 OrdersCode sheet buffer code after = Codes structOrder sheet buffer code after
+
+-- write a sheet's text
+abbrev pub WritesCode : List ℕ → List ℕ → ℤ → List ℕ → Type 0
+WritesCode sheet buffer code after = Codes text sheet buffer code after
 
 -- the length that is answered
 abbrev pub lengthOf : Written → ℕ

@@ -5,13 +5,14 @@ use refusal::number;
 use rules::Checked;
 use services::Written;
 use struct_order::struct_order;
+use write_sheet::write;
 ghost use mathlib.Core.Path.{_≡_};
 ghost use Prim.Native.Nat.{_<_, _^_};
 ghost use lib.IntN.{pos, negℤ};
 ghost use Rattle.refusal.specs.Refusal.{numberOf};
 ghost use Rattle.rules.specs.Judge.{check as checkOf};
 ghost use Rattle.services.specs.Services.{checkedCode, writtenCode};
-ghost use Rattle.exports.specs.Codes.{OrdersCode, lengthOf};
+ghost use Rattle.exports.specs.Codes.{OrdersCode, WritesCode, lengthOf};
 
 // Across C linkage a refusal is its number negated.
 fn refusal_code(e: Refusal) -> i64
@@ -51,5 +52,14 @@ pub extern "C" fn bridgetext_struct_order(sheet: &[u8], buf: &mut [u8]) -> i64
     ensures { λ r. ⌜ OrdersCode (now (sheet .entry)) (now (buf .entry)) r (now (buf .exit)) ⌝ }
 {
     let w = struct_order(sheet, buf);
+    written_code(w)
+}
+
+// Any bytes: the length of the text at the front of `buf`, or the refusal's number negated.
+#[no_mangle]
+pub extern "C" fn bridgetext_write(sheet: &[u8], buf: &mut [u8]) -> i64
+    ensures { λ r. ⌜ WritesCode (now (sheet .entry)) (now (buf .entry)) r (now (buf .exit)) ⌝ }
+{
+    let w = write(sheet, buf);
     written_code(w)
 }

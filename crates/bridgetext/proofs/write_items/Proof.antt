@@ -2,8 +2,8 @@ use borrow.Author.Needs.{needs}
 use Prim.Native.Nat.{_≤_, _-_}
 use native.Mathlib.Omega.{arith}
 use lib.ListN.{length}
-use Rattle.checksheet.proofs.write_items.Statement.{statement}
-use Rattle.checksheet.proofs.write_items.Tie as tie
+use Rattle.bridgetext.proofs.write_items.Statement.{statement}
+use Rattle.bridgetext.proofs.write_items.Tie as tie
 
 abbrev Inv-loop : tie.InvT-loop
 Inv-loop list i₀ i = i ≤ length list

@@ -1,5 +1,6 @@
-// Reads a sheet on standard input, and writes whether it is accepted or which refusal it has. With the argument `order`
-// it lists the sheet's structs, each after those that it holds: an item number to a line, counted from 0.
+// Reads a sheet on standard input, and writes its text from a buffer of 65,536 bytes, or which refusal it has. With the
+// argument `check` it only says whether the sheet is accepted; with `order` it lists the sheet's structs, each after
+// those that it holds: an item number to a line, counted from 0.
 use check_sheet::check;
 use libc::STDERR_FILENO;
 use libc::STDIN_FILENO;
@@ -10,12 +11,26 @@ use rules::Checked;
 use services::Written;
 use struct_order::struct_order;
 use text::equal;
+use write_sheet::write;
 
 fn write_refusal(e: Refusal) {
     io::write_all(STDOUT_FILENO, b"refused ");
     let n = number(e);
     io::print_decimal(STDOUT_FILENO, n as u64);
     io::write_all(STDOUT_FILENO, b"\n");
+}
+
+fn write_bytes(text: &[u8]) {
+    io::write_all(STDOUT_FILENO, text);
+}
+
+fn write_text(sheet: &[u8]) {
+    let mut text = io::large_buffer();
+    let w = write(sheet, &mut text);
+    match w {
+        Written::Length(n) => write_bytes(&text[..n]),
+        Written::Refused(e) => write_refusal(e),
+    }
 }
 
 fn write_check(sheet: &[u8]) {
@@ -51,13 +66,15 @@ fn write_order(sheet: &[u8]) {
     }
 }
 
-fn write_answer(is_order: bool) {
+fn write_answer(is_check: bool, is_order: bool) {
     let mut sheet = io::large_buffer();
     let n = io::read_full(STDIN_FILENO, &mut sheet);
-    if is_order {
+    if is_check {
+        write_check(&sheet[..n]);
+    } else if is_order {
         write_order(&sheet[..n]);
     } else {
-        write_check(&sheet[..n]);
+        write_text(&sheet[..n]);
     }
 }
 
@@ -65,12 +82,13 @@ fn main() {
     let count = os::arg_count();
     let mut word = [0u8; 8];
     let n = os::arg(1, &mut word);
+    let is_check = equal(&word[..n], b"check");
     let is_order = equal(&word[..n], b"order");
     if count < 2 {
-        write_answer(false);
-    } else if count == 2 && is_order {
-        write_answer(true);
+        write_answer(false, false);
+    } else if count == 2 && (is_check || is_order) {
+        write_answer(is_check, is_order);
     } else {
-        io::write_all(STDERR_FILENO, b"usage: checksheet [order] < SHEET\n");
+        io::write_all(STDERR_FILENO, b"usage: bridgetext [check|order] < SHEET\n");
     }
 }

@@ -3,8 +3,8 @@ use native.Mathlib.Omega.{arith}
 use mathlib.Core.Path.{sym}
 use lib.Seq.{length-take-le}
 use Rattle.struct_order.proofs.ServeLaws.{served-inside}
-use Rattle.checksheet.proofs.write_order.Statement.{statement}
-use Rattle.checksheet.proofs.write_order.Tie as tie
+use Rattle.bridgetext.proofs.write_order.Statement.{statement}
+use Rattle.bridgetext.proofs.write_order.Tie as tie
 
 array-share-prefix-list : tie.Need-array-share-prefix-list
 array-share-prefix-list c = omega (arith, served-inside (c .before .before .before .before .struct-order .ensures) (c .before .w .given .1))
