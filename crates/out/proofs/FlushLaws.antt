@@ -2,7 +2,7 @@
 use mathlib.Core.Path.{_≡_, refl, sym, ap, ap₂, _∙_}
 use mathlib.Core.List.{List, [], _∷_, _++_, append-assoc, append-nil}
 use mathlib.Core.Bool.{Bool, true, false, _&&_}
-use Prim.Native.Nat.{ℕ, zero, suc, _+_, _<_, _≤_, min}
+use Prim.Native.Nat.{ℕ, zero, suc, _+_, _<_, _≤_}
 use native.Mathlib.Omega.{arith}
 use native.Mathlib.Numerals.{add-one}
 use lib.ListN.{length}
@@ -11,12 +11,12 @@ use borrow.Author.Tests.{lt-ltb, le-ltb}
 use Rattle.lexical.specs.Bytes.{bytes}
 use Rattle.lexical.specs.Decimal.{pickText}
 use Rattle.format.specs.Sheet.{Name}
-use Rattle.sink.specs.Sink.{Sink, sink, limit, Wrote}
+use Rattle.sink.specs.Sink.{sink, Wrote}
 use Rattle.sink.proofs.SinkLaws.{_▷_, wrote-as, wrote-place, wrote-length}
 use Rattle.bridge.specs.Block.{Block}
 use Rattle.bridge.specs.Out as machine
-use Rattle.bridge.specs.Out.{begin, end, some, flushBoundary, flushAll, flushBlocks, append, isPending}
-use Rattle.pieces.specs.Pieces.{closings, change}
+use Rattle.bridge.specs.Out.{begin, end, some, flushBoundary, flushAll, flushBlocks, isPending}
+use Rattle.pieces.specs.Pieces.{change}
 use Rattle.pieces.specs.Between.{named, between}
 use Rattle.pieces.proofs.Boundaries.{between-same}
 use Rattle.pieces.specs.Between.{standing}

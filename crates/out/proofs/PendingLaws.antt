@@ -1,11 +1,11 @@
 -- Laws of the boundaries that are pending in the code's state.
 use mathlib.Core.Path.{_≡_, refl, sym, ap, ap₂, _∙_}
-use mathlib.Core.List.{List, [], _∷_}
-use mathlib.Core.Bool.{Bool, true, false, false≢true}
+use mathlib.Core.List.{List, _∷_}
+use mathlib.Core.Bool.{true, false}
 use Prim.Native.Nat.{ℕ, zero, suc, _+_, _-_, _<_, _≤_}
 use native.Mathlib.Omega.{arith}
 use native.Mathlib.Numerals.{add-one}
-use lib.ListN.{length, getD, set, length-set}
+use lib.ListN.{length, set, length-set}
 use lib.Dec.{ltb}
 use lib.Seq.{getD-set-same, getD-set-other}
 use borrow.Author.Tests.{ltb-true, ltb-false}
@@ -13,8 +13,6 @@ use Rattle.lexical.proofs.BoolLaws.{by-cases}
 use Rattle.bridge.specs.Out as machine
 use Rattle.bridge.specs.Out.{push, cancels}
 use Rattle.out.specs.declared.Boundary.{Boundary}
-use Rattle.out.specs.declared.Boundary.the-variants.{Begin, End}
-use Rattle.out.specs.declared.Block.the-variants.{UserDefinedNamespace}
 use Rattle.out.specs.declared.Pending.{Pending}
 use Rattle.out.specs.declared.Content.{Content}
 use Rattle.out.specs.State.{boundaryOf, Known, boundaryAt, latest, pendingOf, Listed}

@@ -1,7 +1,7 @@
 -- Laws of what is pending on the way from the open blocks to others.
 use mathlib.Core.Path.{_≡_, refl, sym, ap, _∙_}
 use mathlib.Core.List.{List, [], _∷_, _++_}
-use mathlib.Core.Bool.{true, false, cond, false≢true}
+use mathlib.Core.Bool.{true, false, false≢true}
 use Rattle.lexical.proofs.BoolLaws.{by-cases, fails-too}
 use Rattle.lexical.proofs.ByteLaws.{same-eq, same-refl}
 use Rattle.bridge.specs.Block.{Block, userDefinedNamespace, externC, sameBlock}

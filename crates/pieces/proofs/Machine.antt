@@ -1,7 +1,7 @@
 -- The states of out.rs' machine between the open blocks and those that are set, and what each of its functions makes
 -- of such a state. In none of them is it panicked.
 use mathlib.Core.Path.{_≡_, refl, sym, ap, _∙_}
-use mathlib.Core.List.{List, [], _∷_, _++_, map, append-assoc, append-nil}
+use mathlib.Core.List.{List, [], _∷_, _++_, append-assoc, append-nil}
 use mathlib.Core.Bool.{Bool, true, false, _&&_, false≢true}
 use Prim.Native.Nat.{ℕ}
 use Rattle.lexical.specs.Bytes.{bytes}
