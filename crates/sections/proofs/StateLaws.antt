@@ -13,60 +13,43 @@ use Rattle.pieces.proofs.Machine.{change-append, change-none, push-begin-block,
 use Rattle.pieces.proofs.Machine.{namespace-set, piece-written}
 use Rattle.sink.specs.Sink.{sink, Wrote}
 use Rattle.out.specs.declared.Content.{Content}
-use Rattle.out.specs.State.{Listed, Stands, Standing, inside}
+use Rattle.out.specs.State.{Listed, Stands, StandingIn, Standing, inside}
 use Rattle.out.specs.Steps.{Asks, Places, Turns, Sets, Prepares}
 use Rattle.sections.specs.Runs.{Holds, Held, Runs}
 
 -- ---- a state, whatever its text and its namespace
 
-pub record Stood (s names buf : List ℕ) (around : List Name → List Block) (c : Content) : Type 0 where
-  pub first : List ℕ
-  pub text : List ℕ
-  pub namespace : List Name
-  pub opened : List Block
-  pub asks : Bool
-  pub stands : Stands s names first buf c text namespace opened (around namespace) asks
-
 stood : {s names first buf t : List ℕ} {ns : List Name} {P : List Block} {asks : Bool} {c : Content}
-    (around : List Name → List Block) → Stands s names first buf c t ns P (around ns) asks → Stood s names buf around c
+    (around : List Name → List Block) → Stands s names first buf c t ns P (around ns) asks → StandingIn s names buf around c
 stood {first = first} {t = t} {ns = ns} {P = P} {asks = asks} around h =
     record { first = first; text = t; namespace = ns; opened = P; asks = asks; stands = h }
 
-pub held-stood : {s names buf : List ℕ} {c : Content} → Held s names buf c → Stood s names buf named c
+pub held-stood : {s names buf : List ℕ} {c : Content} → Held s names buf c → StandingIn s names buf named c
 held-stood h = stood named (h .holds .stands)
 
 module _ {s names buf : List ℕ} {c r : Content} where
-  pub stood-set : {xs : List Name} → Stood s names buf named c → Sets s names xs c r → Stood s names buf named r
+  pub stood-set : {xs : List Name} → StandingIn s names buf named c → Sets s names xs c r → StandingIn s names buf named r
   stood-set a p = stood named (p .each (a .stands))
 
-  pub stood-turned : {from to : List Name → List Block} → Stood s names buf from c → Turns s names from to c r →
-      Stood s names buf to r
+  pub stood-turned : {from to : List Name → List Block} → StandingIn s names buf from c → Turns s names from to c r →
+      StandingIn s names buf to r
   stood-turned {to = to} a p = stood to (p .each (a .stands))
 
-  pub stood-asked : {around : List Name → List Block} → Stood s names buf around c → Asks c r →
-      Stood s names buf around r
+  pub stood-asked : {around : List Name → List Block} → StandingIn s names buf around c → Asks c r →
+      StandingIn s names buf around r
   stood-asked {around} a p = stood around (p .each (a .stands))
 
-  pub stood-ready : {around : List Name → List Block} {after : List ℕ} → Stood s names buf around c →
-      Prepares s names buf after c r → Stood s names after around r
+  pub stood-ready : {around : List Name → List Block} {after : List ℕ} → StandingIn s names buf around c →
+      Prepares s names buf after c r → StandingIn s names after around r
   stood-ready {around} a p = stood around (p .each (a .stands))
 
-  pub stood-placed : {around : List Name → List Block} {after text : List ℕ} {at : ℕ} → Stood s names buf around c →
-      Wrote (sink buf (c .at)) text (sink after at) → Places c at r → Stood s names after around r
+  pub stood-placed : {around : List Name → List Block} {after text : List ℕ} {at : ℕ} → StandingIn s names buf around c →
+      Wrote (sink buf (c .at)) text (sink after at) → Places c at r → StandingIn s names after around r
   stood-placed {around} a w p = stood around (p .each (a .stands) w)
 
-module _ {s names buf : List ℕ} {around : List Name → List Block} {c : Content} (a : Stood s names buf around c) where
+module _ {s names buf : List ℕ} {around : List Name → List Block} {c : Content} (a : StandingIn s names buf around c) where
   pub stood-standing : Standing s names around c
-  stood-standing =
-      record {
-        first = a .first;
-        buf = buf;
-        text = a .text;
-        namespace = a .namespace;
-        opened = a .opened;
-        asks = a .asks;
-        stands = a .stands;
-      }
+  stood-standing = record { buf = buf; there = a }
 
   pub stood-listed : Listed names c
   stood-listed = a .stands .listed
