@@ -11,7 +11,7 @@ use Rattle.lexical.specs.Decimal.{pickText}
 use Rattle.refusal.specs.declared.Refusal.the-variants.{BadComment}
 use Rattle.sink.specs.Sink.{Sink, Wrote}
 use Rattle.sink.proofs.SinkLaws.{_▷_, wrote-nil, wrote-as}
-use Rattle.format.specs.Decode.{Got, got, many}
+use Rattle.format.specs.Decode.{got, many}
 use Rattle.format.specs.Bits.{bits}
 use Rattle.format.specs.Decoding.{line, lineOk}
 use Rattle.rules.specs.Rules.{gather}
@@ -21,10 +21,10 @@ use Rattle.cursor.proofs.FieldLaws.{field-next}
 use Rattle.view.specs.declared.Found.{Found}
 use Rattle.view.specs.Values.{valueOr, nextOf, Yields}
 use Rattle.view.specs.Views.{Finds, commentLines}
-use Rattle.view.proofs.ValueLaws.{in-turn, passed, got-value, got-next, yields, found-value, found-next}
+use Rattle.view.proofs.ValueLaws.{in-turn, passed, yields, found-value, found-next}
 use Rattle.put_name.specs.Chars.{charsAt}
 use Rattle.put_name.proofs.CharLaws.{chars-are}
-use Rattle.put_name.proofs.RowLaws.{Row, row, row-end}
+use Rattle.put_name.proofs.RowLaws.{row, row-end}
 
 -- ---- one line
 

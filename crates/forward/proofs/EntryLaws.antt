@@ -1,8 +1,8 @@
 -- Laws of a group's text: its own entries, then its inner namespaces.
-use mathlib.Core.Path.{_≡_, refl, sym, ap, _∙_}
+use mathlib.Core.Path.{_≡_, refl, sym, _∙_}
 use mathlib.Core.List.{List, [], _∷_, _++_, append-nil, append-assoc}
-use mathlib.Core.Bool.{Bool, true, false}
-use Prim.Native.Nat.{ℕ, zero, suc, _+_, _-_, _<_, _≤_}
+use mathlib.Core.Bool.{true}
+use Prim.Native.Nat.{ℕ, suc, _+_, _-_, _<_, _≤_}
 use native.Mathlib.Omega.{arith}
 use lib.ListN.{length, getD, take}
 use lib.Seq.{take-all}
@@ -11,7 +11,7 @@ use Rattle.lexical.specs.Decimal.{pickText}
 use Rattle.lexical.proofs.BoolLaws.{by-cases}
 use Rattle.sink.specs.Sink.{Sink, Wrote}
 use Rattle.sink.proofs.SinkLaws.{_▷_, wrote-nil, wrote-as}
-use Rattle.format.specs.Sheet.{Name, Item}
+use Rattle.format.specs.Sheet.{Item}
 use Rattle.syntax.specs.Items.{itemAt}
 use Rattle.rules.specs.Rules.{any, gather}
 use Rattle.bridge.specs.Nested.{filter, directContent, distinct, names, nestedNames}

@@ -1,18 +1,17 @@
 -- Laws of groups: their own entries, and their inner namespaces by first appearance.
-use mathlib.Core.Path.{_≡_, refl, sym, ap, ap₂, _∙_}
+use mathlib.Core.Path.{_≡_, sym, ap, _∙_}
 use mathlib.Core.List.{List, [], _∷_, _++_, append-nil}
-use mathlib.Core.Bool.{Bool, true, false, not, _&&_, _||_, false≢true}
-use Prim.Native.Nat.{ℕ, zero, suc, _+_, _<_, _≤_}
-use native.Mathlib.Omega.{arith}
+use mathlib.Core.Bool.{Bool, true, false, not, _&&_}
+use Prim.Native.Nat.{ℕ, _+_, _<_, _≤_}
 use native.Mathlib.Numerals.{add-one}
-use borrow.Author.Tests.{ltb-true, ltb-false, lt-ltb, le-ltb}
-use lib.Dec.{eqb, ltb}
+use borrow.Author.Tests.{ltb-true, ltb-false}
+use lib.Dec.{ltb}
 use lib.ListN.{length, getD, drop, take}
 use lib.Seq.{take-suc}
 use Rattle.lexical.specs.Bytes.{member}
 use Rattle.lexical.proofs.BoolLaws.{both, by-cases, not-true, not-false}
 use Rattle.format.specs.Decode.{pick}
-use Rattle.format.specs.Sheet.{Name, cxxType, Item}
+use Rattle.format.specs.Sheet.{cxxType, Item}
 use Rattle.syntax.specs.Items.{itemAt}
 use Rattle.rules.specs.Rules.{any}
 use Rattle.bridge.specs.Nested.{filter, first, nth, none, isName, directContent, inner, distinct, names, nestedNames}

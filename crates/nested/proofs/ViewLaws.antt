@@ -1,18 +1,18 @@
 -- What the views of items say of their groups.
-use mathlib.Core.Path.{_≡_, refl, sym, ap, ap₂, _∙_}
-use mathlib.Core.List.{List, [], _∷_, _++_}
-use mathlib.Core.Bool.{Bool, true, false, not, _&&_, _||_, false≢true}
-use Prim.Native.Nat.{ℕ, zero, suc, _+_, _-_, _<_, _≤_}
+use mathlib.Core.Path.{_≡_, refl, sym, ap₂, _∙_}
+use mathlib.Core.List.{List, []}
+use mathlib.Core.Bool.{Bool, true, false, not, _&&_, false≢true}
+use Prim.Native.Nat.{ℕ, _+_, _-_, _<_, _≤_}
 use native.Mathlib.Omega.{arith}
 use borrow.Author.Tests.{eq-eqb, ne-eqb, lt-ltb, le-ltb}
-use lib.Dec.{eqb, ltb}
+use lib.Dec.{eqb}
 use lib.ListN.{length, getD, drop, take, length-map}
 use Rattle.refusal.specs.declared.Refusal.the-variants.{BadKind}
 use Rattle.lexical.specs.Bytes.{same, within}
 use Rattle.format.specs.Decode.{got}
 use Rattle.format.specs.Bits.{bits, bit}
 use Rattle.format.specs.Sheet.{Name, Body, struct, enum, cxxType, rustType, function, Item}
-use Rattle.format.specs.Decoding.{atomOf, enumBody, itemBody}
+use Rattle.format.specs.Decoding.{enumBody}
 use Rattle.format.specs.declared.ItemKind.{ItemKind}
 use Rattle.format.specs.declared.ItemKind.the-variants.{Struct, Enum, CxxType, RustType, RustFunction, Bad}
 use Rattle.syntax.specs.Items.{itemAt}
@@ -20,7 +20,7 @@ use Rattle.rules.specs.Rules.{any}
 use Rattle.bridge.specs.Write.{needsForwardDeclaration}
 use Rattle.view.specs.declared.Found.{Found}
 use Rattle.view.specs.declared.ItemView.{ItemView}
-use Rattle.view.specs.Values.{Yields, nameAt, namesAt, oneItemAt, itemsAt}
+use Rattle.view.specs.Values.{Yields, oneItemAt, itemsAt}
 use Rattle.view.specs.Views.{Finds, kindOfBody, ItemAt}
 use Rattle.view.proofs.ValueLaws.{in-turn, passed, got-value, bit-value, bit-next, found-value, found-next}
 use Rattle.nested.specs.declared.EnumView.{EnumView}

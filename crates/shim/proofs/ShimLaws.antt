@@ -1,7 +1,7 @@
 -- Laws of a shim's parts.
 use mathlib.Core.Path.{_≡_, refl, sym, ap, _∙_}
-use mathlib.Core.List.{List, [], _∷_, _++_}
-use mathlib.Core.Bool.{Bool, true, false, not, _&&_, false≢true}
+use mathlib.Core.List.{List, [], _++_}
+use mathlib.Core.Bool.{Bool, true, false, not, _&&_}
 use Prim.Native.Nat.{ℕ, zero, suc}
 use lib.ListN.{length}
 use Rattle.lexical.specs.Bytes.{bytes}
@@ -11,7 +11,6 @@ use Rattle.format.specs.Decode.{many}
 use Rattle.format.specs.Types.{Ty}
 use Rattle.format.specs.Sheet.{Function, Item, Sheet}
 use Rattle.format.specs.Decoding.{type, argument, formOf}
-use Rattle.syntax.specs.Items.{itemAt}
 use Rattle.syntax.specs.Mangle.{externFn}
 use Rattle.rules.specs.Rules.{gather}
 use Rattle.bridge.specs.Write.{shape, slotType, slot, direct, heldLocal, callBegin, callEnd, commas, operands}
@@ -25,12 +24,6 @@ use Rattle.view.proofs.ValueLaws.{yielded}
 use Rattle.shape.proofs.FunctionLaws.{returned, indirect-returns, slot-some, slot-empty, direct-some, direct-slot, direct-none}
 use Rattle.shape.proofs.CommaLaws.{gather-none, gather-one}
 use Rattle.shim.specs.Shims.{beforeCall, beforeOperands, throughCall}
-
-pub first-text : {b : Bool} {x : List ℕ} (y : List ℕ) {r t : Sink} → b ≡ true → Wrote r x t → Wrote r (pickText b x y) t
-first-text y e p = rw e p
-
-pub second-text : {b : Bool} (x : List ℕ) {y : List ℕ} {r t : Sink} → b ≡ false → Wrote r y t → Wrote r (pickText b x y) t
-second-text x e p = rw e p
 
 -- ---- the body
 

@@ -296,8 +296,7 @@ pub fn write_function_shim(
         (functionShim (record {
           header = header;
           doxygen = doxygen;
-          items = itemsAt (now (s .entry))
-              (now (names .entry)) (now (items .entry));
+          items = itemsAt (now (s .entry)) (now (names .entry)) (now (items .entry));
         })
         (itemAt (itemsAt (now (s .entry)) (now (names .entry)) (now (items .entry))) (v .number))
         (functionAt (now (s .entry)) (now (names .entry)) (now (items .entry)) (f .number)))

@@ -1,5 +1,4 @@
 use borrow.Author.Needs.{needs}
-use Rattle.sink.proofs.SinkLaws.{wrote-length}
 use Rattle.call.proofs.CallLaws.{where-yes, where-no, end-written}
 use Rattle.call.proofs.put_call_end.Statement.{statement}
 use Rattle.call.proofs.put_call_end.Tie as tie

@@ -1,5 +1,4 @@
 use borrow.Author.Needs.{needs}
-use Rattle.sink.proofs.SinkLaws.{wrote-length}
 use Rattle.call.proofs.CallLaws.{where-yes, where-no, slot-return-written}
 use Rattle.call.proofs.put_slot_return.Statement.{statement}
 use Rattle.call.proofs.put_slot_return.Tie as tie

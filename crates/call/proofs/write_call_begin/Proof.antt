@@ -1,5 +1,5 @@
 use borrow.Author.Needs.{needs}
-use Rattle.sink.proofs.SinkLaws.{wrote-nil, wrote-length}
+use Rattle.sink.proofs.SinkLaws.{wrote-nil}
 use Rattle.call.proofs.CallLaws.{begin-written}
 use Rattle.call.proofs.write_call_begin.Statement.{statement}
 use Rattle.call.proofs.write_call_begin.Tie as tie

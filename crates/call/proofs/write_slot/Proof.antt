@@ -1,5 +1,5 @@
 use borrow.Author.Needs.{needs}
-use Rattle.sink.proofs.SinkLaws.{_▷_, wrote-length}
+use Rattle.sink.proofs.SinkLaws.{_▷_}
 use Rattle.call.proofs.CallLaws.{where-yes, where-no}
 use Rattle.call.proofs.write_slot.Statement.{statement}
 use Rattle.call.proofs.write_slot.Tie as tie

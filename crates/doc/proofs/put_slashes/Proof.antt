@@ -1,6 +1,5 @@
 use borrow.Author.Needs.{needs}
-use Rattle.lexical.specs.Bytes.{bytes}
-use Rattle.sink.proofs.SinkLaws.{wrote-as, wrote-length}
+use Rattle.sink.proofs.SinkLaws.{wrote-as}
 use Rattle.doc.proofs.DocLaws.{pick-yes, pick-no}
 use Rattle.doc.proofs.put_slashes.Statement.{statement}
 use Rattle.doc.proofs.put_slashes.Tie as tie

@@ -1,5 +1,4 @@
 use borrow.Author.Needs.{needs}
-use native.Mathlib.Omega.{arith}
 use Rattle.sink.proofs.SinkLaws.{_▷_, wrote-as}
 use Rattle.forward.proofs.open_namespace.Statement.{statement}
 use Rattle.forward.proofs.open_namespace.Tie as tie

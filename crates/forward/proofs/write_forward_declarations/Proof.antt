@@ -1,5 +1,4 @@
 use borrow.Author.Needs.{needs}
-use mathlib.Core.Path.{refl}
 use native.Mathlib.Omega.{arith}
 use Rattle.forward.proofs.EntryLaws.{first-item, forward-none, forward-all}
 use Rattle.forward.proofs.write_forward_declarations.Statement.{statement}

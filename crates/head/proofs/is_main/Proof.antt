@@ -1,6 +1,4 @@
 use borrow.Author.Needs.{needs}
-use native.Mathlib.Omega.{arith}
-use Rattle.cursor.proofs.CheckLaws.{many-length}
 use Rattle.head.proofs.HeadLaws.{main-is, count-is}
 use Rattle.head.proofs.is_main.Statement.{statement}
 use Rattle.head.proofs.is_main.Tie as tie

@@ -1,5 +1,4 @@
 use borrow.Author.Needs.{needs}
-use Rattle.sink.proofs.SinkLaws.{wrote-length}
 use Rattle.shape.proofs.FunctionLaws.{returned}
 use Rattle.head.proofs.HeadLaws.{return-gives, return-none}
 use Rattle.head.proofs.write_return_type.Statement.{statement}

@@ -1,5 +1,5 @@
 use borrow.Author.Needs.{needs}
-use Rattle.sink.proofs.SinkLaws.{_▷_, wrote-length}
+use Rattle.sink.proofs.SinkLaws.{_▷_}
 use Rattle.head.proofs.HeadLaws.{self-none, self-one}
 use Rattle.head.proofs.write_self_type.Statement.{statement}
 use Rattle.head.proofs.write_self_type.Tie as tie

@@ -1,6 +1,6 @@
 use borrow.Author.Needs.{needs}
 use mathlib.Core.Path.{sym, _∙_}
-use Rattle.sink.proofs.SinkLaws.{wrote-length, wrote-as}
+use Rattle.sink.proofs.SinkLaws.{wrote-as}
 use Rattle.head.proofs.HeadLaws.{pick-yes, pick-no}
 use Rattle.head.proofs.write_shim_type.Statement.{statement}
 use Rattle.head.proofs.write_shim_type.Tie as tie

@@ -1,5 +1,4 @@
 use borrow.Author.Needs.{needs}
-use native.Mathlib.Omega.{arith}
 use Rattle.lexical.proofs.BoolLaws.{not-true, not-false}
 use Rattle.nested.proofs.ViewLaws.{direct-none, direct-elsewhere, direct-shares}
 use Rattle.nested.proofs.is_direct.Statement.{statement}

@@ -1,4 +1,3 @@
-use borrow.Author.Needs.{needs}
 use Rattle.operands.proofs.OperandLaws.{held-string, held-other}
 use Rattle.operands.proofs.is_held.Statement.{statement}
 use Rattle.operands.proofs.is_held.Tie as tie

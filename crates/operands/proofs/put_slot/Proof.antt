@@ -1,5 +1,5 @@
 use borrow.Author.Needs.{needs}
-use Rattle.sink.proofs.SinkLaws.{_▷_, wrote-nil, wrote-length}
+use Rattle.sink.proofs.SinkLaws.{_▷_, wrote-nil}
 use Rattle.operands.proofs.put_slot.Statement.{statement}
 use Rattle.operands.proofs.put_slot.Tie as tie
 

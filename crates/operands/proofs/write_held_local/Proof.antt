@@ -1,5 +1,4 @@
 use borrow.Author.Needs.{needs}
-use Rattle.sink.proofs.SinkLaws.{wrote-length}
 use Rattle.shape.proofs.TypeLaws.{here-yields}
 use Rattle.operands.proofs.OperandLaws.{local-none, local-written}
 use Rattle.operands.proofs.write_held_local.Statement.{statement}

@@ -1,4 +1,3 @@
-use borrow.Author.Needs.{needs}
 use Rattle.sink.proofs.SinkLaws.{wrote-length}
 use Rattle.shim.proofs.ShimLaws.{shim-written}
 use Rattle.shim.proofs.write_function_shim.Statement.{statement}

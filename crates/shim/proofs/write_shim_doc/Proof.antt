@@ -1,5 +1,4 @@
 use borrow.Author.Needs.{needs}
-use Rattle.sink.proofs.SinkLaws.{wrote-length}
 use Rattle.shim.proofs.ShimLaws.{comment-yields, comment-written, comment-none}
 use Rattle.shim.proofs.write_shim_doc.Statement.{statement}
 use Rattle.shim.proofs.write_shim_doc.Tie as tie

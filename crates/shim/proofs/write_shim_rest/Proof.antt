@@ -1,6 +1,5 @@
 use borrow.Author.Needs.{needs}
-use Rattle.sink.proofs.SinkLaws.{wrote-length}
-use Rattle.shim.proofs.ShimLaws.{first-text, second-text}
+use Rattle.call.proofs.CallLaws.{first-text, second-text}
 use Rattle.shim.proofs.write_shim_rest.Statement.{statement}
 use Rattle.shim.proofs.write_shim_rest.Tie as tie
 
