@@ -1,5 +1,5 @@
 -- Which shims a header shows.
-use mathlib.Core.Path.{_≡_, refl, sym}
+use mathlib.Core.Path.{_≡_, refl, sym, ap, _∙_}
 use mathlib.Core.Bool.{Bool, true, false, not, _&&_}
 use Prim.Native.Nat.{ℕ, zero, suc}
 use Rattle.format.specs.Sheet.{Function, Item, Sheet}
@@ -25,16 +25,24 @@ hidden-form true (suc (suc (suc form))) owner = refl
 hidden-form false zero owner = refl
 hidden-form false (suc form) owner = refl
 
--- a header does not show a method
-pub hidden-shim : (s : Sheet) (x : Item) (f : Function) (form owner : ℕ) → f .form ≡ formOf form owner →
-    hiddenForm (s .header) form ≡ true → (m : machine.Content) →
-    setNamespace (x .namespace) (nextSection m) ≡ shimOf s x f m
-unfolding writeRustFunctionShim
-hidden-shim s x f form owner e h m =
-    rw (e, hidden-form (s .header) form owner, h) (sym (nothing-written (setNamespace (x .namespace) (nextSection m))))
+-- ---- the shim of the function of a number
 
-pub shown-shim : (s : Sheet) (x : Item) (f : Function) (form owner : ℕ) → f .form ≡ formOf form owner →
-    hiddenForm (s .header) form ≡ false → (m : machine.Content) →
-    machine.write (functionShim s x f) (setNamespace (x .namespace) (nextSection m)) ≡ shimOf s x f m
-unfolding writeRustFunctionShim
-shown-shim s x f form owner e h m = rw (e, hidden-form (s .header) form owner, h)
+module _ (s : Sheet) (x : Item) (F : ℕ → Function) {n k : ℕ} (form owner : ℕ) (number : n ≡ k)
+    (e : F n .form ≡ formOf form owner) where
+  the-form : F k .form ≡ formOf form owner
+  the-form = sym (ap (λ (i : ℕ). F i .form) number) ∙ e
+
+  -- a header does not show a method
+  pub hidden-shim : hiddenForm (s .header) form ≡ true → (m : machine.Content) →
+      setNamespace (x .namespace) (nextSection m) ≡ shimOf s x (F k) m
+  unfolding writeRustFunctionShim
+  hidden-shim h m =
+      rw (the-form, hidden-form (s .header) form owner, h)
+      (sym (nothing-written (setNamespace (x .namespace) (nextSection m))))
+
+  pub shown-shim : hiddenForm (s .header) form ≡ false → (m : machine.Content) →
+      machine.write (functionShim s x (F n)) (setNamespace (x .namespace) (nextSection m)) ≡ shimOf s x (F k) m
+  unfolding writeRustFunctionShim
+  shown-shim h m =
+      ap (λ (i : ℕ). machine.write (functionShim s x (F i)) (setNamespace (x .namespace) (nextSection m))) number
+      ∙ rw (the-form, hidden-form (s .header) form owner, h)

@@ -83,15 +83,15 @@ pub runs-set : {s names buf : List ℕ} {xs : List Name} {c r : Content} → Set
 runs-set {xs = xs} p =
     record {
       each = λ h. holding (rw (h .is) (namespace-set (h .text) (h .namespace) (h .opened) (h .asks) xs))
-        (p .each (h .stands));
+          (p .each (h .stands));
     }
 
 pub runs-asked : {s names buf : List ℕ} {c r : Content} → Asks c r → Runs s names buf buf machine.nextSection c r
 runs-asked p =
     record {
       each = λ h.
-        holding (rw (h .is) (section-asked (h .text) (h .namespace) (h .opened) (named (h .namespace)) (h .asks)))
-        (p .each (h .stands));
+          holding (rw (h .is) (section-asked (h .text) (h .namespace) (h .opened) (named (h .namespace)) (h .asks)))
+          (p .each (h .stands));
     }
 
 -- what is written before a text, and the text
@@ -107,12 +107,12 @@ pub runs-written : {s names buf mid after t : List ℕ} {c d r : Content} {at : 
 runs-written {t = t} e p w q =
     record {
       each = λ h.
-        let Q = named (h .namespace) in
-        holding
-        (rw (h .is, piece-written (h .text) (h .namespace) (h .opened) Q (h .asks) t e)
-        (ap (λ (x : List ℕ). standing x (h .namespace) Q Q false)
-        (ready-text (h .text) (some (h .text)) (h .asks) (h .opened) Q t)))
-        (q .each (p .each (h .stands)) w);
+          let Q = named (h .namespace) in
+          holding
+          (rw (h .is, piece-written (h .text) (h .namespace) (h .opened) Q (h .asks) t e)
+          (ap (λ (x : List ℕ). standing x (h .namespace) Q Q false)
+          (ready-text (h .text) (some (h .text)) (h .asks) (h .opened) Q t)))
+          (q .each (p .each (h .stands)) w);
     }
 
 -- ---- in extern "C"
@@ -129,20 +129,20 @@ module _ {s names buf : List ℕ} {xs : List Name} {c c₁ c₂ : Content} (sets
   runs-declared t e asks ready w placed ends =
       record {
         each = λ h.
-          let Q = inside xs in
-          let u = h .text ++ change (some (h .text)) true (h .opened) Q t in
-          holding
-              (rw (
-                h .is,
-                namespace-set (h .text) (h .namespace) (h .opened) (h .asks) xs,
-                push-begin-block (h .text) xs (h .opened) (named xs) (h .asks) externC,
-                section-asked (h .text) xs (h .opened) Q (h .asks),
-                piece-written (h .text) xs (h .opened) Q true t e,
-                push-end-block u xs Q (named xs) false externC,
-              )
-              (ap (λ (x : List ℕ). standing x xs Q (named xs) false)
-              (ready-text (h .text) (some (h .text)) true (h .opened) Q t)))
-              (ends .each (placed .each (ready .each (asks .each (begins .each (sets .each (h .stands))))) w));
+            let Q = inside xs in
+            let u = h .text ++ change (some (h .text)) true (h .opened) Q t in
+            holding
+            (rw (
+              h .is,
+              namespace-set (h .text) (h .namespace) (h .opened) (h .asks) xs,
+              push-begin-block (h .text) xs (h .opened) (named xs) (h .asks) externC,
+              section-asked (h .text) xs (h .opened) Q (h .asks),
+              piece-written (h .text) xs (h .opened) Q true t e,
+              push-end-block u xs Q (named xs) false externC,
+            )
+            (ap (λ (x : List ℕ). standing x xs Q (named xs) false)
+            (ready-text (h .text) (some (h .text)) true (h .opened) Q t)))
+            (ends .each (placed .each (ready .each (asks .each (begins .each (sets .each (h .stands))))) w));
       }
 
   -- two declarations with no section between them
@@ -154,20 +154,20 @@ module _ {s names buf : List ℕ} {xs : List Name} {c c₁ c₂ : Content} (sets
   runs-declared-two t u e g ready w placed ends =
       record {
         each = λ h.
-          let Q = inside xs in
-          let t₁ = h .text ++ change (some (h .text)) (h .asks) (h .opened) Q t in
-          holding
-              (rw (
-                h .is,
-                namespace-set (h .text) (h .namespace) (h .opened) (h .asks) xs,
-                push-begin-block (h .text) xs (h .opened) (named xs) (h .asks) externC,
-                piece-written (h .text) xs (h .opened) Q (h .asks) t e,
-                piece-written t₁ xs Q Q false u g,
-                change-none (some t₁) false Q u,
-                push-end-block (t₁ ++ u) xs Q (named xs) false externC,
-              )
-              (ap (λ (x : List ℕ). standing x xs Q (named xs) false)
-              (ap (λ (x : List ℕ). x ++ u) (ready-text (h .text) (some (h .text)) (h .asks) (h .opened) Q t)
-              ∙ append-assoc (h .text ++ change (some (h .text)) (h .asks) (h .opened) Q []) t u)))
-              (ends .each (placed .each (ready .each (begins .each (sets .each (h .stands)))) w));
+            let Q = inside xs in
+            let t₁ = h .text ++ change (some (h .text)) (h .asks) (h .opened) Q t in
+            holding
+            (rw (
+              h .is,
+              namespace-set (h .text) (h .namespace) (h .opened) (h .asks) xs,
+              push-begin-block (h .text) xs (h .opened) (named xs) (h .asks) externC,
+              piece-written (h .text) xs (h .opened) Q (h .asks) t e,
+              piece-written t₁ xs Q Q false u g,
+              change-none (some t₁) false Q u,
+              push-end-block (t₁ ++ u) xs Q (named xs) false externC,
+            )
+            (ap (λ (x : List ℕ). standing x xs Q (named xs) false)
+            (ap (λ (x : List ℕ). x ++ u) (ready-text (h .text) (some (h .text)) (h .asks) (h .opened) Q t)
+            ∙ append-assoc (h .text ++ change (some (h .text)) (h .asks) (h .opened) Q []) t u)))
+            (ends .each (placed .each (ready .each (begins .each (sets .each (h .stands)))) w));
       }

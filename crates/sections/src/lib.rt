@@ -169,6 +169,18 @@ pub fn write_rust_function_shim(
         return inside;
     }
     let ready = prepare(s, names, inside, out);
-    let at = write_function_shim(s, names, items, header, doxygen, v, f, offsets, comment, out, ready.at);
+    let at = write_function_shim(
+        s,
+        names,
+        items,
+        header,
+        doxygen,
+        v,
+        f,
+        offsets,
+        comment,
+        out,
+        ready.at,
+    );
     placed(ready, at)
 }

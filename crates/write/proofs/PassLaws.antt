@@ -89,6 +89,10 @@ unfolding forEach
 each-last one [] x m = refl
 each-last one (y ∷ xs) x m = each-last one xs x (one y m)
 
+each-next : (one : Item → machine.Content → machine.Content) (xs : List Item) (i : ℕ) (z : Item) → i < length xs →
+    (m : machine.Content) → one (getD xs i z) (forEach one (take i xs) m) ≡ forEach one (take (i + 1) xs) m
+each-next one xs i z h m = sym (rw (add-one, take-suc xs i z h) (each-last one (take i xs) (getD xs i z) m))
+
 module _ (s names items : List ℕ) (one : Item → machine.Content → machine.Content) where
   -- the first i items are written
   pub record Passed (buf after : List ℕ) (c r : Content) (i : ℕ) : Type 0 where
@@ -107,12 +111,9 @@ module _ (s names items : List ℕ) (one : Item → machine.Content → machine.
       Runs s names mid after (one (itemAt (itemsAt s names items) i)) d r → Passed buf after c r (i + 1)
   unfolding itemAt
   pass-next {i = i} h p q =
-      let xs = itemsAt s names items in
       record {
         few = omega (arith, h);
-        runs = runs-as
-          (λ m. sym (rw (add-one, take-suc xs i _ (rw items-length h)) (each-last one (take i xs) (getD xs i _) m)))
-          (runs-then (p .runs) q);
+        runs = runs-as (each-next one (itemsAt s names items) i _ (rw items-length h)) (runs-then (p .runs) q);
       }
 
   pub pass-all : {buf after : List ℕ} {c r : Content} {i : ℕ} → length items ≤ i → Passed buf after c r i →
@@ -121,14 +122,15 @@ module _ (s names items : List ℕ) (one : Item → machine.Content → machine.
 
 -- ---- a header
 
-module _ {s names buf after : List ℕ} (x : Item) {header : Bool} {c r : Content} where
-  pub layout-hidden : header ≡ true → Runs s names buf buf (writeOpaqueTypeLayout header x) c c
-  unfolding writeOpaqueTypeLayout
-  layout-hidden e = runs-as (λ m. rw e) runs-none
+pub layout-hidden : {s names buf : List ℕ} (x : Item) {header : Bool} {c : Content} → header ≡ true →
+    Runs s names buf buf (writeOpaqueTypeLayout header x) c c
+unfolding writeOpaqueTypeLayout
+layout-hidden x e = runs-as (λ m. rw e) runs-none
 
-  pub layout-shown : header ≡ false → Runs s names buf after (writeOpaqueTypeLayout false x) c r →
-      Runs s names buf after (writeOpaqueTypeLayout header x) c r
-  layout-shown e run = runs-as (λ m. rw e) run
+pub layout-shown : {s names buf after : List ℕ} (x : Item) {header : Bool} {c r : Content} → header ≡ false →
+    Runs s names buf after (writeOpaqueTypeLayout false x) c r →
+    Runs s names buf after (writeOpaqueTypeLayout header x) c r
+layout-shown x e run = runs-as (λ m. rw e) run
 
 module _ {sheet names buf after : List ℕ} (s : Sheet) {c r : Content} where
   pub functions-header : s .header ≡ true →
@@ -164,14 +166,14 @@ module _ {at : ℕ} {c d : Content} (starts : Starts c) (places : Places c at d)
   begins-none asks e =
       record {
         each = λ {s} {names} {first} {buf} {t} w.
-          holding (no-text t (omega (arith, wrote-place w (omega arith)))) (asks .each (places .each (starts .each) (rw at-start w)));
+            holding (no-text t (omega (arith, wrote-place w (omega arith)))) (asks .each (places .each (starts .each) (rw at-start w)));
       }
 
   pub begins-some : 0 < at → Begins at d
   begins-some h =
       record {
         each = λ {s} {names} {first} {buf} {t} w.
-          holding (some-text t (omega (arith, wrote-place w (omega arith)))) (places .each (starts .each) (rw at-start w));
+            holding (some-text t (omega (arith, wrote-place w (omega arith)))) (places .each (starts .each) (rw at-start w));
       }
 
 pub ends-flushed : {s names buf mid after : List ℕ} {K : machine.Content → machine.Content} {c d : Content} {at : ℕ} →
@@ -179,8 +181,8 @@ pub ends-flushed : {s names buf mid after : List ℕ} {K : machine.Content → m
 ends-flushed run flushes =
     record {
       each = λ h.
-        let g = run .each h in
-        rw (g .is, all-flushed (g .text) (g .namespace) (g .opened) (g .asks) .0) (flushes .each (g .stands));
+          let g = run .each h in
+          rw (g .is, all-flushed (g .text) (g .namespace) (g .opened) (g .asks) .0) (flushes .each (g .stands));
     }
 
 pub whole-text : {s names first buf after : List ℕ} (x : Sheet) {c : Content} {at end : ℕ} → Begins at c →

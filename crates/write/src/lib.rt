@@ -79,7 +79,16 @@ fn define(
     let kind = v.kind;
     match kind {
         ItemKind::RustFunction => write_rust_function_shim(
-            s, names, items, digests, header, doxygen, v, offsets, c, out,
+            s,
+            names,
+            items,
+            digests,
+            header,
+            doxygen,
+            v,
+            offsets,
+            c,
+            out,
         ),
         ItemKind::RustType => {
             if header {
@@ -139,7 +148,18 @@ fn define_all(
     let n = items.len() as u32;
     let mut i: u32 = 0;
     while i < n {
-        c = define(s, names, items, digests, header, doxygen, i, offsets, c, out);
+        c = define(
+            s,
+            names,
+            items,
+            digests,
+            header,
+            doxygen,
+            i,
+            offsets,
+            c,
+            out,
+        );
         i = i + 1;
     }
     c
@@ -167,7 +187,17 @@ fn write_functions(
         return define_all(s, names, items, digests, header, doxygen, offsets, c, out);
     }
     let declared = declare_all(s, names, items, digests, offsets, c, out);
-    define_all(s, names, items, digests, header, doxygen, offsets, declared, out)
+    define_all(
+        s,
+        names,
+        items,
+        digests,
+        header,
+        doxygen,
+        offsets,
+        declared,
+        out,
+    )
 }
 
 // ---- the text
@@ -201,7 +231,17 @@ fn write_body(
         c r ⌝ }
 {
     let mut offsets = [0u32; FunctionView::ARGUMENTS];
-    let written = write_functions(s, names, items, digests, header, doxygen, &mut offsets, c, out);
+    let written = write_functions(
+        s,
+        names,
+        items,
+        digests,
+        header,
+        doxygen,
+        &mut offsets,
+        c,
+        out,
+    );
     flush(s, names, digests, written, out)
 }
 
