@@ -26,7 +26,7 @@ use Rattle.services.specs.declared.Written.the-variants as Written
 use Rattle.services.specs.Services.{Writes}
 use Rattle.sink.specs.Sink.{Sink, sink, Wrote}
 use Rattle.sink.proofs.ServiceLaws.{delivered, too-long}
-use Rattle.check_sheet.specs.Ruled.{ruledItems}
+use Rattle.check_sheet.specs.Ruled.{ruledParts, elseChecked, ruledItems}
 use Rattle.write_sheet.specs.Delivers.{Delivers, sheetOf, JudgedBy, Judges}
 
 -- ---- the two passes; m is what the measuring pass left of the buffer's empty front
@@ -62,8 +62,9 @@ unfolding judge
 writes-refused s buffer h = record { answers = rw h; leaves = rw h }
 
 by-rules : (a b c d : Bool) (x : Sheet) {buffer after : List ℕ} {r : Written} →
-    JudgedBy (pick a (Refused WrongPart) (pick b (Refused Taken) (pick c (Refused UnfitArgument)
-    (pick d (Refused Ring) Accepted)))) x buffer r after →
+    JudgedBy (elseChecked
+    (pick a (Refused WrongPart) (pick b (Refused Taken) (pick c (Refused UnfitArgument) Accepted)))
+    (pick d (Refused Ring) Accepted)) x buffer r after →
     (s : List ℕ) → judge s ≡ pick a (refused WrongPart) (pick b (refused Taken) (pick c (refused UnfitArgument)
     (pick d (refused Ring) (accepted x)))) → Writes s buffer r after
 by-rules true b c d x h s e = record { answers = rw e (h .0); leaves = rw e (h .1) }
@@ -74,7 +75,7 @@ by-rules false false false false x h s e = record { answers = rw e (h .answers);
 
 pub writes-judged : (s : List ℕ) {x : Sheet} {n : ℕ} {buffer after : List ℕ} {r : Written} → decode s ≡ got x n →
     Judges x buffer r after → Writes s buffer r after
-unfolding judge ruled ruledItems
+unfolding judge ruled ruledItems ruledParts
 writes-judged s {x} h j =
     by-rules (wrongPart (x .items)) (taken (x .items)) (unfitArgument (x .items)) (ring (x .items)) x (j .is) s (rw h)
 
