@@ -23,6 +23,7 @@ pub record Begins (at : ℕ) (r : Content) : Type 0 where
       Holds s names first buf r (machine.write t (machine.nextSection machine.new))
 
 -- from each state the code does what K does, and closes all blocks
-pub record Ends (s names buf after : List ℕ) (K : machine.Content → machine.Content) (c : Content) (at : ℕ) : Type 0 where
+pub record Ends (s names buf after : List ℕ) (K : machine.Content → machine.Content) (c : Content) (at : ℕ) :
+    Type 0 where
   pub each : {first : List ℕ} {m : machine.Content} → Holds s names first buf c m →
       Wrote (sink first 0) (machine.flush (K m) .text) (sink after at)
