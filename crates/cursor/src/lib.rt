@@ -2,7 +2,7 @@
 use refusal::Refusal;
 ghost use mathlib.Core.Path.{_≡_};
 ghost use Prim.Native.Nat.{_+_, _*_, _≤_, _<_};
-ghost use lib.ListN.{getD};
+ghost use lib.ListN.{length, getD};
 ghost use Rattle.format.specs.Bits.{bitsAt, bits, widthOf, index};
 ghost use Rattle.cursor.specs.Checking.{Limited, Reads, Checks};
 
@@ -52,8 +52,29 @@ fn byte_at(s: &[u8], i: usize) -> u64
     0
 }
 
-// The 40 bits from a byte on.
-fn window(s: &[u8], b: usize) -> u64
+// A byte of the sheet.
+fn byte_in(s: &[u8], i: usize) -> u64
+    requires { ⌜ i < length (now s) ⌝ }
+    ensures { λ r. ⌜ (r ≡ getD (now (s .entry)) i 0) × (r < 256) ⌝ }
+{
+    wide(s[i])
+}
+
+// The 40 bits from a byte on, where the sheet has them all: one test serves five bytes.
+fn window_in(s: &[u8], b: usize) -> u64
+    requires { ⌜ (b ≤ 32768) × (b + 4 < length (now s)) ⌝ }
+    ensures { λ r. ⌜ r ≡ bitsAt (now (s .entry)) (8 * b) 40 ⌝ }
+{
+    let b0 = byte_in(s, b);
+    let b1 = byte_in(s, b + 1);
+    let b2 = byte_in(s, b + 2);
+    let b3 = byte_in(s, b + 3);
+    let b4 = byte_in(s, b + 4);
+    b0 * 4294967296 + (b1 * 16777216 + (b2 * 65536 + (b3 * 256 + b4)))
+}
+
+// The same where the sheet may end before.
+fn window_over(s: &[u8], b: usize) -> u64
     requires { ⌜ b ≤ 32768 ⌝ }
     ensures { λ r. ⌜ r ≡ bitsAt (now (s .entry)) (8 * b) 40 ⌝ }
 {
@@ -63,6 +84,18 @@ fn window(s: &[u8], b: usize) -> u64
     let b3 = byte_at(s, b + 3);
     let b4 = byte_at(s, b + 4);
     b0 * 4294967296 + (b1 * 16777216 + (b2 * 65536 + (b3 * 256 + b4)))
+}
+
+// The 40 bits from a byte on.
+fn window(s: &[u8], b: usize) -> u64
+    requires { ⌜ b ≤ 32768 ⌝ }
+    ensures { λ r. ⌜ r ≡ bitsAt (now (s .entry)) (8 * b) 40 ⌝ }
+{
+    let last = b + 4;
+    if last < s.len() {
+        return window_in(s, b);
+    }
+    window_over(s, b)
 }
 
 // The value of n bits.
