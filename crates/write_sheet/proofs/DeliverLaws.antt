@@ -27,7 +27,8 @@ use Rattle.services.specs.Services.{Writes}
 use Rattle.sink.specs.Sink.{Sink, sink, Wrote}
 use Rattle.sink.proofs.ServiceLaws.{delivered, too-long}
 use Rattle.check_sheet.specs.Ruled.{ruledParts, elseChecked, ruledItems}
-use Rattle.write_sheet.specs.Delivers.{Delivers, sheetOf, JudgedBy, Judges}
+use Rattle.sections.specs.Runs.{sheetOf}
+use Rattle.write_sheet.specs.Delivers.{Delivers, JudgedBy, Judges}
 
 -- ---- the two passes; m is what the measuring pass left of the buffer's empty front
 

@@ -1,1 +1,2 @@
 pub mod DeliverLaws
+pub mod WrittenLaws

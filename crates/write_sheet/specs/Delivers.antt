@@ -1,11 +1,9 @@
 -- What is promised of an answer's bytes, where the sheet is accepted.
 use mathlib.Core.Path.{_≡_}
 use mathlib.Core.List.{List}
-use mathlib.Core.Bool.{Bool}
 use Prim.Native.Nat.{ℕ}
 use lib.ListN.{length}
-use Rattle.refusal.specs.declared.Refusal.{Refusal}
-use Rattle.format.specs.Sheet.{Item, Sheet}
+use Rattle.format.specs.Sheet.{Sheet}
 use Rattle.rules.specs.declared.Checked.{Checked}
 use Rattle.rules.specs.declared.Checked.the-variants.{Accepted, Refused}
 use Rattle.bridge.specs.Write.{text}
@@ -18,9 +16,6 @@ use Rattle.check_sheet.specs.Ruled.{ruledItems}
 pub record Delivers (bytes buffer : List ℕ) (answer : Written) (after : List ℕ) : Type 0 where
   pub answers : answer ≡ fitted bytes (length buffer)
   pub leaves : after ≡ overlaid bytes buffer
-
-abbrev pub sheetOf : Bool → Bool → List Item → Sheet
-sheetOf header doxygen items = record { header = header; doxygen = doxygen; items = items }
 
 -- a refusal of 9 to 12, else the text
 abbrev pub JudgedBy : Checked → Sheet → List ℕ → Written → List ℕ → Type 0

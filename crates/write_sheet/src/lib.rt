@@ -17,7 +17,8 @@ ghost use Rattle.bridge.specs.Write.{text};
 ghost use Rattle.services.specs.Services.{Writes};
 ghost use Rattle.view.specs.Values.{itemsAt, Whole};
 ghost use Rattle.view.specs.Digests.{digestsAt};
-ghost use Rattle.write_sheet.specs.Delivers.{Delivers, sheetOf, Judges};
+ghost use Rattle.sections.specs.Runs.{sheetOf};
+ghost use Rattle.write_sheet.specs.Delivers.{Delivers, Judges};
 
 // Measures the text, and writes it where it fits.
 fn deliver(
