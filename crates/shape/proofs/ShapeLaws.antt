@@ -23,14 +23,14 @@ use Rattle.cursor.specs.declared.Cursor.{Cursor}
 use Rattle.view.specs.declared.Found.{Found}
 use Rattle.view.specs.Values.{nextOf, Yields, typeHere, itemsAt}
 use Rattle.view.specs.Views.{Finds}
-use Rattle.view.proofs.ValueLaws.{in-turn, got-value, bit-value, bit-next}
+use Rattle.view.proofs.ValueLaws.{in-turn, got-value, yields, bit-value, bit-next}
 use Rattle.view.proofs.TypeLaws.{type-body}
 use Rattle.write_type.specs.TypeAt.{tyAt}
 use Rattle.shape.specs.declared.ShapeKind.{ShapeKind}
 use Rattle.shape.specs.declared.ShapeKind.the-variants.{Other}
 use Rattle.shape.specs.declared.ShapeView.{ShapeView}
 use Rattle.shape.specs.Shapes.{templateKind, shapeKind, shapeWith, isRef, hasInner, ShapeOf}
-use Rattle.shape.proofs.TypeLaws.{inner-is, inner-yields}
+use Rattle.write_type.proofs.TypeLaws.{type-is, type-yields}
 
 module _ (n : ℕ) (s : List ℕ) where
   -- no shape of its own
@@ -40,9 +40,9 @@ module _ (n : ℕ) (s : List ℕ) where
   template-shape : (k : Template) {c : Cursor} {t : Ty} {m : ℕ} → typeAt n 7 s (c .at) ≡ got t m →
       ShapeOf n s (shape (template k t)) (record { kind = templateKind k; mutable = true; inner = c })
   template-shape Template.RustBox e =
-      record { is = rw (inner-is n 7 s _ e); inner = λ h. inner-yields n 7 s _ e; owned = λ h. refl }
+      record { is = rw (type-is n 7 s _ (yields e)); inner = λ h. type-yields n 7 s _ (yields e); owned = λ h. refl }
   template-shape Template.UniquePtr e =
-      record { is = rw (inner-is n 7 s _ e); inner = λ h. inner-yields n 7 s _ e; owned = λ h. refl }
+      record { is = rw (type-is n 7 s _ (yields e)); inner = λ h. type-yields n 7 s _ (yields e); owned = λ h. refl }
   template-shape Template.RustVec e = plain
   template-shape Template.SharedPtr e = plain
   template-shape Template.WeakPtr e = plain
@@ -80,8 +80,8 @@ module _ (n : ℕ) (s : List ℕ) where
       in-turn (bit s at) _ h (λ b a e h₁. in-turn (typeAt n 7 s a) _ h₁ (λ u d g h₂.
       let there : typeAt n 7 s (r .next .at) ≡ got u d = rw (← bit-next s at e f) g in
       rw (← got-value h₂) record {
-        is = rw (inner-is n 7 s _ there, bit-value s at e f);
-        inner = λ q. inner-yields n 7 s _ there;
+        is = rw (type-is n 7 s _ (yields there), bit-value s at e f);
+        inner = λ q. type-yields n 7 s _ (yields there);
         owned = λ q. absurd (false≢true q);
       }))
   body-reference (Kind.Pointer Pointer.Ptr) at h f z = absurd (false≢true z)

@@ -1,10 +1,11 @@
 use borrow.Author.Needs.{needs}
-use Rattle.shape.proofs.TypeLaws.{type-at, outermost}
+use Rattle.write_type.proofs.TypeLaws.{outermost-yields}
+use Rattle.shape.proofs.TypeLaws.{type-at}
 use Rattle.shape.proofs.write_outermost.Statement.{statement}
 use Rattle.shape.proofs.write_outermost.Tie as tie
 
 write-type-requires : tie.Need-write-type-requires
-write-type-requires c κs = (c .before .before .before .before .before .pre .0, outermost _ _ _ (c .before .before .before .before .before .pre .1))
+write-type-requires c κs = (c .before .before .before .before .before .pre .0, outermost-yields _ _ _ (c .before .before .before .before .before .pre .1))
 
 returns : tie.Need-returns
 returns c = rw (type-at _ _ _) (c .before .before .write-type .ensures .0)
