@@ -25,7 +25,7 @@ use Rattle.view.specs.Values.{functionIn, oneItemAt, itemsAt}
 use Rattle.view.specs.Views.{kindOfBody}
 use Rattle.out.specs.declared.Content.{Content}
 use Rattle.out.specs.Steps.{Starts, Asks, Places, Flushes}
-use Rattle.sections.specs.Runs.{Holds, Held, Runs, shimOf}
+use Rattle.sections.specs.Runs.{Held, Runs, shimOf}
 use Rattle.sections.proofs.StateLaws.{holding, runs-as, runs-none, runs-then}
 use Rattle.write.specs.Passes.{declareItem, defineItem, Begins, Ends}
 

@@ -1,5 +1,5 @@
 -- From a measuring and a writing pass, and from the rules, to the promise of the service.
-use mathlib.Core.Path.{_≡_, refl, sym, ap, _∙_}
+use mathlib.Core.Path.{_≡_, refl, sym, _∙_}
 use mathlib.Core.List.{List, [], _++_}
 use mathlib.Core.Bool.{Bool, true, false}
 use Prim.Native.Nat.{ℕ, _≤_, _<_, _^_}
@@ -19,12 +19,12 @@ use Rattle.view.proofs.WholeLaws.{items-are}
 use Rattle.rules.specs.declared.Checked.{Checked}
 use Rattle.rules.specs.declared.Checked.the-variants.{Accepted, Refused}
 use Rattle.rules.specs.Rules.{wrongPart, taken, unfitArgument, ring}
-use Rattle.rules.specs.Judge.{Judged, refused, accepted, ruled, judged, judge}
+use Rattle.rules.specs.Judge.{refused, accepted, ruled, judge}
 use Rattle.bridge.specs.Write.{text}
 use Rattle.services.specs.declared.Written.{Written}
 use Rattle.services.specs.declared.Written.the-variants as Written
 use Rattle.services.specs.Services.{Writes}
-use Rattle.sink.specs.Sink.{Sink, sink, Wrote}
+use Rattle.sink.specs.Sink.{sink, Wrote}
 use Rattle.sink.proofs.ServiceLaws.{delivered, too-long}
 use Rattle.check_sheet.specs.Ruled.{ruledParts, elseChecked, ruledItems}
 use Rattle.sections.specs.Runs.{sheetOf}

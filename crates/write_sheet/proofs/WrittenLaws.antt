@@ -1,5 +1,5 @@
 -- The bytes that a written sheet leaves at the front of the buffer are its text: that of which demand 3 speaks.
-use mathlib.Core.Path.{_≡_, refl, sym, ap, _∙_}
+use mathlib.Core.Path.{_≡_}
 use mathlib.Core.List.{List, _++_}
 use mathlib.Core.Bool.{Bool, true, false}
 use Prim.Native.Nat.{ℕ}
