@@ -1,4 +1,3 @@
-use borrow.Author.Needs.{needs}
 use mathlib.Core.Path.{sym, _∙_}
 use Rattle.clash.proofs.ViewLaws.{owners-none, owners-differ, owners-both}
 use Rattle.clash.proofs.same_owner.Statement.{statement}

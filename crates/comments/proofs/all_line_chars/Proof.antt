@@ -22,9 +22,6 @@ loop-holds c = (omega arith, refl)
 shared-slice-read-in-range : tie.Need-shared-slice-read-in-range Inv-loop μ-loop
 shared-slice-read-in-range c = omega arith
 
-in-range-requires : tie.Need-in-range-requires Inv-loop μ-loop
-in-range-requires c κs = search needs
-
 returns : tie.Need-returns Inv-loop μ-loop
 returns c = sym (c .before .before .before .before .loop .inv .1 ∙ every-no (within 32 126) _ _ (c .before .before .before .loop-test .taken) (known (c .before .in-range .ensures) (not-true _ (c .if1 .taken))))
 
@@ -48,7 +45,7 @@ all-line-chars-spec =
     μ-loop
     loop-holds
     shared-slice-read-in-range
-    in-range-requires
+    (λ c κs. search needs)
     returns
     add-i
     loop-less

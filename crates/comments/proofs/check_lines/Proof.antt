@@ -18,9 +18,6 @@ abbrev μ-loop : tie.MeasureT-loop
 loop-holds : tie.Need-loop-holds Inv-loop μ-loop
 loop-holds c = (omega arith, many-none line _ _ _)
 
-check-line-requires : tie.Need-check-line-requires Inv-loop μ-loop
-check-line-requires c κs = search needs
-
 returns : tie.Need-returns Inv-loop μ-loop
 returns c = record { step = sym (c .before .before .before .before .before .loop .inv .1 ∙ many-stop line _ _ _ (c .before .before .before .before .loop-test .taken) (stopped (c .before .before .before .check-line .ensures) (c .before .r2 .given .1))) }
 
@@ -43,7 +40,7 @@ check-lines-spec =
     Inv-loop
     μ-loop
     loop-holds
-    check-line-requires
+    (λ c κs. search needs)
     (λ c. search needs)
     (λ c. search needs)
     returns

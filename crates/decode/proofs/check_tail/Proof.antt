@@ -18,9 +18,6 @@ returns : tie.Need-returns
 unfolding tail
 returns c = λ x. rw (value (c .before .before .before .before .read .ensures) (c .before .before .f .given .1), ne-eqb _ _ (c .if1 .taken)) record { step = refl }
 
-cast-bytes : tie.Need-cast-bytes
-cast-bytes c = search needs
-
 returns-2 : tie.Need-returns-2
 unfolding tail
 returns-2 c = λ x. rw (value (c .before .before .before .before .before .before .read .ensures) (c .before .before .before .before .f .given .1), eq-eqb _ _ (c .before .before .if1 .left), at-end _ _ (field-next _ _ _ (value (c .before .before .before .before .before .before .read .ensures) (c .before .before .before .before .f .given .1))) (c .if2 .taken)) record { step = refl }
@@ -42,7 +39,7 @@ check-tail-spec =
     (λ c. search needs)
     (λ c. search needs)
     returns
-    cast-bytes
+    (λ c. search needs)
     returns-2
     returns-3
     returns-4)

@@ -27,16 +27,10 @@ abbrev μ-write-entries : Measures 5 write-entries-kinds.ps ℕ
 μ-write-entries κs a = 7 - a .1 .1 .1 .1 .1 .0
 
 abbrev write-entries-at : ℕ → In 5 write-entries-kinds.ps
-write-entries-at t =
-    and 5 write-entries-kinds.ps (is 5 write-entries-kinds.ps μ-write-entries t) write-entries.Pre
+write-entries-at t = and 5 write-entries-kinds.ps (is 5 write-entries-kinds.ps μ-write-entries t) write-entries.Pre
 
 abbrev write-entries-below : ℕ → In 5 write-entries-kinds.ps
-write-entries-below t =
-    and
-    5
-    write-entries-kinds.ps
-    (falls 5 write-entries-kinds.ps _<_ μ-write-entries t)
-    write-entries.Pre
+write-entries-below t = and 5 write-entries-kinds.ps (falls 5 write-entries-kinds.ps _<_ μ-write-entries t) write-entries.Pre
 
 abbrev K-write-entries : ℕ → write-entries-lts.Claims
 K-write-entries t = (
@@ -71,9 +65,6 @@ write-entries-same-length t c = wrote-length (c .before .before .before .write-d
 
 write-entries-returns : (t : ℕ) → write-entries-lts.Need-returns (K-write-entries t) (write-entries-at t) write-entries.Post write-entries-Inv-loop write-entries-μ-loop
 write-entries-returns t c = entries-last _ _ _ (c .if1 .taken) (c .before .before .before .write-direct .ensures)
-
-write-entries-add-deeper : (t : ℕ) → write-entries-lts.Need-add-deeper (K-write-entries t) (write-entries-at t) write-entries.Post write-entries-Inv-loop write-entries-μ-loop
-write-entries-add-deeper t c = omega arith
 
 write-entries-next-namespace-requires : (t : ℕ) → write-entries-lts.Need-next-namespace-requires (K-write-entries t) (write-entries-at t) write-entries.Post write-entries-Inv-loop write-entries-μ-loop
 write-entries-next-namespace-requires t c κs = (c .before .before .before .before .before .before .before .before .before .before .pre .1 .0, c .before .before .before .before .before .before .before .before .before .before .pre .1 .1, c .before .before .before .before .before .before .before .before .before .before .pre .1 .2, omega (arith, c .before .before .before .before .before .before .before .before .before .before .pre .1 .2 .there))
@@ -120,7 +111,7 @@ pub +write-entries-spec : {M : Type 1} → statement M
     (write-entries-write-direct-requires t)
     (write-entries-same-length t)
     (write-entries-returns t)
-    (write-entries-add-deeper t)
+    (λ c. omega arith)
     (write-entries-next-namespace-requires t)
     (write-entries-loop-holds t)
     (write-entries-item-requires t)

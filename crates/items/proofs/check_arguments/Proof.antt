@@ -19,9 +19,6 @@ abbrev μ-loop : tie.MeasureT-loop
 loop-holds : tie.Need-loop-holds Inv-loop μ-loop
 loop-holds c = (omega arith, λ ns e. many-none (argument ns _) _ _ _)
 
-check-argument-requires : tie.Need-check-argument-requires Inv-loop μ-loop
-check-argument-requires c κs = search needs
-
 returns : tie.Need-returns Inv-loop μ-loop
 returns c = λ ns e. record { step = sym (c .before .before .before .before .before .loop .inv .1 ns e ∙ many-stop (argument ns _) _ _ _ (c .before .before .before .before .loop-test .taken) (stopped (c .before .before .before .check-argument .ensures ns e) (c .before .r2 .given .1))) }
 
@@ -44,7 +41,7 @@ check-arguments-spec =
     Inv-loop
     μ-loop
     loop-holds
-    check-argument-requires
+    (λ c κs. search needs)
     (λ c. search needs)
     (λ c. search needs)
     returns

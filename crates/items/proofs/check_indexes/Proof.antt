@@ -18,9 +18,6 @@ abbrev μ-loop : tie.MeasureT-loop
 loop-holds : tie.Need-loop-holds Inv-loop μ-loop
 loop-holds c = (omega arith, many-none (index _) _ _ _)
 
-check-index-requires : tie.Need-check-index-requires Inv-loop μ-loop
-check-index-requires c κs = search needs
-
 returns : tie.Need-returns Inv-loop μ-loop
 returns c = record { step = sym (c .before .before .before .before .before .loop .inv .1 ∙ many-stop (index _) _ _ _ (c .before .before .before .before .loop-test .taken) (stopped (c .before .before .before .check-index .ensures) (c .before .r2 .given .1))) }
 
@@ -43,7 +40,7 @@ check-indexes-spec =
     Inv-loop
     μ-loop
     loop-holds
-    check-index-requires
+    (λ c κs. search needs)
     (λ c. search needs)
     (λ c. search needs)
     returns

@@ -1,4 +1,3 @@
-use borrow.Author.Needs.{needs}
 use borrow.Author.Tests.{eq-eqb, ne-eqb}
 use Rattle.judge.proofs.is_method.Statement.{statement}
 use Rattle.judge.proofs.is_method.Tie as tie

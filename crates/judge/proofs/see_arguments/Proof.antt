@@ -24,9 +24,6 @@ loop-holds c = (omega arith, see-none _ _ _ _ _)
 see-argument-requires : tie.Need-see-argument-requires Inv-loop μ-loop
 see-argument-requires c κs = c .before .before .before .before .before .pre
 
-either-requires : tie.Need-either-requires Inv-loop μ-loop
-either-requires c κs = search needs
-
 add-i : tie.Need-add-i Inv-loop μ-loop
 add-i c = omega arith
 
@@ -47,7 +44,7 @@ see-arguments-spec =
     μ-loop
     loop-holds
     see-argument-requires
-    either-requires
+    (λ c κs. search needs)
     add-i
     loop-less
     loop-again

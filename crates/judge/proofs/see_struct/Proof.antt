@@ -1,4 +1,3 @@
-use borrow.Author.Needs.{needs}
 use native.Mathlib.Omega.{arith}
 use Rattle.judge.proofs.WrongLaws.{struct-seen}
 use Rattle.judge.proofs.see_struct.Statement.{statement}

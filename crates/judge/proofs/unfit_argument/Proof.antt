@@ -17,9 +17,6 @@ Inv-loop s names items n i₀ i = (i ≤ length items) × (unfitArgument (itemsA
 abbrev μ-loop : tie.MeasureT-loop
 μ-loop s names items n i₀ i = length items - i
 
-cast-n : tie.Need-cast-n Inv-loop μ-loop
-cast-n c = search needs
-
 loop-holds : tie.Need-loop-holds Inv-loop μ-loop
 loop-holds c = (omega arith, unfit-items (itemsAt (c .before .before .before .args .s .now) (c .before .before .before .args .names .now) (c .before .before .before .args .items .now)))
 
@@ -47,7 +44,7 @@ unfit-argument-spec =
     (tie.spec
     Inv-loop
     μ-loop
-    cast-n
+    (λ c. search needs)
     loop-holds
     unfit-item-requires
     returns

@@ -1,4 +1,3 @@
-use borrow.Author.Needs.{needs}
 use Rattle.cursor.proofs.CheckLaws.{known}
 use Rattle.judge.proofs.WrongLaws.{sees-found}
 use Rattle.judge.proofs.wrong_function.Statement.{statement}

@@ -17,9 +17,6 @@ Inv-loop s names items n i₀ i = (i ≤ length items) × (any (itemWrong s name
 abbrev μ-loop : tie.MeasureT-loop
 μ-loop s names items n i₀ i = length items - i
 
-cast-n : tie.Need-cast-n Inv-loop μ-loop
-cast-n c = search needs
-
 loop-holds : tie.Need-loop-holds Inv-loop μ-loop
 loop-holds c = (omega arith, refl)
 
@@ -49,7 +46,7 @@ wrong-part-spec =
     (tie.spec
     Inv-loop
     μ-loop
-    cast-n
+    (λ c. search needs)
     loop-holds
     wrong-item-requires
     returns

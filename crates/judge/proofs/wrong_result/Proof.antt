@@ -1,4 +1,3 @@
-use borrow.Author.Needs.{needs}
 use lib.ListN.{length}
 use Rattle.judge.proofs.WrongLaws.{result-seen, result-none}
 use Rattle.judge.proofs.wrong_result.Statement.{statement}

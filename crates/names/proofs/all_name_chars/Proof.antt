@@ -23,9 +23,6 @@ loop-holds c = (omega arith, refl)
 shared-slice-read-is-name-char : tie.Need-shared-slice-read-is-name-char Inv-loop μ-loop
 shared-slice-read-is-name-char c = omega arith
 
-is-name-char-requires : tie.Need-is-name-char-requires Inv-loop μ-loop
-is-name-char-requires c κs = search needs
-
 returns : tie.Need-returns Inv-loop μ-loop
 returns c = sym (c .before .before .before .before .loop .inv .1 ∙ every-no nameChar _ _ (c .before .before .before .loop-test .taken) (known (c .before .is-name-char .ensures) (not-true _ (c .if1 .taken))))
 
@@ -49,7 +46,7 @@ all-name-chars-spec =
     μ-loop
     loop-holds
     shared-slice-read-is-name-char
-    is-name-char-requires
+    (λ c κs. search needs)
     returns
     add-i
     loop-less

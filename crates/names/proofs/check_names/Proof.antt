@@ -19,26 +19,11 @@ abbrev μ-loop : tie.MeasureT-loop
 loop-holds : tie.Need-loop-holds Inv-loop μ-loop
 loop-holds c = (omega arith, refl, fill-none _ _ _ _ _)
 
-check-name-requires : tie.Need-check-name-requires Inv-loop μ-loop
-check-name-requires c κs = search needs
-
-enum-known-r : tie.Need-enum-known-r Inv-loop μ-loop
-enum-known-r c = search needs
-
-cast-k : tie.Need-cast-k Inv-loop μ-loop
-cast-k c = search needs
-
 mul-offsets : tie.Need-mul-offsets Inv-loop μ-loop
 mul-offsets c = omega (arith, c .before .before .before .before .before .before .before .before .good .1 .1)
 
 slice-write-offsets : tie.Need-slice-write-offsets Inv-loop μ-loop
 slice-write-offsets c = omega arith
-
-enum-known-r-2 : tie.Need-enum-known-r-2 Inv-loop μ-loop
-enum-known-r-2 c = search needs
-
-same-length : tie.Need-same-length Inv-loop μ-loop
-same-length c = search needs
 
 returns : tie.Need-returns Inv-loop μ-loop
 returns c = fill-stop (placed name) _ _ _ (c .before .before .before .before .before .loop .inv .2) (c .before .before .before .before .loop-test .taken) (placed-fault name (stopped (c .before .before .before .check-name .ensures) (c .before .r2 .given .1)))
@@ -52,9 +37,6 @@ loop-less c = omega arith
 loop-again : tie.Need-loop-again Inv-loop μ-loop
 loop-again c = (omega arith, simp length-set (omega arith), fill-turn (placed name) _ _ _ (c .before .before .before .before .before .loop .inv .2) (c .before .before .before .before .loop-test .taken) (omega arith) (placed-got name (stepped (c .before .before .before .check-name .ensures) (c .before .r .given .1) .1)))
 
-same-length-2 : tie.Need-same-length-2 Inv-loop μ-loop
-same-length-2 c = search needs
-
 returns-2 : tie.Need-returns-2 Inv-loop μ-loop
 returns-2 c = fill-done (placed name) _ _ _ (c .before .loop .inv .2) (omega arith) (omega arith)
 
@@ -65,16 +47,16 @@ check-names-spec =
     Inv-loop
     μ-loop
     loop-holds
-    check-name-requires
-    enum-known-r
-    cast-k
+    (λ c κs. search needs)
+    (λ c. search needs)
+    (λ c. search needs)
     mul-offsets
     slice-write-offsets
-    enum-known-r-2
-    same-length
+    (λ c. search needs)
+    (λ c. search needs)
     returns
     add-i
     loop-less
     loop-again
-    same-length-2
+    (λ c. search needs)
     returns-2)

@@ -21,9 +21,6 @@ loop-holds c = (omega arith, omega (arith, c .before .before .before .pre), refl
 shared-slice-read-wide : tie.Need-shared-slice-read-wide Inv-loop μ-loop
 shared-slice-read-wide c = omega arith
 
-wide-requires : tie.Need-wide-requires Inv-loop μ-loop
-wide-requires c κs = search needs
-
 add-end : tie.Need-add-end Inv-loop μ-loop
 add-end c = omega (arith, total-step (c .before .before .before .before .before .before .before .args .lengths .now) (c .before .before .before .loop .i) (c .before .before .loop-test .taken), c .wide .ensures)
 
@@ -35,9 +32,6 @@ part-equal-start c = omega arith
 
 part-equal-end : tie.Need-part-equal-end Inv-loop μ-loop
 part-equal-end c = omega (arith, total-step (c .before .before .before .before .before .before .before .args .lengths .now) (c .before .before .before .loop .i) (c .before .before .loop-test .taken), c .wide .ensures)
-
-equal-requires : tie.Need-equal-requires Inv-loop μ-loop
-equal-requires c κs = search needs
 
 returns : tie.Need-returns Inv-loop μ-loop
 returns c = sym (c .before .before .before .before .before .before .loop .inv .2 ∙ words-yes (c .before .before .before .before .before .before .before .before .before .before .args .w .now) (c .before .before .before .before .before .before .before .before .before .before .args .lengths .now) (c .before .before .before .before .before .before .before .before .before .before .args .bytes .now) (c .before .before .before .before .before .before .loop .i) (c .before .before .before .before .before .before .loop .at) (c .before .before .before .before .before .loop-test .taken) (word-is (c .before .before .before .before .before .before .before .before .before .before .args .w .now) (c .before .before .before .before .before .before .before .before .before .before .args .bytes .now) (c .before .before .before .before .before .before .loop .at) (c .before .before .before .wide .ensures) (c .before .equal .ensures) (c .if1 .taken)))
@@ -62,12 +56,12 @@ listed-spec =
     μ-loop
     loop-holds
     shared-slice-read-wide
-    wide-requires
+    (λ c κs. search needs)
     add-end
     sub-equal
     part-equal-start
     part-equal-end
-    equal-requires
+    (λ c κs. search needs)
     returns
     add-i
     loop-less

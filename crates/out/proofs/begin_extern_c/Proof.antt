@@ -1,4 +1,3 @@
-use borrow.Author.Needs.{needs}
 use Rattle.out.proofs.StateLaws.{begin-extern-c-room, begins-extern-c}
 use Rattle.out.proofs.begin_extern_c.Statement.{statement}
 use Rattle.out.proofs.begin_extern_c.Tie as tie

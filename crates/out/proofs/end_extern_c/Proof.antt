@@ -1,4 +1,3 @@
-use borrow.Author.Needs.{needs}
 use Rattle.out.proofs.StateLaws.{end-extern-c-room, ends-extern-c}
 use Rattle.out.proofs.end_extern_c.Statement.{statement}
 use Rattle.out.proofs.end_extern_c.Tie as tie

@@ -1,4 +1,3 @@
-use borrow.Author.Needs.{needs}
 use native.Mathlib.Omega.{arith}
 use Rattle.out.proofs.StateLaws.{Ending, ending-none, ending-known, ending-listed, ending-room, ending-turn, ending-done}
 use Rattle.out.proofs.end_namespaces.Statement.{statement}

@@ -23,9 +23,6 @@ element-copy-out-p c = omega (arith, c .before .before .before .before .before .
 flush-boundary-requires : tie.Need-flush-boundary-requires Inv-loop μ-loop
 flush-boundary-requires c κs = (c .before .before .before .before .before .before .before .pre .0, c .before .before .before .before .before .before .before .pre .1 .known _ (omega arith))
 
-is-end-requires : tie.Need-is-end-requires Inv-loop μ-loop
-is-end-requires c κs = search needs
-
 add-i : tie.Need-add-i Inv-loop μ-loop
 add-i c = omega (arith, c .before .before .before .before .before .before .before .before .before .before .before .pre .1 .few)
 
@@ -51,7 +48,7 @@ flush-all-spec =
     mul-p
     element-copy-out-p
     flush-boundary-requires
-    is-end-requires
+    (λ c κs. search needs)
     add-i
     loop-less
     loop-again

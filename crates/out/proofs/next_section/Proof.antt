@@ -1,4 +1,3 @@
-use borrow.Author.Needs.{needs}
 use Rattle.out.proofs.StateLaws.{asks-next}
 use Rattle.out.proofs.next_section.Statement.{statement}
 use Rattle.out.proofs.next_section.Tie as tie

@@ -1,4 +1,3 @@
-use borrow.Author.Needs.{needs}
 use Rattle.out.proofs.StateLaws.{places}
 use Rattle.out.proofs.placed.Statement.{statement}
 use Rattle.out.proofs.placed.Tie as tie

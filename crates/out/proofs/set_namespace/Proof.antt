@@ -1,4 +1,3 @@
-use borrow.Author.Needs.{needs}
 use Rattle.out.proofs.StateLaws.{item-spaces, sets-item}
 use Rattle.out.proofs.set_namespace.Statement.{statement}
 use Rattle.out.proofs.set_namespace.Tie as tie

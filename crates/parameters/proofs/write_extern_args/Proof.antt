@@ -19,9 +19,6 @@ abbrev μ-loop : tie.MeasureT-loop
 loop-holds : tie.Need-loop-holds Inv-loop μ-loop
 loop-holds c = (omega arith, listed-none _ _ _ _)
 
-put-comma-requires : tie.Need-put-comma-requires Inv-loop μ-loop
-put-comma-requires c κs = search needs
-
 write-extern-arg-requires : tie.Need-write-extern-arg-requires Inv-loop μ-loop
 write-extern-arg-requires c κs = (c .before .before .before .before .before .before .before .before .before .before .before .before .before .pre .0, c .before .before .before .before .before .before .before .before .before .before .before .before .before .pre .1, omega arith, c .before .before .before .before .before .before .before .before .before .before .before .before .before .pre .2)
 
@@ -47,7 +44,7 @@ write-extern-args-spec =
     Inv-loop
     μ-loop
     loop-holds
-    put-comma-requires
+    (λ c κs. search needs)
     write-extern-arg-requires
     add-j
     loop-less

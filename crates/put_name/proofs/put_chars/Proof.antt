@@ -15,9 +15,6 @@ abbrev μ-loop : tie.MeasureT-loop
 loop-holds : tie.Need-loop-holds Inv-loop μ-loop
 loop-holds c = writing-none _ _ _ _ (c .before .before .pre .1)
 
-field-requires : tie.Need-field-requires Inv-loop μ-loop
-field-requires c κs = search needs
-
 put-four-requires : tie.Need-put-four-requires Inv-loop μ-loop
 put-four-requires c κs = omega (arith, c .before .field .ensures .low)
 
@@ -46,7 +43,7 @@ put-chars-spec =
     Inv-loop
     μ-loop
     loop-holds
-    field-requires
+    (λ c κs. search needs)
     put-four-requires
     sub-left
     loop-less

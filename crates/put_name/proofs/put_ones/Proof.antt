@@ -15,14 +15,8 @@ abbrev μ-loop : tie.MeasureT-loop
 loop-holds : tie.Need-loop-holds Inv-loop μ-loop
 loop-holds c = writing-none _ _ _ _ (c .before .before .pre .1)
 
-field-requires : tie.Need-field-requires Inv-loop μ-loop
-field-requires c κs = search needs
-
 cast-put-byte : tie.Need-cast-put-byte Inv-loop μ-loop
 cast-put-byte c = omega (arith, c .before .field .ensures .low)
-
-put-byte-requires : tie.Need-put-byte-requires Inv-loop μ-loop
-put-byte-requires c κs = search needs
 
 sub-left : tie.Need-sub-left Inv-loop μ-loop
 sub-left c = omega arith
@@ -46,9 +40,9 @@ put-ones-spec =
     Inv-loop
     μ-loop
     loop-holds
-    field-requires
+    (λ c κs. search needs)
     cast-put-byte
-    put-byte-requires
+    (λ c κs. search needs)
     sub-left
     loop-less
     loop-again

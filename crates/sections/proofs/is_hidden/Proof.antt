@@ -1,4 +1,3 @@
-use borrow.Author.Needs.{needs}
 use Rattle.sections.proofs.ShimLaws.{hidden-free, hidden-method}
 use Rattle.sections.proofs.is_hidden.Statement.{statement}
 use Rattle.sections.proofs.is_hidden.Tie as tie

@@ -1,4 +1,3 @@
-use borrow.Author.Needs.{needs}
 use Rattle.shape.proofs.FunctionLaws.{returned, slot-none, slot-throws, slot-by-type}
 use Rattle.shape.proofs.indirect_return.Statement.{statement}
 use Rattle.shape.proofs.indirect_return.Tie as tie

@@ -1,4 +1,3 @@
-use borrow.Author.Needs.{needs}
 use Rattle.shape.proofs.FunctionLaws.{method-const, method-other}
 use Rattle.shape.proofs.is_method.Statement.{statement}
 use Rattle.shape.proofs.is_method.Tie as tie

@@ -1,4 +1,3 @@
-use borrow.Author.Needs.{needs}
 use mathlib.Core.Path.{refl}
 use Rattle.shape.proofs.needs_comma.Statement.{statement}
 use Rattle.shape.proofs.needs_comma.Tie as tie

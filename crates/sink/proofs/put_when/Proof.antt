@@ -3,12 +3,6 @@ use Rattle.sink.proofs.SinkLaws.{wrote-nil}
 use Rattle.sink.proofs.put_when.Statement.{statement}
 use Rattle.sink.proofs.put_when.Tie as tie
 
-put-bytes-requires : tie.Need-put-bytes-requires
-put-bytes-requires c κs = search needs
-
-same-length : tie.Need-same-length
-same-length c = search needs
-
 returns : tie.Need-returns
 returns c = rw (c .before .before .before .before .if1 .taken) (c .before .before .put-bytes .ensures)
 
@@ -16,4 +10,10 @@ returns-2 : tie.Need-returns-2
 returns-2 c = rw (c .if1 .left) (wrote-nil _)
 
 pub put-when-spec : {M : Type 1} → statement M
-put-when-spec = tie.close (tie.spec put-bytes-requires same-length returns returns-2)
+put-when-spec =
+    tie.close
+    (tie.spec
+    (λ c κs. search needs)
+    (λ c. search needs)
+    returns
+    returns-2)

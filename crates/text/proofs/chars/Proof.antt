@@ -18,26 +18,11 @@ abbrev μ-loop : tie.MeasureT-loop
 loop-holds : tie.Need-loop-holds Inv-loop μ-loop
 loop-holds c = (omega arith, refl, fill-none _ _ _ _ _)
 
-read-requires : tie.Need-read-requires Inv-loop μ-loop
-read-requires c κs = search needs
-
-enum-known-f : tie.Need-enum-known-f Inv-loop μ-loop
-enum-known-f c = search needs
-
 cast-b : tie.Need-cast-b Inv-loop μ-loop
 cast-b c = omega (arith, field-lt 7 _ _ (value (c .before .before .before .read .ensures) (c .before .f .given .1)))
 
-cast-k : tie.Need-cast-k Inv-loop μ-loop
-cast-k c = search needs
-
 slice-write-buf : tie.Need-slice-write-buf Inv-loop μ-loop
 slice-write-buf c = omega arith
-
-enum-told : tie.Need-enum-told Inv-loop μ-loop
-enum-told c = search needs
-
-same-length : tie.Need-same-length Inv-loop μ-loop
-same-length c = search needs
 
 returns : tie.Need-returns Inv-loop μ-loop
 returns c = fill-stop (bits 7) _ _ _ (c .before .before .before .before .loop .inv .2) (c .before .before .before .loop-test .taken) (cut _ _ _ (c .before .before .read .ensures) (c .enum-told .given .1))
@@ -51,9 +36,6 @@ loop-less c = omega arith
 loop-again : tie.Need-loop-again Inv-loop μ-loop
 loop-again c = (omega arith, simp length-set (omega arith), fill-turn (bits 7) _ _ _ (c .before .before .before .before .before .loop .inv .2) (c .before .before .before .before .loop-test .taken) (omega arith) (value (c .before .before .before .read .ensures) (c .before .f .given .1)))
 
-same-length-2 : tie.Need-same-length-2 Inv-loop μ-loop
-same-length-2 c = search needs
-
 returns-2 : tie.Need-returns-2 Inv-loop μ-loop
 returns-2 c = fill-done (bits 7) _ _ _ (c .before .loop .inv .2) (omega arith) (omega arith)
 
@@ -64,16 +46,16 @@ chars-spec =
     Inv-loop
     μ-loop
     loop-holds
-    read-requires
-    enum-known-f
+    (λ c κs. search needs)
+    (λ c. search needs)
     cast-b
-    cast-k
+    (λ c. search needs)
     slice-write-buf
-    enum-told
-    same-length
+    (λ c. search needs)
+    (λ c. search needs)
     returns
     add-i
     loop-less
     loop-again
-    same-length-2
+    (λ c. search needs)
     returns-2)

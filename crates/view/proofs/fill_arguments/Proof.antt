@@ -14,32 +14,14 @@ Inv-loop s names items v offsets₀ w n next₀ i₀ offsets next i = (i ≤ v .
 abbrev μ-loop : tie.MeasureT-loop
 μ-loop s names items v offsets₀ w n next₀ i₀ offsets next i = v .arguments - i
 
-cast-width : tie.Need-cast-width Inv-loop μ-loop
-cast-width c = search needs
-
-width-requires : tie.Need-width-requires Inv-loop μ-loop
-width-requires c κs = search needs
-
-cast-n : tie.Need-cast-n Inv-loop μ-loop
-cast-n c = search needs
-
 loop-holds : tie.Need-loop-holds Inv-loop μ-loop
 loop-holds c = (omega arith, refl, arguments-none _ _ _ _ (c .before .before .before .before .before .before .pre .1) _)
-
-cast-k : tie.Need-cast-k Inv-loop μ-loop
-cast-k c = search needs
-
-mul-offsets : tie.Need-mul-offsets Inv-loop μ-loop
-mul-offsets c = search needs
 
 slice-write-offsets : tie.Need-slice-write-offsets Inv-loop μ-loop
 slice-write-offsets c = omega (arith, c .before .before .before .before .before .before .before .before .before .pre .1 .view .few)
 
 field-requires : tie.Need-field-requires Inv-loop μ-loop
 field-requires c κs = (search needs, width-le _ (c .before .before .before .before .width .ensures))
-
-past-type-requires : tie.Need-past-type-requires Inv-loop μ-loop
-past-type-requires c κs = search needs
 
 add-i : tie.Need-add-i Inv-loop μ-loop
 add-i c = omega arith
@@ -62,15 +44,15 @@ fill-arguments-spec =
     (tie.spec
     Inv-loop
     μ-loop
-    cast-width
-    width-requires
-    cast-n
+    (λ c. search needs)
+    (λ c κs. search needs)
+    (λ c. search needs)
     loop-holds
-    cast-k
-    mul-offsets
+    (λ c. search needs)
+    (λ c. search needs)
     slice-write-offsets
     field-requires
-    past-type-requires
+    (λ c κs. search needs)
     add-i
     loop-less
     loop-again

@@ -17,9 +17,6 @@ Inv-loop s names items digests header doxygen offsets₀ c₀ out₀ n i₀ offs
 abbrev μ-loop : tie.MeasureT-loop
 μ-loop s names items digests header doxygen offsets₀ c₀ out₀ n i₀ offsets c out i = length items - i
 
-cast-n : tie.Need-cast-n Inv-loop μ-loop
-cast-n c = search needs
-
 loop-holds : tie.Need-loop-holds Inv-loop μ-loop
 loop-holds c = (pass-none _ _ _ _ _ _, refl, refl)
 
@@ -50,7 +47,7 @@ define-all-spec =
     (tie.spec
     Inv-loop
     μ-loop
-    cast-n
+    (λ c. search needs)
     loop-holds
     define-requires
     add-i

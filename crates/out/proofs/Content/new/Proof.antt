@@ -1,4 +1,3 @@
-use borrow.Author.Needs.{needs}
 use Rattle.out.proofs.StateLaws.{starts}
 use Rattle.out.proofs.Content.new.Statement.{statement}
 use Rattle.out.proofs.Content.new.Tie as tie
