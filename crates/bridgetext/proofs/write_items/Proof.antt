@@ -1,3 +1,4 @@
+-- Written by tools/proofkit from answers/write_items.tpl (599f699c 2c978e1f).
 use borrow.Author.Needs.{needs}
 use Prim.Native.Nat.{_≤_, _-_}
 use native.Mathlib.Omega.{arith}

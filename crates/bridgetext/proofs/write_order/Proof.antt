@@ -1,3 +1,4 @@
+-- Written by tools/proofkit from answers/write_order.tpl (0f467e37 d1d57350).
 use borrow.Author.Needs.{needs}
 use native.Mathlib.Omega.{arith}
 use mathlib.Core.Path.{sym}

@@ -1,3 +1,4 @@
+-- Written by tools/proofkit from answers/write_text.tpl (d4f1a37e b276fd67).
 use borrow.Author.Needs.{needs}
 use native.Mathlib.Omega.{arith}
 use mathlib.Core.Path.{sym}

@@ -1,3 +1,4 @@
+-- Written by tools/proofkit from answers/put_call_end.tpl (67b7c695 03c03e90).
 use borrow.Author.Needs.{needs}
 use Rattle.call.proofs.CallLaws.{where-yes, where-no, end-written}
 use Rattle.call.proofs.put_call_end.Statement.{statement}

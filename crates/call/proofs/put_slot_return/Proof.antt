@@ -1,3 +1,4 @@
+-- Written by tools/proofkit from answers/put_slot_return.tpl (24b560f6 8f2ae88e).
 use borrow.Author.Needs.{needs}
 use Rattle.call.proofs.CallLaws.{where-yes, where-no, slot-return-written}
 use Rattle.call.proofs.put_slot_return.Statement.{statement}

@@ -1,3 +1,4 @@
+-- Written by tools/proofkit from answers/put_slot_value.tpl (c575fd9a db9f463e).
 use borrow.Author.Needs.{needs}
 use Rattle.call.proofs.CallLaws.{first-text, second-text}
 use Rattle.call.proofs.put_slot_value.Statement.{statement}

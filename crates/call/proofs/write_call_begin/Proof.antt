@@ -1,3 +1,4 @@
+-- Written by tools/proofkit from answers/write_call_begin.tpl (fedaf84a a473eefb).
 use borrow.Author.Needs.{needs}
 use Rattle.sink.proofs.SinkLaws.{wrote-nil}
 use Rattle.call.proofs.CallLaws.{begin-written}

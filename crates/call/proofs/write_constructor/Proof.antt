@@ -1,3 +1,4 @@
+-- Written by tools/proofkit from answers/write_constructor.tpl (790a5cd7 27fa692e).
 use borrow.Author.Needs.{needs}
 use Rattle.sink.proofs.SinkLaws.{_▷_, wrote-length}
 use Rattle.call.proofs.write_constructor.Statement.{statement}

@@ -1,3 +1,4 @@
+-- Written by tools/proofkit from answers/write_from_raw.tpl (b387c2cc 9a0c6fe8).
 use borrow.Author.Needs.{needs}
 use Rattle.sink.proofs.SinkLaws.{_▷_, wrote-length}
 use Rattle.call.proofs.write_from_raw.Statement.{statement}

@@ -1,3 +1,4 @@
+-- Written by tools/proofkit from answers/write_return.tpl (9017db42 d119b90d).
 use borrow.Author.Needs.{needs}
 use Rattle.sink.proofs.SinkLaws.{_▷_}
 use Rattle.call.proofs.CallLaws.{where-yes, where-no}

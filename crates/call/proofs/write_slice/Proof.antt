@@ -1,3 +1,4 @@
+-- Written by tools/proofkit from answers/write_slice.tpl (6a8d9438 b6de29c9).
 use borrow.Author.Needs.{needs}
 use Rattle.sink.proofs.SinkLaws.{_▷_, wrote-length}
 use Rattle.call.proofs.write_slice.Statement.{statement}

@@ -1,3 +1,4 @@
+-- Written by tools/proofkit from answers/write_slot.tpl (b7313916 f12fa301).
 use borrow.Author.Needs.{needs}
 use Rattle.sink.proofs.SinkLaws.{_▷_}
 use Rattle.call.proofs.CallLaws.{where-yes, where-no}

@@ -1,3 +1,4 @@
+-- Written by tools/proofkit from answers/answer.tpl (a98a105f 435a8864).
 use borrow.Author.Needs.{needs}
 use Rattle.decode.proofs.AnswerLaws.{refused, whole}
 use Rattle.check_sheet.proofs.CheckLaws.{check-refused}

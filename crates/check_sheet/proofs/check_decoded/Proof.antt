@@ -1,3 +1,4 @@
+-- Written by tools/proofkit from answers/check_decoded.tpl (59176be8 d4af99a4).
 use borrow.Author.Needs.{needs}
 use native.Mathlib.Omega.{arith}
 use mathlib.Core.Path.{sym}

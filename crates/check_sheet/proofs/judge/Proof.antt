@@ -1,3 +1,4 @@
+-- Written by tools/proofkit from answers/judge.tpl (402db633 0b446688).
 use borrow.Author.Needs.{needs}
 use mathlib.Core.Path.{sym, _∙_}
 use Rattle.check_sheet.specs.Ruled.{ruledItems}

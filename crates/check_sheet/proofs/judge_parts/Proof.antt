@@ -1,3 +1,4 @@
+-- Written by tools/proofkit from answers/judge_parts.tpl (59054c96 314fbdbc).
 use borrow.Author.Needs.{needs}
 use mathlib.Core.Path.{sym, _∙_}
 use Rattle.check_sheet.specs.Ruled.{ruledParts}

@@ -1,3 +1,4 @@
+-- Written by tools/proofkit from answers/judge_ring.tpl (082e4517 3e0fac3a).
 use borrow.Author.Needs.{needs}
 use mathlib.Core.Path.{sym, _∙_}
 use Rattle.check_sheet.proofs.judge_ring.Statement.{statement}

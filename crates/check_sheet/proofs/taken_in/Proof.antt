@@ -1,3 +1,4 @@
+-- Written by tools/proofkit from answers/taken_in.tpl (b3f46b7e 42ad6733).
 use borrow.Author.Needs.{needs}
 use native.Mathlib.Omega.{arith}
 use mathlib.Core.Path.{sym, _∙_}

@@ -1,3 +1,4 @@
+-- Written by tools/proofkit from answers/clash.tpl (61a505a5 4529d3eb).
 use borrow.Author.Needs.{needs}
 use mathlib.Core.Path.{sym, _∙_}
 use Rattle.clash.proofs.ViewLaws.{keys-apart, clash-functions, clash-types, function-type, type-function}

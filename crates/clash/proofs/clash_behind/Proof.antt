@@ -1,3 +1,4 @@
+-- Written by tools/proofkit from answers/clash_behind.tpl (c025216b 23ea27dc).
 use native.Mathlib.Omega.{arith}
 use mathlib.Core.Path.{_≡_, refl, sym, _∙_}
 use Prim.Native.Nat.{_+_, _<_, _≤_, _-_}

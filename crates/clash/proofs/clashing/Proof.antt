@@ -1,3 +1,4 @@
+-- Written by tools/proofkit from answers/clashing.tpl (96e4f5cf 27d113bb).
 use native.Mathlib.Omega.{arith}
 use mathlib.Core.Path.{_≡_, refl, sym, ap, _∙_}
 use Prim.Native.Nat.{_+_, _<_, _≤_, _-_}

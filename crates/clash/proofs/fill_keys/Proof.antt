@@ -1,3 +1,4 @@
+-- Written by tools/proofkit from answers/fill_keys.tpl (595f109f 06a1cedd).
 use borrow.Author.Needs.{needs}
 use native.Mathlib.Omega.{arith}
 use mathlib.Core.Path.{_≡_, refl, sym, ap, _∙_}

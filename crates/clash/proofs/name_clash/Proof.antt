@@ -1,3 +1,4 @@
+-- Written by tools/proofkit from answers/name_clash.tpl (f425ac56 79197a96).
 use borrow.Author.Needs.{needs}
 use native.Mathlib.Omega.{arith}
 use mathlib.Core.Path.{sym, _∙_}

@@ -1,3 +1,4 @@
+-- Written by tools/proofkit from answers/own_name.tpl (ac3e6bdf 3b4de22e).
 use borrow.Author.Needs.{needs}
 use mathlib.Core.Path.{sym, _∙_}
 use Rattle.clash.proofs.ItemLaws.{function-kind}

@@ -1,3 +1,4 @@
+-- Written by tools/proofkit from answers/same_full_name.tpl (22475e41 9d56137b).
 use borrow.Author.Needs.{needs}
 use Rattle.lexical.proofs.BoolLaws.{not-true, not-false}
 use Rattle.clash.proofs.ViewLaws.{full-name-apart, full-name-beside}

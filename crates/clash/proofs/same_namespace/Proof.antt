@@ -1,3 +1,4 @@
+-- Written by tools/proofkit from answers/same_namespace.tpl (d53b71dd 6dad5fef).
 use native.Mathlib.Omega.{arith}
 use mathlib.Core.Path.{_≡_, refl, sym, _∙_}
 use Prim.Native.Nat.{_≤_, _-_}

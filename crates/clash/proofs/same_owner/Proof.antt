@@ -1,3 +1,4 @@
+-- Written by tools/proofkit from answers/same_owner.tpl (96cf74b4 8e9c298f).
 use mathlib.Core.Path.{sym, _∙_}
 use Rattle.clash.proofs.ViewLaws.{owners-none, owners-differ, owners-both}
 use Rattle.clash.proofs.same_owner.Statement.{statement}

@@ -1,3 +1,4 @@
+-- Written by tools/proofkit from answers/same_symbol.tpl (97570f89 0254f149).
 use borrow.Author.Needs.{needs}
 use Rattle.lexical.proofs.BoolLaws.{not-true, not-false}
 use Rattle.clash.proofs.ItemLaws.{function-kind}

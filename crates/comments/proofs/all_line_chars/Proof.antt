@@ -1,3 +1,4 @@
+-- Written by tools/proofkit from answers/all_line_chars.tpl (906f86f8 f3414a83).
 use borrow.Author.Needs.{needs}
 use native.Mathlib.Omega.{arith}
 use mathlib.Core.Path.{_≡_, refl, sym, _∙_}

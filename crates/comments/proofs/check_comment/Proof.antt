@@ -1,3 +1,4 @@
+-- Written by tools/proofkit from answers/check_comment.tpl (5668b93b 2b509d90).
 use borrow.Author.Needs.{needs}
 use mathlib.Core.Path.{refl}
 use Rattle.cursor.proofs.FieldLaws.{value, cut}

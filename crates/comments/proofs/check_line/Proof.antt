@@ -1,3 +1,4 @@
+-- Written by tools/proofkit from answers/check_line.tpl (dc60253e 1c494d03).
 use borrow.Author.Needs.{needs}
 use native.Mathlib.Omega.{arith}
 use mathlib.Core.Path.{refl, sym}

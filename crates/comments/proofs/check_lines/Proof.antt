@@ -1,3 +1,4 @@
+-- Written by tools/proofkit from answers/check_lines.tpl (6a458ea9 a9e65672).
 use borrow.Author.Needs.{needs}
 use native.Mathlib.Omega.{arith}
 use mathlib.Core.Path.{_≡_, sym, _∙_}

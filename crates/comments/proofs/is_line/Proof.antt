@@ -1,3 +1,4 @@
+-- Written by tools/proofkit from answers/is_line.tpl (32b7b9c9 e544b61b).
 use borrow.Author.Needs.{needs}
 use borrow.Author.Tests.{not-true, not-false}
 use native.Mathlib.Omega.{arith}

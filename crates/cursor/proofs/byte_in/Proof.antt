@@ -1,3 +1,4 @@
+-- Written by tools/proofkit from answers/byte_in.tpl (ac0df9d0 01b28397).
 use borrow.Author.Needs.{needs}
 use native.Mathlib.Omega.{arith}
 use Rattle.cursor.proofs.byte_in.Statement.{statement}
@@ -7,4 +8,9 @@ returns : tie.Need-returns
 returns c = (c .wide .ensures, omega (arith, c .wide .ensures, c .before .shared-slice-known2 .given (c .before .before .before .args .i)))
 
 pub byte-in-spec : {M : Type 1} → statement M
-byte-in-spec = tie.close (tie.spec (λ c. search needs) (λ c κs. search needs) returns)
+byte-in-spec =
+    tie.close
+    (tie.spec
+    (λ c. search needs)
+    (λ c κs. search needs)
+    returns)

@@ -1,3 +1,4 @@
+-- Written by tools/proofkit from answers/check_index.tpl (a740982a 3fff4acd).
 use borrow.Author.Needs.{needs}
 use mathlib.Core.Path.{refl}
 use native.Mathlib.Omega.{arith}

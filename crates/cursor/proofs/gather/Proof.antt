@@ -1,3 +1,4 @@
+-- Written by tools/proofkit from answers/gather.tpl (b6ff6715 911481a3).
 use borrow.Author.Needs.{needs}
 use native.Mathlib.Omega.{arith}
 use Rattle.cursor.proofs.BitLaws.{gather-is, gather-fits, shl-pos}
@@ -16,4 +17,14 @@ returns c = gather-is _ _ _ (c .before .before .pre .0) (c .window .ensures)
 pub gather-spec : {M : Type 1} → statement M
 gather-spec =
     tie.close
-    (tie.spec (λ c. search needs) (λ c κs. search needs) (λ c. search needs) (λ c. search needs) (λ c. search needs) (λ c. search needs) (λ c. search needs) rem-result cast-result-2 returns)
+    (tie.spec
+    (λ c. search needs)
+    (λ c κs. search needs)
+    (λ c. search needs)
+    (λ c. search needs)
+    (λ c. search needs)
+    (λ c. search needs)
+    (λ c. search needs)
+    rem-result
+    cast-result-2
+    returns)

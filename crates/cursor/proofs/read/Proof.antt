@@ -1,3 +1,4 @@
+-- Written by tools/proofkit from answers/read.tpl (76899222 45bc4fe5).
 use borrow.Author.Needs.{needs}
 use native.Mathlib.Omega.{arith}
 use Rattle.cursor.proofs.FieldLaws.{field-past, field-cut, field-whole}

@@ -1,3 +1,4 @@
+-- Written by tools/proofkit from answers/skip.tpl (d53ed7e9 503796b0).
 use borrow.Author.Needs.{needs}
 use mathlib.Core.Path.{refl}
 use Rattle.cursor.proofs.FieldLaws.{value, cut}

@@ -1,3 +1,4 @@
+-- Written by tools/proofkit from answers/width.tpl (f5474294 90343ec5).
 use borrow.Author.Needs.{needs}
 use lib.Count.{leading-le}
 use Rattle.cursor.proofs.WidthLaws.{width-is, width-none}

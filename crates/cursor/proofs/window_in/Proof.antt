@@ -1,3 +1,4 @@
+-- Written by tools/proofkit from answers/window_in.tpl (e380d1f0 beff01b8).
 use borrow.Author.Needs.{needs}
 use Rattle.cursor.proofs.BitLaws.{window-is}
 use Rattle.cursor.proofs.window_in.Statement.{statement}
@@ -9,5 +10,22 @@ returns c = window-is (c .before .before .before .before .before .before .args .
 pub window-in-spec : {M : Type 1} → statement M
 window-in-spec =
     tie.close
-    (tie.spec (λ c κs. search needs) (λ c. search needs) (λ c κs. search needs) (λ c. search needs) (λ c κs. search needs) (λ c. search needs) (λ c κs. search needs) (λ c. search needs) (λ c κs. search needs)
-    (λ c. search needs) (λ c. search needs) (λ c. search needs) (λ c. search needs) (λ c. search needs) (λ c. search needs) (λ c. search needs) (λ c. search needs) returns)
+    (tie.spec
+    (λ c κs. search needs)
+    (λ c. search needs)
+    (λ c κs. search needs)
+    (λ c. search needs)
+    (λ c κs. search needs)
+    (λ c. search needs)
+    (λ c κs. search needs)
+    (λ c. search needs)
+    (λ c κs. search needs)
+    (λ c. search needs)
+    (λ c. search needs)
+    (λ c. search needs)
+    (λ c. search needs)
+    (λ c. search needs)
+    (λ c. search needs)
+    (λ c. search needs)
+    (λ c. search needs)
+    returns)

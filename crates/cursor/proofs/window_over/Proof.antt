@@ -1,3 +1,4 @@
+-- Written by tools/proofkit from answers/window_over.tpl (7964b267 78996e77).
 use borrow.Author.Needs.{needs}
 use Rattle.cursor.proofs.BitLaws.{window-is}
 use Rattle.cursor.proofs.window_over.Statement.{statement}
@@ -9,5 +10,22 @@ returns c = window-is (c .before .before .before .before .before .before .args .
 pub window-over-spec : {M : Type 1} → statement M
 window-over-spec =
     tie.close
-    (tie.spec (λ c κs. search needs) (λ c. search needs) (λ c κs. search needs) (λ c. search needs) (λ c κs. search needs) (λ c. search needs) (λ c κs. search needs) (λ c. search needs) (λ c κs. search needs)
-    (λ c. search needs) (λ c. search needs) (λ c. search needs) (λ c. search needs) (λ c. search needs) (λ c. search needs) (λ c. search needs) (λ c. search needs) returns)
+    (tie.spec
+    (λ c κs. search needs)
+    (λ c. search needs)
+    (λ c κs. search needs)
+    (λ c. search needs)
+    (λ c κs. search needs)
+    (λ c. search needs)
+    (λ c κs. search needs)
+    (λ c. search needs)
+    (λ c κs. search needs)
+    (λ c. search needs)
+    (λ c. search needs)
+    (λ c. search needs)
+    (λ c. search needs)
+    (λ c. search needs)
+    (λ c. search needs)
+    (λ c. search needs)
+    (λ c. search needs)
+    returns)

@@ -1,3 +1,4 @@
+-- Written by tools/proofkit from answers/write_direct_return.tpl (6385a7c0 ef1410f0).
 use borrow.Author.Needs.{needs}
 use mathlib.Core.Path.{refl}
 use Rattle.shape.proofs.ShapeLaws.{has-inner}

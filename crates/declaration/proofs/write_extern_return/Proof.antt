@@ -1,3 +1,4 @@
+-- Written by tools/proofkit from answers/write_extern_return.tpl (f348555c 4180396b).
 use borrow.Author.Needs.{needs}
 use Rattle.sink.proofs.SinkLaws.{wrote-as}
 use Rattle.shape.proofs.FunctionLaws.{returned}

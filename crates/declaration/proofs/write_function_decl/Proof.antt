@@ -1,3 +1,4 @@
+-- Written by tools/proofkit from answers/write_function_decl.tpl (1f8d35ce 11af45dd).
 use borrow.Author.Needs.{needs}
 use Rattle.declaration.proofs.ReturnLaws.{declared}
 use Rattle.declaration.proofs.write_function_decl.Statement.{statement}

@@ -1,3 +1,4 @@
+-- Written by tools/proofkit from answers/write_layout_decl.tpl (caf065fe b170bfca).
 use borrow.Author.Needs.{needs}
 use Rattle.bridge.specs.Write.{layoutDecl}
 use Rattle.sink.proofs.SinkLaws.{_▷_}

@@ -1,3 +1,4 @@
+-- Written by tools/proofkit from answers/write_layout_definition.tpl (bb684eef ac8f87c4).
 use borrow.Author.Needs.{needs}
 use Rattle.bridge.specs.Write.{layoutDefinition}
 use Rattle.sink.proofs.SinkLaws.{_▷_, wrote-length}

@@ -1,3 +1,4 @@
+-- Written by tools/proofkit from answers/check_tail.tpl (a2201d56 61ff10f6).
 use borrow.Author.Needs.{needs}
 use mathlib.Core.Path.{refl}
 use native.Mathlib.Omega.{arith}

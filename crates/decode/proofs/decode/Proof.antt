@@ -1,3 +1,4 @@
+-- Written by tools/proofkit from answers/decode.tpl (ca8732ab 8da0633b).
 use borrow.Author.Needs.{needs}
 use borrow.Author.Tests.{lt-leb, le-leb}
 use Rattle.format.specs.Decoding.{decode}

@@ -1,3 +1,4 @@
+-- Written by tools/proofkit from answers/decode_fields.tpl (c26603bd d0f23437).
 use borrow.Author.Needs.{needs}
 use borrow.Author.Tests.{eq-eqb, ne-eqb}
 use Rattle.format.specs.Decoding.{sheet}

@@ -1,3 +1,4 @@
+-- Written by tools/proofkit from answers/decode_items.tpl (2353122b 31b24b3d).
 use borrow.Author.Needs.{needs}
 use native.Mathlib.Omega.{arith}
 use Rattle.cursor.proofs.FieldLaws.{value, cut, field-lt}

@@ -1,3 +1,4 @@
+-- Written by tools/proofkit from answers/decode_tables.tpl (cad22f73 ad4c9dca).
 use borrow.Author.Needs.{needs}
 use native.Mathlib.Omega.{arith}
 use Rattle.cursor.proofs.FieldLaws.{value, cut, field-lt}

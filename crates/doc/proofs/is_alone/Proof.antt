@@ -1,3 +1,4 @@
+-- Written by tools/proofkit from answers/is_alone.tpl (f34414ed c9989d48).
 use borrow.Author.Needs.{needs}
 use Rattle.doc.proofs.is_alone.Statement.{statement}
 use Rattle.doc.proofs.is_alone.Tie as tie

@@ -1,3 +1,4 @@
+-- Written by tools/proofkit from answers/put_slashes.tpl (bac9793e 11ff806b).
 use borrow.Author.Needs.{needs}
 use Rattle.sink.proofs.SinkLaws.{wrote-as}
 use Rattle.doc.proofs.DocLaws.{pick-yes, pick-no}

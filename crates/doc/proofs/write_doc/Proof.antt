@@ -1,3 +1,4 @@
+-- Written by tools/proofkit from answers/write_doc.tpl (0fde792a d3b97f2d).
 use borrow.Author.Needs.{needs}
 use native.Mathlib.Omega.{arith}
 use Rattle.sink.proofs.SinkLaws.{wrote-length}

@@ -1,3 +1,4 @@
+-- Written by tools/proofkit from answers/write_line.tpl (824fcb7c 841dfeac).
 use borrow.Author.Needs.{needs}
 use native.Mathlib.Omega.{arith}
 use Rattle.sink.proofs.SinkLaws.{_▷_, wrote-as, wrote-length}

@@ -1,3 +1,4 @@
+-- Written by tools/proofkit from answers/write_lines.tpl (98ff44ea 6192f302).
 use mathlib.Core.List.{_++_}
 use native.Mathlib.Omega.{arith}
 use Rattle.lexical.specs.Bytes.{bytes}

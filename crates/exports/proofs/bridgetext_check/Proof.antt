@@ -1,3 +1,4 @@
+-- Written by tools/proofkit from answers/bridgetext_check.tpl (0ef77827 dfcb69d9).
 use borrow.Author.Needs.{needs}
 use mathlib.Core.Path.{sym, ap, _∙_}
 use Rattle.services.specs.Services.{checkedCode}

@@ -1,3 +1,4 @@
+-- Written by tools/proofkit from answers/bridgetext_struct_order.tpl (f82f691c a73c7aa5).
 use borrow.Author.Needs.{needs}
 use native.Mathlib.Omega.{arith}
 use Rattle.exports.proofs.CodeLaws.{serves-small, serves-code}

@@ -1,3 +1,4 @@
+-- Written by tools/proofkit from answers/bridgetext_write.tpl (0c54ffe9 c4464ebe).
 use borrow.Author.Needs.{needs}
 use native.Mathlib.Omega.{arith}
 use Rattle.exports.proofs.CodeLaws.{serves-small, serves-code}

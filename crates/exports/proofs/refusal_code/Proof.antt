@@ -1,3 +1,4 @@
+-- Written by tools/proofkit from answers/refusal_code.tpl (cd5d16d0 65a69ece).
 use borrow.Author.Needs.{needs}
 use native.Mathlib.Omega.{arith}
 use Rattle.exports.proofs.CodeLaws.{negated-fits, negated-read}

@@ -1,3 +1,4 @@
+-- Written by tools/proofkit from answers/written_code.tpl (5ce50706 f9722503).
 use borrow.Author.Needs.{needs}
 use mathlib.Core.Path.{sym, ap, _∙_}
 use Rattle.services.specs.Services.{writtenCode}

@@ -1,3 +1,4 @@
+-- Written by tools/proofkit from answers/+write_entries.tpl (e8d7fe1e 6888fc5f).
 use native.Mathlib.Omega.{arith}
 use mathlib.Core.Path.{_≡_}
 use mathlib.Core.Bool.{true}

@@ -1,3 +1,4 @@
+-- Written by tools/proofkit from answers/close_namespace.tpl (68d6578d c9ce47e4).
 use borrow.Author.Needs.{needs}
 use Rattle.sink.proofs.SinkLaws.{_▷_}
 use Rattle.forward.proofs.close_namespace.Statement.{statement}

@@ -1,3 +1,4 @@
+-- Written by tools/proofkit from answers/open_namespace.tpl (9df4975d 91b98381).
 use borrow.Author.Needs.{needs}
 use Rattle.sink.proofs.SinkLaws.{_▷_, wrote-as}
 use Rattle.forward.proofs.open_namespace.Statement.{statement}

@@ -1,3 +1,4 @@
+-- Written by tools/proofkit from answers/write_direct.tpl (82d5e015 800a2ab9).
 use native.Mathlib.Omega.{arith}
 use Prim.Native.Nat.{_≤_, _-_}
 use lib.ListN.{length}

@@ -1,3 +1,4 @@
+-- Written by tools/proofkit from answers/write_entry.tpl (4c281ca6 5be712cd).
 use borrow.Author.Needs.{needs}
 use mathlib.Core.Path.{sym, _∙_}
 use Rattle.lexical.proofs.BoolLaws.{not-true, not-false}

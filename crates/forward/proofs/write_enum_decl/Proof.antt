@@ -1,3 +1,4 @@
+-- Written by tools/proofkit from answers/write_enum_decl.tpl (49d3d174 8b6bc2a0).
 use borrow.Author.Needs.{needs}
 use Rattle.sink.proofs.SinkLaws.{_▷_, wrote-as}
 use Rattle.forward.proofs.LineLaws.{enum-line}

@@ -1,3 +1,4 @@
+-- Written by tools/proofkit from answers/write_forward_declarations.tpl (47ae92d8 7b695a46).
 use borrow.Author.Needs.{needs}
 use native.Mathlib.Omega.{arith}
 use Rattle.forward.proofs.EntryLaws.{first-item, forward-none, forward-all}

@@ -1,3 +1,4 @@
+-- Written by tools/proofkit from answers/write_line.tpl (920e22b8 07c2f75d).
 use borrow.Author.Needs.{needs}
 use mathlib.Core.Path.{refl}
 use Rattle.sink.proofs.SinkLaws.{wrote-nil}

@@ -1,3 +1,4 @@
+-- Written by tools/proofkit from answers/write_struct_decl.tpl (d3268ae3 be0a05c4).
 use borrow.Author.Needs.{needs}
 use Rattle.sink.proofs.SinkLaws.{_▷_, wrote-as}
 use Rattle.forward.proofs.write_struct_decl.Statement.{statement}

@@ -1,3 +1,4 @@
+-- Written by tools/proofkit from answers/write_struct_using.tpl (2fd07e9d 41e3e3bc).
 use borrow.Author.Needs.{needs}
 use Rattle.sink.proofs.SinkLaws.{_▷_, wrote-as}
 use Rattle.forward.proofs.write_struct_using.Statement.{statement}

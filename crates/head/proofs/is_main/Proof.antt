@@ -1,3 +1,4 @@
+-- Written by tools/proofkit from answers/is_main.tpl (5123f08f 99c5999e).
 use borrow.Author.Needs.{needs}
 use Rattle.head.proofs.HeadLaws.{main-is, count-is}
 use Rattle.head.proofs.is_main.Statement.{statement}

@@ -1,3 +1,4 @@
+-- Written by tools/proofkit from answers/write_local_name.tpl (6b523b7f 9c0253b0).
 use borrow.Author.Needs.{needs}
 use Rattle.sink.proofs.SinkLaws.{wrote-length}
 use Rattle.head.proofs.HeadLaws.{local-name-written}

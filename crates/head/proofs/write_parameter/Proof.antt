@@ -1,3 +1,4 @@
+-- Written by tools/proofkit from answers/write_parameter.tpl (ebbc2d82 adb69064).
 use borrow.Author.Needs.{needs}
 use Rattle.sink.proofs.SinkLaws.{wrote-length}
 use Rattle.shape.proofs.TypeLaws.{here-yields}

@@ -1,3 +1,4 @@
+-- Written by tools/proofkit from answers/write_parameters.tpl (34f5d3b4 bd5632e7).
 use borrow.Author.Needs.{needs}
 use mathlib.Core.List.{_++_}
 use mathlib.Core.Bool.{false}

@@ -1,3 +1,4 @@
+-- Written by tools/proofkit from answers/write_return_type.tpl (aae668a0 b14a37bb).
 use borrow.Author.Needs.{needs}
 use Rattle.shape.proofs.FunctionLaws.{returned}
 use Rattle.head.proofs.HeadLaws.{return-gives, return-none}

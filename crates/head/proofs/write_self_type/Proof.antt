@@ -1,3 +1,4 @@
+-- Written by tools/proofkit from answers/write_self_type.tpl (518cc067 b3e3fd71).
 use borrow.Author.Needs.{needs}
 use Rattle.sink.proofs.SinkLaws.{_▷_}
 use Rattle.head.proofs.HeadLaws.{self-none, self-one}

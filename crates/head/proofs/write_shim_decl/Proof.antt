@@ -1,3 +1,4 @@
+-- Written by tools/proofkit from answers/write_shim_decl.tpl (7448e505 79db39e2).
 use borrow.Author.Needs.{needs}
 use Rattle.sink.proofs.SinkLaws.{wrote-length}
 use Rattle.head.proofs.HeadLaws.{head-written}

@@ -1,3 +1,4 @@
+-- Written by tools/proofkit from answers/write_shim_type.tpl (e8a68b6d 9406cb50).
 use borrow.Author.Needs.{needs}
 use mathlib.Core.Path.{sym, _∙_}
 use Rattle.sink.proofs.SinkLaws.{wrote-as}

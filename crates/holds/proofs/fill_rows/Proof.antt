@@ -1,3 +1,4 @@
+-- Written by tools/proofkit from answers/fill_rows.tpl (9803b912 7f4360a4).
 use native.Mathlib.Omega.{arith}
 use Prim.Native.Nat.{_-_, _≤_}
 use Rattle.view.specs.Values.{itemsAt}

@@ -1,3 +1,4 @@
+-- Written by tools/proofkit from answers/held_at.tpl (8a56957a d0f9909b).
 use borrow.Author.Needs.{needs}
 use Rattle.cursor.proofs.CheckLaws.{known}
 use Rattle.holds.proofs.FieldLaws.{yields-named, tells-by-name, tells-other}

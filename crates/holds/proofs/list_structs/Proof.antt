@@ -1,3 +1,4 @@
+-- Written by tools/proofkit from answers/list_structs.tpl (0df1eb9f 8be8604e).
 use native.Mathlib.Omega.{arith}
 use Prim.Native.Nat.{_-_, _≤_}
 use lib.ListN.{length}

@@ -1,3 +1,4 @@
+-- Written by tools/proofkit from answers/named_at.tpl (ff9f974b 0101f0fb).
 use borrow.Author.Needs.{needs}
 use native.Mathlib.Omega.{arith}
 use Rattle.cursor.proofs.WidthLaws.{width-le}

@@ -1,3 +1,4 @@
+-- Written by tools/proofkit from answers/put.tpl (ef8c6301 68f203f0).
 use borrow.Author.Needs.{needs}
 use Rattle.holds.proofs.PutLaws.{put-one, put-none}
 use Rattle.holds.proofs.put.Statement.{statement}

@@ -1,3 +1,4 @@
+-- Written by tools/proofkit from answers/put_fields.tpl (cde0c43e 1b79c451).
 use native.Mathlib.Omega.{arith}
 use Prim.Native.Nat.{_-_, _≤_}
 use lib.ListN.{length}

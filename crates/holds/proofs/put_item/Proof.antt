@@ -1,3 +1,4 @@
+-- Written by tools/proofkit from answers/put_item.tpl (c35b2561 81da2658).
 use borrow.Author.Needs.{needs}
 use mathlib.Core.Path.{sym, _∙_}
 use native.Mathlib.Omega.{arith}

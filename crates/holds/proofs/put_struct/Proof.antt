@@ -1,3 +1,4 @@
+-- Written by tools/proofkit from answers/put_struct.tpl (66909bff 46aad920).
 use borrow.Author.Needs.{needs}
 use native.Mathlib.Omega.{arith}
 use mathlib.Core.Path.{refl}

@@ -1,3 +1,4 @@
+-- Written by tools/proofkit from answers/struct_at.tpl (a2d71a7d 17d81976).
 use borrow.Author.Needs.{needs}
 use Rattle.holds.proofs.FieldLaws.{struct-told}
 use Rattle.holds.proofs.struct_at.Statement.{statement}

@@ -1,3 +1,4 @@
+-- Written by tools/proofkit from answers/check_argument.tpl (bb3e4279 153d52ca).
 use borrow.Author.Needs.{needs}
 use mathlib.Core.Path.{refl}
 use Rattle.format.specs.Decoding.{argument}

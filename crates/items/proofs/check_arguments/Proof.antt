@@ -1,3 +1,4 @@
+-- Written by tools/proofkit from answers/check_arguments.tpl (2d6c4dce b8f47c31).
 use borrow.Author.Needs.{needs}
 use native.Mathlib.Omega.{arith}
 use mathlib.Core.Path.{_≡_, sym, _∙_}

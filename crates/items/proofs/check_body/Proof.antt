@@ -1,3 +1,4 @@
+-- Written by tools/proofkit from answers/check_body.tpl (5935657b d19efdda).
 use borrow.Author.Needs.{needs}
 use mathlib.Core.Path.{refl}
 use Rattle.cursor.proofs.FieldLaws.{bit-checks}

@@ -1,3 +1,4 @@
+-- Written by tools/proofkit from answers/check_enum.tpl (bf289364 d892ebd2).
 use borrow.Author.Needs.{needs}
 use mathlib.Core.Path.{refl}
 use native.Mathlib.Omega.{arith}

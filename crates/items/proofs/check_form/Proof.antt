@@ -1,3 +1,4 @@
+-- Written by tools/proofkit from answers/check_form.tpl (4766aac1 0a8a6fbe).
 use borrow.Author.Needs.{needs}
 use mathlib.Core.Path.{refl}
 use borrow.Author.Tests.{eq-eqb, ne-eqb}

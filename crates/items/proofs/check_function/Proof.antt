@@ -1,3 +1,4 @@
+-- Written by tools/proofkit from answers/check_function.tpl (24e42c02 cc5cb962).
 use borrow.Author.Needs.{needs}
 use mathlib.Core.Path.{refl}
 use Rattle.format.specs.Decoding.{functionBody}

@@ -1,3 +1,4 @@
+-- Written by tools/proofkit from answers/check_indexes.tpl (90ae328d d7313e50).
 use borrow.Author.Needs.{needs}
 use native.Mathlib.Omega.{arith}
 use mathlib.Core.Path.{_≡_, sym, _∙_}

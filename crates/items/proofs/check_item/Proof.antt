@@ -1,3 +1,4 @@
+-- Written by tools/proofkit from answers/check_item.tpl (427270a9 94cc574e).
 use borrow.Author.Needs.{needs}
 use mathlib.Core.Path.{refl}
 use Rattle.format.specs.Decoding.{item}

@@ -1,3 +1,4 @@
+-- Written by tools/proofkit from answers/check_items.tpl (18b4c058 6c7748a8).
 use borrow.Author.Needs.{needs}
 use native.Mathlib.Omega.{arith}
 use mathlib.Core.Path.{_≡_, refl}

@@ -1,3 +1,4 @@
+-- Written by tools/proofkit from answers/check_namespace.tpl (95327487 85a54f30).
 use borrow.Author.Needs.{needs}
 use mathlib.Core.Path.{refl}
 use Rattle.format.specs.Decoding.{namespace}

@@ -1,3 +1,4 @@
+-- Written by tools/proofkit from answers/check_signature.tpl (d977a1db 79257369).
 use borrow.Author.Needs.{needs}
 use mathlib.Core.Path.{refl}
 use Rattle.cursor.proofs.FieldLaws.{value, cut}

@@ -1,3 +1,4 @@
+-- Written by tools/proofkit from answers/check_struct.tpl (bd3963b7 d855a75b).
 use borrow.Author.Needs.{needs}
 use mathlib.Core.Path.{refl}
 use Rattle.format.specs.Decoding.{structBody}

@@ -1,3 +1,4 @@
+-- Written by tools/proofkit from answers/kind_of.tpl (84c72324 75468c0f).
 use borrow.Author.Needs.{needs}
 use native.Mathlib.Omega.{arith}
 use mathlib.Core.Path.{sym}

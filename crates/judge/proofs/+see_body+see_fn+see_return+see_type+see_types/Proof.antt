@@ -1,3 +1,4 @@
+-- Written by tools/proofkit from answers/+see_body+see_fn+see_return+see_type+see_types.tpl (37952cf0 4e128f14).
 use borrow.Author.Needs.{needs}
 use Prim.Native.Nat.{ℕ, _+_, _-_, _*_, _<_, _≤_}
 use native.Mathlib.Omega.{arith}
@@ -52,8 +53,7 @@ abbrev see-body-at : ℕ → In 3 see-body-kinds.ps
 see-body-at t = and 3 see-body-kinds.ps (is 3 see-body-kinds.ps μ-see-body t) see-body.Pre
 
 abbrev see-body-below : ℕ → In 3 see-body-kinds.ps
-see-body-below t =
-    and 3 see-body-kinds.ps (falls 3 see-body-kinds.ps _<_ μ-see-body t) see-body.Pre
+see-body-below t = and 3 see-body-kinds.ps (falls 3 see-body-kinds.ps _<_ μ-see-body t) see-body.Pre
 
 abbrev see-fn-at : ℕ → In 3 see-fn-kinds.ps
 see-fn-at t = and 3 see-fn-kinds.ps (is 3 see-fn-kinds.ps μ-see-fn t) see-fn.Pre
@@ -62,26 +62,22 @@ abbrev see-fn-below : ℕ → In 3 see-fn-kinds.ps
 see-fn-below t = and 3 see-fn-kinds.ps (falls 3 see-fn-kinds.ps _<_ μ-see-fn t) see-fn.Pre
 
 abbrev see-return-at : ℕ → In 3 see-return-kinds.ps
-see-return-at t =
-    and 3 see-return-kinds.ps (is 3 see-return-kinds.ps μ-see-return t) see-return.Pre
+see-return-at t = and 3 see-return-kinds.ps (is 3 see-return-kinds.ps μ-see-return t) see-return.Pre
 
 abbrev see-return-below : ℕ → In 3 see-return-kinds.ps
-see-return-below t =
-    and 3 see-return-kinds.ps (falls 3 see-return-kinds.ps _<_ μ-see-return t) see-return.Pre
+see-return-below t = and 3 see-return-kinds.ps (falls 3 see-return-kinds.ps _<_ μ-see-return t) see-return.Pre
 
 abbrev see-type-at : ℕ → In 3 see-type-kinds.ps
 see-type-at t = and 3 see-type-kinds.ps (is 3 see-type-kinds.ps μ-see-type t) see-type.Pre
 
 abbrev see-type-below : ℕ → In 3 see-type-kinds.ps
-see-type-below t =
-    and 3 see-type-kinds.ps (falls 3 see-type-kinds.ps _<_ μ-see-type t) see-type.Pre
+see-type-below t = and 3 see-type-kinds.ps (falls 3 see-type-kinds.ps _<_ μ-see-type t) see-type.Pre
 
 abbrev see-types-at : ℕ → In 3 see-types-kinds.ps
 see-types-at t = and 3 see-types-kinds.ps (is 3 see-types-kinds.ps μ-see-types t) see-types.Pre
 
 abbrev see-types-below : ℕ → In 3 see-types-kinds.ps
-see-types-below t =
-    and 3 see-types-kinds.ps (falls 3 see-types-kinds.ps _<_ μ-see-types t) see-types.Pre
+see-types-below t = and 3 see-types-kinds.ps (falls 3 see-types-kinds.ps _<_ μ-see-types t) see-types.Pre
 
 abbrev K-see-body : ℕ → see-body-lts.Claims
 K-see-body t = (
@@ -210,7 +206,12 @@ see-type-returns-2 : (t : ℕ) → see-type-lts.Need-returns-2 (K-see-type t) (s
 see-type-returns-2 t c = type-seen _ _ _ _ _ (c .before .before .if1 .left) (c .before .before .before .field .ensures) (c .before .kind-of .ensures) (c .see-body .ensures)
 
 abbrev K-see-types : ℕ → see-types-lts.Claims
-K-see-types t = (see-type-below t, see-type.Post, either-reads.Asked, either-reads.Learnt)
+K-see-types t = (
+  see-type-below t,
+  see-type.Post,
+  either-reads.Asked,
+  either-reads.Learnt,
+)
 
 abbrev see-types-Inv-loop : see-types-lts.InvT-loop
 see-types-Inv-loop s names items levels n found₀ next₀ i₀ found next i = (i ≤ n) × Seeing (anyNamed (isFunctionAt s names items)) (typeAt (length items) (levels .left)) s n (next₀ .at) i found (next .at)

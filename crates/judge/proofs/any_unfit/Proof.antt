@@ -1,3 +1,4 @@
+-- Written by tools/proofkit from answers/any_unfit.tpl (bf3c2bd9 78a37ddb).
 use native.Mathlib.Omega.{arith}
 use mathlib.Core.Path.{_≡_, refl, sym, _∙_}
 use Prim.Native.Nat.{_≤_, _-_}

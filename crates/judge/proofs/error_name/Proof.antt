@@ -1,3 +1,4 @@
+-- Written by tools/proofkit from answers/error_name.tpl (db6ebcad 8c183122).
 use borrow.Author.Needs.{needs}
 use borrow.Author.Tests.{not-true, not-false}
 use Rattle.cursor.proofs.CheckLaws.{known}

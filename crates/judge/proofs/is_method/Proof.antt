@@ -1,3 +1,4 @@
+-- Written by tools/proofkit from answers/is_method.tpl (482d348a 1909d483).
 use borrow.Author.Tests.{eq-eqb, ne-eqb}
 use Rattle.judge.proofs.is_method.Statement.{statement}
 use Rattle.judge.proofs.is_method.Tie as tie

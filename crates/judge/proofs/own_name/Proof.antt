@@ -1,3 +1,4 @@
+-- Written by tools/proofkit from answers/own_name.tpl (6de7855f 3d503427).
 use borrow.Author.Needs.{needs}
 use Rattle.cursor.proofs.CheckLaws.{known}
 use Rattle.judge.proofs.own_name.Statement.{statement}

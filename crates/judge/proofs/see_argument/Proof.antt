@@ -1,3 +1,4 @@
+-- Written by tools/proofkit from answers/see_argument.tpl (2b243b24 b2ee3bae).
 use borrow.Author.Needs.{needs}
 use Rattle.cursor.proofs.WidthLaws.{width-le}
 use Rattle.judge.proofs.WrongLaws.{argument-seen}

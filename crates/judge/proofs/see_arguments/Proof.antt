@@ -1,3 +1,4 @@
+-- Written by tools/proofkit from answers/see_arguments.tpl (5e94ab28 46aefd94).
 use borrow.Author.Needs.{needs}
 use native.Mathlib.Omega.{arith}
 use mathlib.Core.Path.{_≡_}

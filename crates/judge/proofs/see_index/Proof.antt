@@ -1,3 +1,4 @@
+-- Written by tools/proofkit from answers/see_index.tpl (73bf44d5 d9832732).
 use borrow.Author.Needs.{needs}
 use Rattle.cursor.proofs.WidthLaws.{width-le}
 use Rattle.judge.proofs.SeeLaws.{is-function-at, index-seen, index-loose}

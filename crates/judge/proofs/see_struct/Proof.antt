@@ -1,3 +1,4 @@
+-- Written by tools/proofkit from answers/see_struct.tpl (db5b17eb 59760d11).
 use native.Mathlib.Omega.{arith}
 use Rattle.judge.proofs.WrongLaws.{struct-seen}
 use Rattle.judge.proofs.see_struct.Statement.{statement}

@@ -1,3 +1,4 @@
+-- Written by tools/proofkit from answers/unfit_argument.tpl (dd8f1768 17653783).
 use borrow.Author.Needs.{needs}
 use native.Mathlib.Omega.{arith}
 use mathlib.Core.Path.{_≡_, refl, sym, _∙_}

@@ -1,3 +1,4 @@
+-- Written by tools/proofkit from answers/unfit_at.tpl (a4e9a718 7f6b267f).
 use borrow.Author.Needs.{needs}
 use Rattle.cursor.proofs.CheckLaws.{known}
 use Rattle.judge.proofs.UnfitLaws.{type-yields, unfit-vector, unfit-self, unfit-error}

@@ -1,3 +1,4 @@
+-- Written by tools/proofkit from answers/unfit_item.tpl (8b72a8df 50d1108d).
 use borrow.Author.Needs.{needs}
 use borrow.Author.Tests.{not-true, not-false}
 use Rattle.cursor.proofs.CheckLaws.{known}

@@ -1,3 +1,4 @@
+-- Written by tools/proofkit from answers/wrong_function.tpl (e4678ee8 0149e99b).
 use Rattle.cursor.proofs.CheckLaws.{known}
 use Rattle.judge.proofs.WrongLaws.{sees-found}
 use Rattle.judge.proofs.wrong_function.Statement.{statement}

@@ -1,3 +1,4 @@
+-- Written by tools/proofkit from answers/wrong_item.tpl (b4de6d18 ef2dce22).
 use borrow.Author.Needs.{needs}
 use mathlib.Core.Path.{refl, sym, _∙_}
 use Rattle.judge.proofs.WrongLaws.{sees-found, struct-body, item-no-index}

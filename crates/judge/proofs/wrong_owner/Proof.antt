@@ -1,3 +1,4 @@
+-- Written by tools/proofkit from answers/wrong_owner.tpl (6b3d8d77 2bf8598d).
 use borrow.Author.Needs.{needs}
 use Rattle.judge.proofs.SeeLaws.{is-function-at}
 use Rattle.judge.proofs.WrongLaws.{owner-none, owner-some}

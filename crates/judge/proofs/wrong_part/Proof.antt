@@ -1,3 +1,4 @@
+-- Written by tools/proofkit from answers/wrong_part.tpl (56e8c432 7b2409fe).
 use borrow.Author.Needs.{needs}
 use native.Mathlib.Omega.{arith}
 use mathlib.Core.Path.{_≡_, refl, sym, _∙_}

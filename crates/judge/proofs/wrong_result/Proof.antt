@@ -1,3 +1,4 @@
+-- Written by tools/proofkit from answers/wrong_result.tpl (7b3326a9 6f674bca).
 use lib.ListN.{length}
 use Rattle.judge.proofs.WrongLaws.{result-seen, result-none}
 use Rattle.judge.proofs.wrong_result.Statement.{statement}

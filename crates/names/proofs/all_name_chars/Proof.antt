@@ -1,3 +1,4 @@
+-- Written by tools/proofkit from answers/all_name_chars.tpl (4aa3986b 58aa656c).
 use borrow.Author.Needs.{needs}
 use native.Mathlib.Omega.{arith}
 use mathlib.Core.Path.{_≡_, refl, sym, _∙_}

@@ -1,3 +1,4 @@
+-- Written by tools/proofkit from answers/check_name.tpl (712130b5 057a35a0).
 use borrow.Author.Needs.{needs}
 use native.Mathlib.Omega.{arith}
 use mathlib.Core.Path.{refl, sym}

@@ -1,3 +1,4 @@
+-- Written by tools/proofkit from answers/check_names.tpl (a9721384 3e2134d4).
 use borrow.Author.Needs.{needs}
 use native.Mathlib.Omega.{arith}
 use mathlib.Core.Path.{_≡_, refl}

@@ -1,3 +1,4 @@
+-- Written by tools/proofkit from answers/fetch.tpl (62d5b52c f44655aa).
 use borrow.Author.Needs.{needs}
 use Rattle.names.proofs.FetchLaws.{fetch-none, fetch-value}
 use Rattle.names.proofs.fetch.Statement.{statement}

@@ -1,3 +1,4 @@
+-- Written by tools/proofkit from answers/is_letter.tpl (65aa93c3 54226484).
 use borrow.Author.Needs.{needs}
 use Rattle.cursor.proofs.CheckLaws.{known}
 use Rattle.names.proofs.is_letter.Statement.{statement}

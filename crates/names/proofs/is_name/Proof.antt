@@ -1,3 +1,4 @@
+-- Written by tools/proofkit from answers/is_name.tpl (57db8a68 e20587a3).
 use borrow.Author.Needs.{needs}
 use borrow.Author.Tests.{not-true, not-false}
 use mathlib.Core.Path.{ap}

@@ -1,3 +1,4 @@
+-- Written by tools/proofkit from answers/is_name_char.tpl (d69afc84 f7d535f5).
 use borrow.Author.Needs.{needs}
 use Rattle.cursor.proofs.CheckLaws.{known}
 use Rattle.names.proofs.is_name_char.Statement.{statement}

@@ -1,3 +1,4 @@
+-- Written by tools/proofkit from answers/is_name_start.tpl (5e498543 65fa335e).
 use borrow.Author.Needs.{needs}
 use Rattle.cursor.proofs.CheckLaws.{known}
 use Rattle.names.proofs.is_name_start.Statement.{statement}

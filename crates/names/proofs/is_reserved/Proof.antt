@@ -1,3 +1,4 @@
+-- Written by tools/proofkit from answers/is_reserved.tpl (59a5bee4 c8a9aafa).
 use borrow.Author.Needs.{needs}
 use Rattle.names.specs.Words.{wordsOf, total}
 use Rattle.lexical.specs.Names.{reserved, keywords, alternativeTokens}

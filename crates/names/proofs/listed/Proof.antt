@@ -1,3 +1,4 @@
+-- Written by tools/proofkit from answers/listed.tpl (56c24536 4ad184b5).
 use borrow.Author.Needs.{needs}
 use native.Mathlib.Omega.{arith}
 use mathlib.Core.Path.{_≡_, refl, sym, ap, _∙_}

@@ -1,3 +1,4 @@
+-- Written by tools/proofkit from answers/alike.tpl (e5fe754b 6fd326c1).
 use borrow.Author.Needs.{needs}
 use mathlib.Core.Path.{sym}
 use Rattle.lexical.proofs.ByteLaws.{same-refl}

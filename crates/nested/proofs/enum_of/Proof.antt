@@ -1,3 +1,4 @@
+-- Written by tools/proofkit from answers/enum_of.tpl (c7e871d4 a069caec).
 use borrow.Author.Needs.{needs}
 use Rattle.nested.proofs.ViewLaws.{enum-there}
 use Rattle.nested.proofs.enum_of.Statement.{statement}

@@ -1,3 +1,4 @@
+-- Written by tools/proofkit from answers/is_direct.tpl (bcd71125 9c0f589d).
 use borrow.Author.Needs.{needs}
 use Rattle.lexical.proofs.BoolLaws.{not-true, not-false}
 use Rattle.nested.proofs.ViewLaws.{direct-none, direct-elsewhere, direct-shares}

@@ -1,3 +1,4 @@
+-- Written by tools/proofkit from answers/is_first.tpl (2e60de44 aae58573).
 use native.Mathlib.Omega.{arith}
 use mathlib.Core.Path.{_≡_}
 use mathlib.Core.Bool.{false}

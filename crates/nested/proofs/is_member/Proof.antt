@@ -1,3 +1,4 @@
+-- Written by tools/proofkit from answers/is_member.tpl (3d953b6e b88ee813).
 use borrow.Author.Needs.{needs}
 use Rattle.lexical.proofs.BoolLaws.{not-true, not-false}
 use Rattle.nested.proofs.ViewLaws.{member-none, member-shares}

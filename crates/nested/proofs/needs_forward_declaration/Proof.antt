@@ -1,3 +1,4 @@
+-- Written by tools/proofkit from answers/needs_forward_declaration.tpl (4328c8fe 0cdea716).
 use borrow.Author.Needs.{needs}
 use mathlib.Core.Path.{refl}
 use Rattle.nested.proofs.ViewLaws.{needs-kind, needs-enum, enum-kind}

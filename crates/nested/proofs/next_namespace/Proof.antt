@@ -1,3 +1,4 @@
+-- Written by tools/proofkit from answers/next_namespace.tpl (ee59bb07 5a68641e).
 use native.Mathlib.Omega.{arith}
 use mathlib.Core.Path.{_≡_, refl}
 use Prim.Native.Nat.{_≤_, _-_}

@@ -1,3 +1,4 @@
+-- Written by tools/proofkit from answers/opens.tpl (e9988c07 43d1eb89).
 use borrow.Author.Needs.{needs}
 use native.Mathlib.Omega.{arith}
 use Rattle.lexical.proofs.BoolLaws.{not-true, not-false}

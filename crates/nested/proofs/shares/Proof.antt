@@ -1,3 +1,4 @@
+-- Written by tools/proofkit from answers/shares.tpl (074a58bb 26e3365b).
 use native.Mathlib.Omega.{arith}
 use mathlib.Core.Path.{_≡_}
 use Prim.Native.Nat.{_≤_, _-_}

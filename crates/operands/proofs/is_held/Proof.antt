@@ -1,3 +1,4 @@
+-- Written by tools/proofkit from answers/is_held.tpl (67ecaac3 5cd99dbe).
 use Rattle.operands.proofs.OperandLaws.{held-string, held-other}
 use Rattle.operands.proofs.is_held.Statement.{statement}
 use Rattle.operands.proofs.is_held.Tie as tie

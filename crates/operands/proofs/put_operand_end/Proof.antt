@@ -1,3 +1,4 @@
+-- Written by tools/proofkit from answers/put_operand_end.tpl (8382116f ee12e15c).
 use borrow.Author.Needs.{needs}
 use Rattle.operands.proofs.OperandLaws.{end-by-kind}
 use Rattle.operands.proofs.put_operand_end.Statement.{statement}

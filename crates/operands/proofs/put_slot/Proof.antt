@@ -1,3 +1,4 @@
+-- Written by tools/proofkit from answers/put_slot.tpl (b6069867 5efdb247).
 use borrow.Author.Needs.{needs}
 use Rattle.sink.proofs.SinkLaws.{_▷_, wrote-nil}
 use Rattle.operands.proofs.put_slot.Statement.{statement}

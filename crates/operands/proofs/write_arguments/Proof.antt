@@ -1,3 +1,4 @@
+-- Written by tools/proofkit from answers/write_arguments.tpl (920cb928 12c89a1a).
 use borrow.Author.Needs.{needs}
 use Prim.Native.Nat.{_-_, _≤_}
 use native.Mathlib.Omega.{arith}

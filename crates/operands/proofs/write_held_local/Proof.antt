@@ -1,3 +1,4 @@
+-- Written by tools/proofkit from answers/write_held_local.tpl (483ca8d5 8cb4b126).
 use borrow.Author.Needs.{needs}
 use Rattle.shape.proofs.TypeLaws.{here-yields}
 use Rattle.operands.proofs.OperandLaws.{local-none, local-written}

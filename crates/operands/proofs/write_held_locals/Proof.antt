@@ -1,3 +1,4 @@
+-- Written by tools/proofkit from answers/write_held_locals.tpl (f0041846 57c7c4b2).
 use Prim.Native.Nat.{_-_, _≤_}
 use native.Mathlib.Omega.{arith}
 use Rattle.bridge.specs.Write.{heldLocal}

@@ -1,3 +1,4 @@
+-- Written by tools/proofkit from answers/write_local.tpl (7befa1c3 368905c7).
 use borrow.Author.Needs.{needs}
 use Rattle.sink.proofs.SinkLaws.{_▷_, wrote-length}
 use Rattle.operands.proofs.write_local.Statement.{statement}

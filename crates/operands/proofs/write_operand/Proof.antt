@@ -1,3 +1,4 @@
+-- Written by tools/proofkit from answers/write_operand.tpl (1aa4e0fc d2ffa532).
 use borrow.Author.Needs.{needs}
 use Rattle.sink.proofs.SinkLaws.{wrote-length}
 use Rattle.shape.proofs.TypeLaws.{here-yields}

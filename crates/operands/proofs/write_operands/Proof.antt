@@ -1,3 +1,4 @@
+-- Written by tools/proofkit from answers/write_operands.tpl (67a755d0 697ca67a).
 use borrow.Author.Needs.{needs}
 use Rattle.sink.proofs.SinkLaws.{wrote-length}
 use Rattle.operands.proofs.OperandLaws.{operands-written}

@@ -1,3 +1,4 @@
+-- Written by tools/proofkit from answers/order_of.tpl (99a5bffa 14f547bf).
 use borrow.Author.Needs.{needs}
 use mathlib.Core.Path.{sym, _∙_}
 use native.Mathlib.Omega.{arith}

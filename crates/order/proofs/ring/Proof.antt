@@ -1,3 +1,4 @@
+-- Written by tools/proofkit from answers/ring.tpl (99af15e9 85ada9eb).
 use borrow.Author.Needs.{needs}
 use Rattle.order.proofs.OrderLaws.{answered}
 use Rattle.order.proofs.ring.Statement.{statement}

@@ -1,3 +1,4 @@
+-- Written by tools/proofkit from answers/begin_extern_c.tpl (456d925a 7f186495).
 use Rattle.out.proofs.StateLaws.{begin-extern-c-room, begins-extern-c}
 use Rattle.out.proofs.begin_extern_c.Statement.{statement}
 use Rattle.out.proofs.begin_extern_c.Tie as tie

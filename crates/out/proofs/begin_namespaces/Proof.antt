@@ -1,3 +1,4 @@
+-- Written by tools/proofkit from answers/begin_namespaces.tpl (9484b7ff 8558f4b8).
 use native.Mathlib.Omega.{arith}
 use Prim.Native.Nat.{_-_}
 use Rattle.out.specs.State.{namespaceAt}

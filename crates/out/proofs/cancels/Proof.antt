@@ -1,3 +1,4 @@
+-- Written by tools/proofkit from answers/cancels.tpl (19554f5e 9245b74a).
 use borrow.Author.Needs.{needs}
 use Rattle.out.proofs.BlockLaws.{known-begin, known-end, begin-begin, begin-end, end-begin, end-end}
 use Rattle.out.proofs.cancels.Statement.{statement}

@@ -1,3 +1,4 @@
+-- Written by tools/proofkit from answers/end_extern_c.tpl (b2687355 a8dcc300).
 use Rattle.out.proofs.StateLaws.{end-extern-c-room, ends-extern-c}
 use Rattle.out.proofs.end_extern_c.Statement.{statement}
 use Rattle.out.proofs.end_extern_c.Tie as tie

@@ -1,3 +1,4 @@
+-- Written by tools/proofkit from answers/end_namespaces.tpl (5d740a4e 4e77c859).
 use native.Mathlib.Omega.{arith}
 use Rattle.out.proofs.StateLaws.{Ending, ending-none, ending-known, ending-listed, ending-room, ending-turn, ending-done}
 use Rattle.out.proofs.end_namespaces.Statement.{statement}

@@ -1,3 +1,4 @@
+-- Written by tools/proofkit from answers/flush.tpl (3d651fdb 4def0a6d).
 use borrow.Author.Needs.{needs}
 use Rattle.out.proofs.StateLaws.{no-spaces, sets-none}
 use Rattle.out.proofs.FlushLaws.{sets-listed, flushes}

@@ -1,3 +1,4 @@
+-- Written by tools/proofkit from answers/flush_all.tpl (a6361281 1dddfc3d).
 use borrow.Author.Needs.{needs}
 use native.Mathlib.Omega.{arith}
 use Prim.Native.Nat.{_-_}

@@ -1,3 +1,4 @@
+-- Written by tools/proofkit from answers/flush_blocks.tpl (97359399 09063b4f).
 use borrow.Author.Needs.{needs}
 use Rattle.out.proofs.FlushLaws.{flushing-none, flushing-some}
 use Rattle.out.proofs.flush_blocks.Statement.{statement}

@@ -1,3 +1,4 @@
+-- Written by tools/proofkit from answers/flush_boundary.tpl (4005c2c3 35e4040e).
 use borrow.Author.Needs.{needs}
 use Rattle.out.proofs.BlockLaws.{known-begin, known-end, begin-text, end-text}
 use Rattle.out.proofs.flush_boundary.Statement.{statement}

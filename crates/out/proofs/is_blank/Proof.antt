@@ -1,3 +1,4 @@
+-- Written by tools/proofkit from answers/is_blank.tpl (f34414ed fc6677b0).
 use borrow.Author.Needs.{needs}
 use Rattle.out.proofs.is_blank.Statement.{statement}
 use Rattle.out.proofs.is_blank.Tie as tie

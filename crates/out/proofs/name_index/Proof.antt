@@ -1,3 +1,4 @@
+-- Written by tools/proofkit from answers/name_index.tpl (6b2406f4 918220cc).
 use borrow.Author.Needs.{needs}
 use native.Mathlib.Omega.{arith}
 use Rattle.cursor.proofs.WidthLaws.{width-le}

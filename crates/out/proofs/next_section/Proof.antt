@@ -1,3 +1,4 @@
+-- Written by tools/proofkit from answers/next_section.tpl (258ae8ce dde0f68a).
 use Rattle.out.proofs.StateLaws.{asks-next}
 use Rattle.out.proofs.next_section.Statement.{statement}
 use Rattle.out.proofs.next_section.Tie as tie

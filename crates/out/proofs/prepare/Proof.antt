@@ -1,3 +1,4 @@
+-- Written by tools/proofkit from answers/prepare.tpl (0e8efe22 9d27a28a).
 use borrow.Author.Needs.{needs}
 use Rattle.out.proofs.FlushLaws.{prepares}
 use Rattle.out.proofs.prepare.Statement.{statement}

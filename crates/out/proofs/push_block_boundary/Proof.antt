@@ -1,3 +1,4 @@
+-- Written by tools/proofkit from answers/push_block_boundary.tpl (61d8eae8 868c0e2a).
 use borrow.Author.Needs.{needs}
 use mathlib.Core.Path.{sym, _∙_}
 use native.Mathlib.Omega.{arith}

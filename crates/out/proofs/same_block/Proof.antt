@@ -1,3 +1,4 @@
+-- Written by tools/proofkit from answers/same_block.tpl (961b7bdb 477a5d20).
 use borrow.Author.Needs.{needs}
 use Rattle.out.proofs.BlockLaws.{known-index, same-names}
 use Rattle.out.proofs.same_block.Statement.{statement}

@@ -1,3 +1,4 @@
+-- Written by tools/proofkit from answers/set_namespace.tpl (7e7f89a8 cf924038).
 use Rattle.out.proofs.StateLaws.{item-spaces, sets-item}
 use Rattle.out.proofs.set_namespace.Statement.{statement}
 use Rattle.out.proofs.set_namespace.Tie as tie

@@ -1,3 +1,4 @@
+-- Written by tools/proofkit from answers/set_spaces.tpl (6e8546c2 bd8ca603).
 use borrow.Author.Needs.{needs}
 use Rattle.out.proofs.StateLaws.{standing-turned, sets}
 use Rattle.out.proofs.set_spaces.Statement.{statement}

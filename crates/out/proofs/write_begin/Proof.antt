@@ -1,3 +1,4 @@
+-- Written by tools/proofkit from answers/write_begin.tpl (96b06a5d 230a4310).
 use borrow.Author.Needs.{needs}
 use Rattle.sink.proofs.SinkLaws.{_▷_}
 use Rattle.out.proofs.write_begin.Statement.{statement}

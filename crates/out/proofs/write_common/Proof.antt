@@ -1,3 +1,4 @@
+-- Written by tools/proofkit from answers/write_common.tpl (464b1e98 63e6d49f).
 use borrow.Author.Needs.{needs}
 use Rattle.out.proofs.BlockLaws.{known-index, common-name, common-extern-c}
 use Rattle.out.proofs.write_common.Statement.{statement}

@@ -1,3 +1,4 @@
+-- Written by tools/proofkit from answers/write_end.tpl (81481d7f 95d186d0).
 use borrow.Author.Needs.{needs}
 use Rattle.sink.proofs.SinkLaws.{_▷_}
 use Rattle.out.proofs.write_end.Statement.{statement}

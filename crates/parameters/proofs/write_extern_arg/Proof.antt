@@ -1,3 +1,4 @@
+-- Written by tools/proofkit from answers/write_extern_arg.tpl (a33e4c66 00b653f0).
 use borrow.Author.Needs.{needs}
 use Rattle.shape.proofs.TypeLaws.{here-yields}
 use Rattle.parameters.proofs.ParameterLaws.{argument-written}

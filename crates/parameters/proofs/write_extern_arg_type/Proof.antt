@@ -1,3 +1,4 @@
+-- Written by tools/proofkit from answers/write_extern_arg_type.tpl (65478d8f 925b87b3).
 use borrow.Author.Needs.{needs}
 use mathlib.Core.Path.{refl}
 use Rattle.shape.proofs.ShapeLaws.{has-inner}

@@ -1,3 +1,4 @@
+-- Written by tools/proofkit from answers/write_extern_args.tpl (9a3e517c f29cf3d7).
 use borrow.Author.Needs.{needs}
 use Prim.Native.Nat.{_≤_, _-_}
 use native.Mathlib.Omega.{arith}

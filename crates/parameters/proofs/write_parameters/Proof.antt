@@ -1,3 +1,4 @@
+-- Written by tools/proofkit from answers/write_parameters.tpl (662c3f22 2f539300).
 use borrow.Author.Needs.{needs}
 use Rattle.parameters.proofs.ParameterLaws.{parameters}
 use Rattle.parameters.proofs.write_parameters.Statement.{statement}

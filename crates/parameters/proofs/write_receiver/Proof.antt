@@ -1,3 +1,4 @@
+-- Written by tools/proofkit from answers/write_receiver.tpl (f7ba5eae 7d8a1090).
 use borrow.Author.Needs.{needs}
 use Rattle.sink.proofs.SinkLaws.{_▷_, wrote-nil, wrote-as}
 use Rattle.parameters.proofs.ParameterLaws.{receiver-some, receiver-none, receiver-owner}

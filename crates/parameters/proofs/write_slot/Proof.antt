@@ -1,3 +1,4 @@
+-- Written by tools/proofkit from answers/write_slot.tpl (96584da4 343713ff).
 use borrow.Author.Needs.{needs}
 use Rattle.shape.proofs.FunctionLaws.{returned, indirect-returns}
 use Rattle.parameters.proofs.ParameterLaws.{slot-written, slot-left}

@@ -1,3 +1,4 @@
+-- Written by tools/proofkit from answers/write_slot_parameter.tpl (75e3b75c 3a513408).
 use borrow.Author.Needs.{needs}
 use Rattle.sink.proofs.SinkLaws.{_▷_}
 use Rattle.parameters.proofs.write_slot_parameter.Statement.{statement}

@@ -1,3 +1,4 @@
+-- Written by tools/proofkit from answers/write_space_after_type.tpl (e7486523 bf953bc8).
 use borrow.Author.Needs.{needs}
 use lib.ListN.{length}
 use Rattle.view.specs.Values.{typeHere}

@@ -1,3 +1,4 @@
+-- Written by tools/proofkit from answers/put_chars.tpl (f89a2a30 2876a627).
 use borrow.Author.Needs.{needs}
 use native.Mathlib.Omega.{arith}
 use Rattle.sink.specs.Sink.{sink}

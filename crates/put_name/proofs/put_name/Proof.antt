@@ -1,3 +1,4 @@
+-- Written by tools/proofkit from answers/put_name.tpl (a5beefb7 cede59b5).
 use borrow.Author.Needs.{needs}
 use native.Mathlib.Omega.{arith}
 use Rattle.sink.proofs.SinkLaws.{wrote-as}

@@ -1,3 +1,4 @@
+-- Written by tools/proofkit from answers/put_name_of.tpl (d09a6d4c fc132a83).
 use borrow.Author.Needs.{needs}
 use native.Mathlib.Omega.{arith}
 use Rattle.put_name.proofs.put_name_of.Statement.{statement}

@@ -1,3 +1,4 @@
+-- Written by tools/proofkit from answers/put_ones.tpl (52ce4328 68c3fab8).
 use borrow.Author.Needs.{needs}
 use native.Mathlib.Omega.{arith}
 use Rattle.sink.specs.Sink.{sink}

@@ -1,3 +1,4 @@
+-- Written by tools/proofkit from answers/is_hidden.tpl (07b1e05e a7019dbc).
 use Rattle.sections.proofs.ShimLaws.{hidden-free, hidden-method}
 use Rattle.sections.proofs.is_hidden.Statement.{statement}
 use Rattle.sections.proofs.is_hidden.Tie as tie

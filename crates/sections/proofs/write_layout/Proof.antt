@@ -1,3 +1,4 @@
+-- Written by tools/proofkit from answers/write_layout.tpl (e4a8ad18 ed3fa76a).
 use borrow.Author.Needs.{needs}
 use Rattle.pieces.proofs.TextPieces.{some-layout-definition}
 use Rattle.sections.proofs.StateLaws.{held-stood, stood-asked, stood-listed, runs-asked, runs-written, runs-then}

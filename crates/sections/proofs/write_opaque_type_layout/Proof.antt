@@ -1,3 +1,4 @@
+-- Written by tools/proofkit from answers/write_opaque_type_layout.tpl (9d8b8c06 ae308977).
 use borrow.Author.Needs.{needs}
 use Rattle.bridge.specs.Write.{writeOpaqueTypeLayout}
 use Rattle.sections.proofs.StateLaws.{held-after, held-stood, stood-standing, runs-set, runs-then}

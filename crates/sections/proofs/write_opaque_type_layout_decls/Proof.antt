@@ -1,3 +1,4 @@
+-- Written by tools/proofkit from answers/write_opaque_type_layout_decls.tpl (861a7d7b 143f300f).
 use borrow.Author.Needs.{needs}
 use native.Mathlib.Omega.{arith}
 use Rattle.bridge.specs.Write.{writeOpaqueTypeLayoutDecls}

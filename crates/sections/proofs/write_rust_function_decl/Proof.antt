@@ -1,3 +1,4 @@
+-- Written by tools/proofkit from answers/write_rust_function_decl.tpl (bee221c6 40843562).
 use borrow.Author.Needs.{needs}
 use native.Mathlib.Omega.{arith}
 use Rattle.bridge.specs.Write.{writeRustFunctionDecl}

@@ -1,3 +1,4 @@
+-- Written by tools/proofkit from answers/write_rust_function_shim.tpl (a6f10855 05a82729).
 use borrow.Author.Needs.{needs}
 use native.Mathlib.Omega.{arith}
 use mathlib.Core.Path.{sym, _∙_}

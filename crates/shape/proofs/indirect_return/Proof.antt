@@ -1,3 +1,4 @@
+-- Written by tools/proofkit from answers/indirect_return.tpl (714704ae 171878ad).
 use Rattle.shape.proofs.FunctionLaws.{returned, slot-none, slot-throws, slot-by-type}
 use Rattle.shape.proofs.indirect_return.Statement.{statement}
 use Rattle.shape.proofs.indirect_return.Tie as tie

@@ -1,3 +1,4 @@
+-- Written by tools/proofkit from answers/is_method.tpl (f15cba48 e93da9f5).
 use Rattle.shape.proofs.FunctionLaws.{method-const, method-other}
 use Rattle.shape.proofs.is_method.Statement.{statement}
 use Rattle.shape.proofs.is_method.Tie as tie

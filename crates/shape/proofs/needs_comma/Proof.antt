@@ -1,3 +1,4 @@
+-- Written by tools/proofkit from answers/needs_comma.tpl (38f8d14e f2cc7ea2).
 use mathlib.Core.Path.{refl}
 use Rattle.shape.proofs.needs_comma.Statement.{statement}
 use Rattle.shape.proofs.needs_comma.Tie as tie

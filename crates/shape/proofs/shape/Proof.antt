@@ -1,3 +1,4 @@
+-- Written by tools/proofkit from answers/shape.tpl (d1aeb0d0 a89fa6a4).
 use borrow.Author.Needs.{needs}
 use Rattle.shape.proofs.ShapeLaws.{shape-plain, shape-reference}
 use Rattle.shape.proofs.shape.Statement.{statement}

@@ -1,3 +1,4 @@
+-- Written by tools/proofkit from answers/write_outermost.tpl (85757f9b 4b39dad2).
 use borrow.Author.Needs.{needs}
 use Rattle.write_type.proofs.TypeLaws.{outermost-yields}
 use Rattle.shape.proofs.TypeLaws.{type-at}

@@ -1,3 +1,4 @@
+-- Written by tools/proofkit from answers/write_outermost_space.tpl (3d3f5efa 44f5de7c).
 use borrow.Author.Needs.{needs}
 use Rattle.write_type.proofs.TypeLaws.{outermost-yields}
 use Rattle.shape.proofs.TypeLaws.{type-at}

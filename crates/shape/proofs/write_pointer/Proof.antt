@@ -1,3 +1,4 @@
+-- Written by tools/proofkit from answers/write_pointer.tpl (cf5a361c 6b81a477).
 use borrow.Author.Needs.{needs}
 use Rattle.sink.proofs.SinkLaws.{_▷_}
 use Rattle.shape.proofs.write_pointer.Statement.{statement}

@@ -1,3 +1,4 @@
+-- Written by tools/proofkit from answers/write_slot_type.tpl (0048d32c 10b965fb).
 use borrow.Author.Needs.{needs}
 use mathlib.Core.Path.{refl}
 use Rattle.shape.proofs.ShapeLaws.{has-inner, slot-type}

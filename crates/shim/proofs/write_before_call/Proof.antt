@@ -1,3 +1,4 @@
+-- Written by tools/proofkit from answers/write_before_call.tpl (dde067e1 d3fd95a5).
 use borrow.Author.Needs.{needs}
 use Rattle.sink.proofs.SinkLaws.{wrote-length}
 use Rattle.shim.proofs.ShimLaws.{slot-yields, direct-yields, before-call-written}

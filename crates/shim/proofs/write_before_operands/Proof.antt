@@ -1,3 +1,4 @@
+-- Written by tools/proofkit from answers/write_before_operands.tpl (c22ff1ae 56e5bd19).
 use borrow.Author.Needs.{needs}
 use Rattle.sink.proofs.SinkLaws.{wrote-length}
 use Rattle.shim.proofs.ShimLaws.{before-operands-written}

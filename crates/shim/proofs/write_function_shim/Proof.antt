@@ -1,3 +1,4 @@
+-- Written by tools/proofkit from answers/write_function_shim.tpl (57ff713a 330693f3).
 use Rattle.sink.proofs.SinkLaws.{wrote-length}
 use Rattle.shim.proofs.ShimLaws.{shim-written}
 use Rattle.shim.proofs.write_function_shim.Statement.{statement}

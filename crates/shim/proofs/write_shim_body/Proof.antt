@@ -1,3 +1,4 @@
+-- Written by tools/proofkit from answers/write_shim_body.tpl (eb9fe267 62acaff7).
 use borrow.Author.Needs.{needs}
 use Rattle.sink.proofs.SinkLaws.{wrote-length}
 use Rattle.shim.proofs.ShimLaws.{slot-yields, body-written}

@@ -1,3 +1,4 @@
+-- Written by tools/proofkit from answers/write_shim_doc.tpl (30069b6e 8d54077e).
 use borrow.Author.Needs.{needs}
 use Rattle.shim.proofs.ShimLaws.{comment-yields, comment-written, comment-none}
 use Rattle.shim.proofs.write_shim_doc.Statement.{statement}

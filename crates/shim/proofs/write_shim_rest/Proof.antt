@@ -1,3 +1,4 @@
+-- Written by tools/proofkit from answers/write_shim_rest.tpl (d1a2cbb6 3dbcee28).
 use borrow.Author.Needs.{needs}
 use Rattle.call.proofs.CallLaws.{first-text, second-text}
 use Rattle.shim.proofs.write_shim_rest.Statement.{statement}

@@ -1,3 +1,4 @@
+-- Written by tools/proofkit from answers/write_through_call.tpl (29a3c407 8db0b85c).
 use borrow.Author.Needs.{needs}
 use Rattle.sink.proofs.SinkLaws.{wrote-length}
 use Rattle.shim.proofs.ShimLaws.{direct-yields, through-call-written}

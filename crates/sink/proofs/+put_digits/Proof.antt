@@ -1,3 +1,4 @@
+-- Written by tools/proofkit from answers/+put_digits.tpl (dd949793 b921dea0).
 use borrow.Author.Needs.{needs}
 use native.Mathlib.Omega.{arith}
 use Prim.Native.Nat.{ℕ, _<_}

@@ -1,3 +1,4 @@
+-- Written by tools/proofkit from answers/copy_at.tpl (c7577aa4 3599a563).
 use borrow.Author.Needs.{needs}
 use native.Mathlib.Omega.{arith}
 use Prim.Native.Nat.{_≤_, _-_}

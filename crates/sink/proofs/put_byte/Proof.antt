@@ -1,3 +1,4 @@
+-- Written by tools/proofkit from answers/put_byte.tpl (c5487e4d affa0a95).
 use borrow.Author.Needs.{needs}
 use native.Mathlib.Omega.{arith}
 use lib.ListN.{length-set}

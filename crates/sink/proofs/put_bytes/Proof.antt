@@ -1,3 +1,4 @@
+-- Written by tools/proofkit from answers/put_bytes.tpl (ea4404ac b163fc29).
 use borrow.Author.Needs.{needs}
 use denote.Ref.{now}
 use native.Mathlib.Omega.{arith}

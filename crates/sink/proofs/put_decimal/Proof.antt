@@ -1,3 +1,4 @@
+-- Written by tools/proofkit from answers/put_decimal.tpl (a3ad4c34 ab244a71).
 use borrow.Author.Needs.{needs}
 use Rattle.lexical.specs.Decimal.{decimal}
 use Rattle.sink.proofs.put_decimal.Statement.{statement}

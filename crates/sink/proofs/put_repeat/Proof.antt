@@ -1,3 +1,4 @@
+-- Written by tools/proofkit from answers/put_repeat.tpl (6cd7dd74 c34fcba8).
 use borrow.Author.Needs.{needs}
 use native.Mathlib.Omega.{arith}
 use Prim.Native.Nat.{_≤_, _-_}

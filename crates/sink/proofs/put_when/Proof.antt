@@ -1,3 +1,4 @@
+-- Written by tools/proofkit from answers/put_when.tpl (d275296d cb888cd0).
 use borrow.Author.Needs.{needs}
 use Rattle.sink.proofs.SinkLaws.{wrote-nil}
 use Rattle.sink.proofs.put_when.Statement.{statement}

@@ -1,3 +1,4 @@
+-- Written by tools/proofkit from answers/answer.tpl (fa418e4b f413e322).
 use borrow.Author.Needs.{needs}
 use Rattle.decode.proofs.AnswerLaws.{refused, whole}
 use Rattle.struct_order.proofs.ServeLaws.{orders-undecoded}

@@ -1,3 +1,4 @@
+-- Written by tools/proofkit from answers/list_order.tpl (c7fbf5f5 7738fabd).
 use borrow.Author.Needs.{needs}
 use native.Mathlib.Omega.{arith}
 use mathlib.Core.Path.{sym}

@@ -1,3 +1,4 @@
+-- Written by tools/proofkit from answers/order_decoded.tpl (216a205a 431a27eb).
 use borrow.Author.Needs.{needs}
 use native.Mathlib.Omega.{arith}
 use mathlib.Core.Path.{sym}

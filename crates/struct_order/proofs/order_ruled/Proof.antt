@@ -1,3 +1,4 @@
+-- Written by tools/proofkit from answers/order_ruled.tpl (64dee0ca 47250867).
 use borrow.Author.Needs.{needs}
 use Rattle.struct_order.proofs.ServeLaws.{orders-unruled, orders-listed}
 use Rattle.struct_order.proofs.order_ruled.Statement.{statement}

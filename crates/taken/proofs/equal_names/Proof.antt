@@ -1,3 +1,4 @@
+-- Written by tools/proofkit from answers/equal_names.tpl (d107ab25 d6542647).
 use borrow.Author.Needs.{needs}
 use native.Mathlib.Omega.{arith}
 use mathlib.Core.Path.{_≡_, refl, sym, _∙_}

@@ -1,3 +1,4 @@
+-- Written by tools/proofkit from answers/fill_names.tpl (32bd9b9c dc00d499).
 use borrow.Author.Needs.{needs}
 use native.Mathlib.Omega.{arith}
 use mathlib.Core.Path.{_≡_, refl}

@@ -1,3 +1,4 @@
+-- Written by tools/proofkit from answers/repeats.tpl (1719da12 9c099d7f).
 use native.Mathlib.Omega.{arith}
 use mathlib.Core.Path.{_≡_, refl, sym, _∙_}
 use Prim.Native.Nat.{_≤_, _-_}

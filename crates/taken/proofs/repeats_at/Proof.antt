@@ -1,3 +1,4 @@
+-- Written by tools/proofkit from answers/repeats_at.tpl (81e84d46 009cb49f).
 use borrow.Author.Needs.{needs}
 use mathlib.Core.Path.{sym, _∙_}
 use Rattle.clash.proofs.ItemLaws.{function-kind}

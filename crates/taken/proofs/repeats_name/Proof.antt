@@ -1,3 +1,4 @@
+-- Written by tools/proofkit from answers/repeats_name.tpl (406d69df 6a0ad29e).
 use borrow.Author.Needs.{needs}
 use native.Mathlib.Omega.{arith}
 use Rattle.taken.proofs.repeats_name.Statement.{statement}

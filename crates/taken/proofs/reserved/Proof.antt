@@ -1,3 +1,4 @@
+-- Written by tools/proofkit from answers/reserved.tpl (472d76ef 558c1ccd).
 use native.Mathlib.Omega.{arith}
 use mathlib.Core.Path.{_≡_, refl, sym, _∙_}
 use Prim.Native.Nat.{_≤_, _-_}

@@ -1,3 +1,4 @@
+-- Written by tools/proofkit from answers/reserved_at.tpl (60d38ac3 7f2a2582).
 use borrow.Author.Needs.{needs}
 use Rattle.taken.proofs.ReservedLaws.{no-namespace, in-std, in-rust}
 use Rattle.taken.proofs.reserved_at.Statement.{statement}

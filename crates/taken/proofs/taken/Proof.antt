@@ -1,3 +1,4 @@
+-- Written by tools/proofkit from answers/taken.tpl (982b23e5 2be922c5).
 use borrow.Author.Needs.{needs}
 use Rattle.taken.proofs.TakenLaws.{taken-reserved, taken-clash, taken-argument}
 use Rattle.taken.proofs.taken.Statement.{statement}

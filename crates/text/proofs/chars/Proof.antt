@@ -1,3 +1,4 @@
+-- Written by tools/proofkit from answers/chars.tpl (2b3f21b0 e40d7668).
 use borrow.Author.Needs.{needs}
 use native.Mathlib.Omega.{arith}
 use mathlib.Core.Path.{_≡_, refl}

@@ -1,3 +1,4 @@
+-- Written by tools/proofkit from answers/equal.tpl (f4593ae2 78734344).
 use native.Mathlib.Omega.{arith}
 use mathlib.Core.Path.{_≡_, refl, sym, _∙_}
 use Prim.Native.Nat.{_-_, _≤_}

@@ -1,3 +1,4 @@
+-- Written by tools/proofkit from answers/in_range.tpl (267f062d 72d1d786).
 use borrow.Author.Tests.{le-leb, lt-leb}
 use Rattle.text.proofs.in_range.Statement.{statement}
 use Rattle.text.proofs.in_range.Tie as tie

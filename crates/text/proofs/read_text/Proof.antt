@@ -1,3 +1,4 @@
+-- Written by tools/proofkit from answers/read_text.tpl (e29c0cd1 4333782e).
 use borrow.Author.Needs.{needs}
 use native.Mathlib.Omega.{arith}
 use Rattle.cursor.proofs.FieldLaws.{value, cut, field-lt}

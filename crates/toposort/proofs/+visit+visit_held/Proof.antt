@@ -1,3 +1,4 @@
+-- Written by tools/proofkit from answers/+visit+visit_held.tpl (f78d28af cd9ef546).
 -- `visit` and `visit_held` meet their contracts. The number that falls: the levels, and a bit for which of the two runs.
 use borrow.Author.Needs.{needs}
 use native.Mathlib.Omega.{arith}
@@ -35,12 +36,10 @@ abbrev visit-below : ℕ → In 4 visit-kinds.ps
 visit-below t = and 4 visit-kinds.ps (falls 4 visit-kinds.ps _<_ μ-visit t) visit.Pre
 
 abbrev visit-held-at : ℕ → In 4 visit-held-kinds.ps
-visit-held-at t =
-    and 4 visit-held-kinds.ps (is 4 visit-held-kinds.ps μ-visit-held t) visit-held.Pre
+visit-held-at t = and 4 visit-held-kinds.ps (is 4 visit-held-kinds.ps μ-visit-held t) visit-held.Pre
 
 abbrev visit-held-below : ℕ → In 4 visit-held-kinds.ps
-visit-held-below t =
-    and 4 visit-held-kinds.ps (falls 4 visit-held-kinds.ps _<_ μ-visit-held t) visit-held.Pre
+visit-held-below t = and 4 visit-held-kinds.ps (falls 4 visit-held-kinds.ps _<_ μ-visit-held t) visit-held.Pre
 
 abbrev K-visit : ℕ → visit-lts.Claims
 K-visit t = (
@@ -129,8 +128,7 @@ visit-held-element-copy-out-wide t c =
     omega (arith, p .1 .size)
 
 visit-held-visit-requires : (t : ℕ) → visit-held-lts.Need-visit-requires (K-visit-held t) (visit-held-at t) visit-held.Post visit-held-Inv-loop visit-held-μ-loop
-visit-held-visit-requires t c κs =
-    (omega arith, (c .before .before .wide .ensures .1, c .before .before .before .before .before .before .before .before .before .before .pre .1 .1, c .before .before .before .before .before .loop .inv .1 .room))
+visit-held-visit-requires t c κs = (omega arith, (c .before .before .wide .ensures .1, c .before .before .before .before .before .before .before .before .before .before .pre .1 .1, c .before .before .before .before .before .loop .inv .1 .room))
 
 visit-held-returns : (t : ℕ) → visit-held-lts.Need-returns (K-visit-held t) (visit-held-at t) visit-held.Post visit-held-Inv-loop visit-held-μ-loop
 visit-held-returns t c =
@@ -146,8 +144,7 @@ visit-held-loop-again t c =
     (v .0, going-next within (c .before .before .before .before .before .before .wide .ensures .1) now (visited-as (c .before .r .given .1) (c .before .before .before .visit .ensures)))
 
 visit-held-returns-2 : (t : ℕ) → visit-held-lts.Need-returns-2 (K-visit-held t) (visit-held-at t) visit-held.Post visit-held-Inv-loop visit-held-μ-loop
-visit-held-returns-2 t c =
-    all-done (c .before .before .before .before .before .before .pre .1 .2 .order) (going-as (part-end _ _ _ (c .loop-test .left)) (c .before .loop .inv .1))
+visit-held-returns-2 t c = all-done (c .before .before .before .before .before .before .pre .1 .2 .order) (going-as (part-end _ _ _ (c .loop-test .left)) (c .before .loop .inv .1))
 
 pub +visit+visit-held-spec : {M : Type 1} → statement M
 +visit+visit-held-spec =

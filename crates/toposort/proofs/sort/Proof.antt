@@ -1,3 +1,4 @@
+-- Written by tools/proofkit from answers/sort.tpl (d3efc23b 2536f92c).
 -- `sort` meets its contract. The invariant: what is left of js goes on to the whole sort.
 use borrow.Author.Needs.{needs}
 use Prim.Native.Nat.{_-_}
@@ -9,8 +10,7 @@ use Rattle.toposort.proofs.sort.Statement.{statement}
 use Rattle.toposort.proofs.sort.Tie as tie
 
 abbrev Inv-loop : tie.InvT-loop
-Inv-loop starts held js marks₀ order₀ e₀ k₀ marks order e k =
-    Going (graphOf starts held) 256 (sort (graphOf starts held) 256 js) (drop k js) marks order e
+Inv-loop starts held js marks₀ order₀ e₀ k₀ marks order e k = Going (graphOf starts held) 256 (sort (graphOf starts held) 256 js) (drop k js) marks order e
 
 abbrev μ-loop : tie.MeasureT-loop
 μ-loop starts held js marks₀ order₀ e₀ k₀ marks order e k = length js - k
@@ -19,8 +19,7 @@ loop-holds : tie.Need-loop-holds Inv-loop μ-loop
 loop-holds c = let p = c .before .pre in sort-start (p .1) (p .2)
 
 visit-requires : tie.Need-visit-requires Inv-loop μ-loop
-visit-requires c κs =
-    (c .before .before .wide .ensures .1, c .before .before .before .before .before .before .before .pre .0, c .before .before .before .before .before .loop .inv .room)
+visit-requires c κs = (c .before .before .wide .ensures .1, c .before .before .before .before .before .before .before .pre .0, c .before .before .before .before .before .loop .inv .room)
 
 returns : tie.Need-returns Inv-loop μ-loop
 returns c =
@@ -34,8 +33,7 @@ loop-again c =
     going-next within (c .before .before .before .before .before .before .wide .ensures .1) now (visited-as (c .before .r .given .1) (c .before .before .before .visit .ensures))
 
 returns-2 : tie.Need-returns-2 Inv-loop μ-loop
-returns-2 c =
-    sorted-done (going-as (drop-of-length-le _ (c .loop-test .left)) (c .before .loop .inv))
+returns-2 c = sorted-done (going-as (drop-of-length-le _ (c .loop-test .left)) (c .before .loop .inv))
 
 pub sort-spec : {M : Type 1} → statement M
 sort-spec =

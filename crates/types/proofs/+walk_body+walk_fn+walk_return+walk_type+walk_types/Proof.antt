@@ -1,3 +1,4 @@
+-- Written by tools/proofkit from answers/+walk_body+walk_fn+walk_return+walk_type+walk_types.tpl (1ae91012 6d0bef62).
 use borrow.Author.Needs.{needs}
 use Prim.Native.Nat.{ℕ, _+_, _-_, _*_, _<_, _≤_}
 use native.Mathlib.Omega.{arith}
@@ -53,8 +54,7 @@ abbrev walk-body-at : ℕ → In 1 walk-body-kinds.ps
 walk-body-at t = and 1 walk-body-kinds.ps (is 1 walk-body-kinds.ps μ-walk-body t) walk-body.Pre
 
 abbrev walk-body-below : ℕ → In 1 walk-body-kinds.ps
-walk-body-below t =
-    and 1 walk-body-kinds.ps (falls 1 walk-body-kinds.ps _<_ μ-walk-body t) walk-body.Pre
+walk-body-below t = and 1 walk-body-kinds.ps (falls 1 walk-body-kinds.ps _<_ μ-walk-body t) walk-body.Pre
 
 abbrev walk-fn-at : ℕ → In 1 walk-fn-kinds.ps
 walk-fn-at t = and 1 walk-fn-kinds.ps (is 1 walk-fn-kinds.ps μ-walk-fn t) walk-fn.Pre
@@ -63,27 +63,22 @@ abbrev walk-fn-below : ℕ → In 1 walk-fn-kinds.ps
 walk-fn-below t = and 1 walk-fn-kinds.ps (falls 1 walk-fn-kinds.ps _<_ μ-walk-fn t) walk-fn.Pre
 
 abbrev walk-return-at : ℕ → In 1 walk-return-kinds.ps
-walk-return-at t =
-    and 1 walk-return-kinds.ps (is 1 walk-return-kinds.ps μ-walk-return t) walk-return.Pre
+walk-return-at t = and 1 walk-return-kinds.ps (is 1 walk-return-kinds.ps μ-walk-return t) walk-return.Pre
 
 abbrev walk-return-below : ℕ → In 1 walk-return-kinds.ps
-walk-return-below t =
-    and 1 walk-return-kinds.ps (falls 1 walk-return-kinds.ps _<_ μ-walk-return t) walk-return.Pre
+walk-return-below t = and 1 walk-return-kinds.ps (falls 1 walk-return-kinds.ps _<_ μ-walk-return t) walk-return.Pre
 
 abbrev walk-type-at : ℕ → In 1 walk-type-kinds.ps
 walk-type-at t = and 1 walk-type-kinds.ps (is 1 walk-type-kinds.ps μ-walk-type t) walk-type.Pre
 
 abbrev walk-type-below : ℕ → In 1 walk-type-kinds.ps
-walk-type-below t =
-    and 1 walk-type-kinds.ps (falls 1 walk-type-kinds.ps _<_ μ-walk-type t) walk-type.Pre
+walk-type-below t = and 1 walk-type-kinds.ps (falls 1 walk-type-kinds.ps _<_ μ-walk-type t) walk-type.Pre
 
 abbrev walk-types-at : ℕ → In 1 walk-types-kinds.ps
-walk-types-at t =
-    and 1 walk-types-kinds.ps (is 1 walk-types-kinds.ps μ-walk-types t) walk-types.Pre
+walk-types-at t = and 1 walk-types-kinds.ps (is 1 walk-types-kinds.ps μ-walk-types t) walk-types.Pre
 
 abbrev walk-types-below : ℕ → In 1 walk-types-kinds.ps
-walk-types-below t =
-    and 1 walk-types-kinds.ps (falls 1 walk-types-kinds.ps _<_ μ-walk-types t) walk-types.Pre
+walk-types-below t = and 1 walk-types-kinds.ps (falls 1 walk-types-kinds.ps _<_ μ-walk-types t) walk-types.Pre
 
 abbrev K-walk-body : ℕ → walk-body-lts.Claims
 K-walk-body t = (
@@ -185,7 +180,10 @@ walk-type-returns-3 : (t : ℕ) → walk-type-lts.Need-returns-3 (K-walk-type t)
 walk-type-returns-3 t c = rw (type-body _ _ _ _ (value (c .before .before .before .before .before .before .read .ensures) (c .before .before .before .before .f .given .1)) (c .before .if1 .left), ← c .before .before .kind-of .ensures) (c .walk-body .ensures)
 
 abbrev K-walk-types : ℕ → walk-types-lts.Claims
-K-walk-types t = (walk-type-below t, walk-type.Post)
+K-walk-types t = (
+  walk-type-below t,
+  walk-type.Post,
+)
 
 abbrev walk-types-Inv-loop : walk-types-lts.InvT-loop
 walk-types-Inv-loop s items levels n next₀ i₀ next i = (i ≤ n) × (stepOf (many n (typeAt items (levels .left)) s (next₀ .at)) ≡ stepOf (many (n - i) (typeAt items (levels .left)) s (next .at)))

@@ -1,3 +1,4 @@
+-- Written by tools/proofkit from answers/check_return.tpl (2fbc07c6 f4fc6b8e).
 use borrow.Author.Needs.{needs}
 use Rattle.format.specs.Decoding.{type}
 use Rattle.types.proofs.check_return.Statement.{statement}

@@ -1,3 +1,4 @@
+-- Written by tools/proofkit from answers/check_type.tpl (c577fe4e 0fe36bb3).
 use borrow.Author.Needs.{needs}
 use Rattle.format.specs.Decoding.{type}
 use Rattle.types.proofs.check_type.Statement.{statement}

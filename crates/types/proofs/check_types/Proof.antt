@@ -1,3 +1,4 @@
+-- Written by tools/proofkit from answers/check_types.tpl (19829f5f 0ffc87bd).
 use borrow.Author.Needs.{needs}
 use Rattle.format.specs.Decoding.{type}
 use Rattle.types.proofs.check_types.Statement.{statement}

@@ -1,3 +1,4 @@
+-- Written by tools/proofkit from answers/kind_of.tpl (cd2b7af6 b153e5f3).
 use borrow.Author.Needs.{needs}
 use Rattle.types.proofs.TypeLaws.{kind-at, kind-past}
 use Rattle.types.proofs.kind_of.Statement.{statement}

@@ -1,3 +1,4 @@
+-- Written by tools/proofkit from answers/argument.tpl (ff047a4b e99f74f8).
 use borrow.Author.Needs.{needs}
 use native.Mathlib.Omega.{arith}
 use lib.ListN.{length}

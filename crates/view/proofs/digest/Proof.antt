@@ -1,3 +1,4 @@
+-- Written by tools/proofkit from answers/digest.tpl (f7878b27 e78833b9).
 use borrow.Author.Needs.{needs}
 use native.Mathlib.Omega.{arith}
 use mathlib.Core.Path.{_≡_, refl, sym, _∙_}

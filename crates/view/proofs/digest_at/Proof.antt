@@ -1,3 +1,4 @@
+-- Written by tools/proofkit from answers/digest_at.tpl (0f890a30 051edcb7).
 use borrow.Author.Needs.{needs}
 use native.Mathlib.Omega.{arith}
 use mathlib.Core.Path.{sym}

@@ -1,3 +1,4 @@
+-- Written by tools/proofkit from answers/field.tpl (f6106aa6 90aca13f).
 use borrow.Author.Needs.{needs}
 use native.Mathlib.Omega.{arith}
 use Rattle.view.proofs.ValueLaws.{finds-value, finds-none}

@@ -1,3 +1,4 @@
+-- Written by tools/proofkit from answers/fill_arguments.tpl (9363de5d f1a91045).
 use borrow.Author.Needs.{needs}
 use native.Mathlib.Omega.{arith}
 use mathlib.Core.Path.{_≡_, refl, sym, _∙_}

@@ -1,3 +1,4 @@
+-- Written by tools/proofkit from answers/fill_digests.tpl (ba464d26 d253a5f3).
 use borrow.Author.Needs.{needs}
 use native.Mathlib.Omega.{arith}
 use mathlib.Core.Path.{_≡_, refl, sym, _∙_}

@@ -1,3 +1,4 @@
+-- Written by tools/proofkit from answers/form_at.tpl (56148a20 3d26e8f6).
 use borrow.Author.Needs.{needs}
 use Rattle.cursor.proofs.WidthLaws.{width-le}
 use Rattle.view.proofs.FunctionLaws.{form-free, form-owned}

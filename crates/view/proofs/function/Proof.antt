@@ -1,3 +1,4 @@
+-- Written by tools/proofkit from answers/function.tpl (b63a3961 8917aef6).
 use borrow.Author.Needs.{needs}
 use native.Mathlib.Omega.{arith}
 use mathlib.Core.Path.{refl}

@@ -1,3 +1,4 @@
+-- Written by tools/proofkit from answers/is_rust_string.tpl (b1a6d284 9e06e260).
 use borrow.Author.Needs.{needs}
 use mathlib.Core.Path.{sym, _∙_}
 use native.Mathlib.Omega.{arith}

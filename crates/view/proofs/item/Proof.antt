@@ -1,3 +1,4 @@
+-- Written by tools/proofkit from answers/item.tpl (cd7a9d8a fdf51699).
 use borrow.Author.Needs.{needs}
 use native.Mathlib.Omega.{arith}
 use mathlib.Core.Path.{refl}

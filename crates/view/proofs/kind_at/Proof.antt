@@ -1,3 +1,4 @@
+-- Written by tools/proofkit from answers/kind_at.tpl (148143bc 34e6b3c1).
 use borrow.Author.Needs.{needs}
 use Rattle.view.proofs.ItemLaws.{kind-there}
 use Rattle.view.proofs.kind_at.Statement.{statement}

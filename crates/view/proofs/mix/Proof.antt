@@ -1,3 +1,4 @@
+-- Written by tools/proofkit from answers/mix.tpl (10e76e69 8333c15b).
 use borrow.Author.Needs.{needs}
 use Rattle.view.specs.Digests.{mix}
 use Rattle.view.proofs.mix.Statement.{statement}

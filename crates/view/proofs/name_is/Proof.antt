@@ -1,3 +1,4 @@
+-- Written by tools/proofkit from answers/name_is.tpl (0f2460df d8b3dfa1).
 use borrow.Author.Needs.{needs}
 use native.Mathlib.Omega.{arith}
 use mathlib.Core.Path.{sym}

@@ -1,3 +1,4 @@
+-- Written by tools/proofkit from answers/namespace.tpl (595b1140 f7bbc660).
 use borrow.Author.Needs.{needs}
 use native.Mathlib.Omega.{arith}
 use Rattle.cursor.proofs.WidthLaws.{width-le}

@@ -1,3 +1,4 @@
+-- Written by tools/proofkit from answers/needs_indirect_abi.tpl (e6213ed3 a161e0b5).
 use borrow.Author.Needs.{needs}
 use mathlib.Core.Path.{sym, _∙_}
 use native.Mathlib.Omega.{arith}

@@ -1,3 +1,4 @@
+-- Written by tools/proofkit from answers/past_return.tpl (a02dae40 6e46da19).
 use borrow.Author.Needs.{needs}
 use Rattle.view.proofs.ValueLaws.{next-at, next-none}
 use Rattle.view.proofs.past_return.Statement.{statement}

@@ -1,3 +1,4 @@
+-- Written by tools/proofkit from answers/past_type.tpl (154b06e2 87b5216d).
 use borrow.Author.Needs.{needs}
 use Rattle.view.proofs.ValueLaws.{next-at, next-none}
 use Rattle.view.proofs.past_type.Statement.{statement}

@@ -1,3 +1,4 @@
+-- Written by tools/proofkit from answers/pointer_bit.tpl (42e82c52 9b1f3488).
 use borrow.Author.Needs.{needs}
 use mathlib.Core.Path.{sym, _∙_}
 use native.Mathlib.Omega.{arith}

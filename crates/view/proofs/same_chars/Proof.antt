@@ -1,3 +1,4 @@
+-- Written by tools/proofkit from answers/same_chars.tpl (bdb09ed3 a50c8164).
 use borrow.Author.Needs.{needs}
 use native.Mathlib.Omega.{arith}
 use mathlib.Core.Path.{sym}

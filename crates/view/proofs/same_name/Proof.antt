@@ -1,3 +1,4 @@
+-- Written by tools/proofkit from answers/same_name.tpl (7f433250 ffae16b2).
 use borrow.Author.Needs.{needs}
 use native.Mathlib.Omega.{arith}
 use mathlib.Core.Path.{sym, ap}

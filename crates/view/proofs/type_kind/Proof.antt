@@ -1,3 +1,4 @@
+-- Written by tools/proofkit from answers/type_kind.tpl (aa494573 fa6f33bb).
 use borrow.Author.Needs.{needs}
 use Rattle.view.proofs.TypeLaws.{type-kind}
 use Rattle.view.proofs.type_kind.Statement.{statement}

@@ -1,3 +1,4 @@
+-- Written by tools/proofkit from answers/behind_forward.tpl (3a29bba9 72eff7a5).
 use borrow.Author.Needs.{needs}
 use native.Mathlib.Omega.{arith}
 use Rattle.write.proofs.PassLaws.{begins-none, begins-some}

@@ -1,3 +1,4 @@
+-- Written by tools/proofkit from answers/declare.tpl (f7db3dd1 2878a185).
 use borrow.Author.Needs.{needs}
 use Rattle.view.specs.Values.{functionAt}
 use Rattle.sections.proofs.StateLaws.{runs-none}

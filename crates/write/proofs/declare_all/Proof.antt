@@ -1,3 +1,4 @@
+-- Written by tools/proofkit from answers/declare_all.tpl (bdf5bb53 039b90cd).
 use borrow.Author.Needs.{needs}
 use native.Mathlib.Omega.{arith}
 use mathlib.Core.Path.{_≡_, refl}

@@ -1,3 +1,4 @@
+-- Written by tools/proofkit from answers/define.tpl (fee89b88 3634454d).
 use borrow.Author.Needs.{needs}
 use Rattle.view.specs.Values.{functionAt}
 use Rattle.sections.proofs.StateLaws.{runs-none}

@@ -1,3 +1,4 @@
+-- Written by tools/proofkit from answers/define_all.tpl (e56faf81 6e9e9dea).
 use borrow.Author.Needs.{needs}
 use native.Mathlib.Omega.{arith}
 use mathlib.Core.Path.{_≡_, refl}

@@ -1,3 +1,4 @@
+-- Written by tools/proofkit from answers/write_body.tpl (b9224740 60e3c802).
 use borrow.Author.Needs.{needs}
 use native.Mathlib.Omega.{arith}
 use Rattle.sections.proofs.StateLaws.{held-after, held-stood, stood-standing}

@@ -1,3 +1,4 @@
+-- Written by tools/proofkit from answers/write_functions.tpl (ce460974 25ef191e).
 use borrow.Author.Needs.{needs}
 use native.Mathlib.Omega.{arith}
 use Rattle.sections.proofs.StateLaws.{held-after}

@@ -1,3 +1,4 @@
+-- Written by tools/proofkit from answers/write_text.tpl (9667bf75 49939830).
 use borrow.Author.Needs.{needs}
 use native.Mathlib.Omega.{arith}
 use Rattle.write.proofs.PassLaws.{begun, whole-text}

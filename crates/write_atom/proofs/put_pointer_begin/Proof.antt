@@ -1,3 +1,4 @@
+-- Written by tools/proofkit from answers/put_pointer_begin.tpl (cbdc5b2b 79e72c9a).
 use borrow.Author.Needs.{needs}
 use Rattle.sink.proofs.SinkLaws.{wrote-as}
 use Rattle.write_atom.proofs.TextLaws.{begin-is}

@@ -1,3 +1,4 @@
+-- Written by tools/proofkit from answers/put_pointer_end.tpl (c9835dc9 825bebd6).
 use borrow.Author.Needs.{needs}
 use Rattle.sink.proofs.SinkLaws.{_▷_}
 use Rattle.write_atom.proofs.put_pointer_end.Statement.{statement}

@@ -1,3 +1,4 @@
+-- Written by tools/proofkit from answers/put_template.tpl (f076449e 06d466d6).
 use borrow.Author.Needs.{needs}
 use Rattle.sink.proofs.SinkLaws.{wrote-as}
 use Rattle.write_atom.proofs.TextLaws.{template-is, template-within}

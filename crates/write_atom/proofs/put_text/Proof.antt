@@ -1,3 +1,4 @@
+-- Written by tools/proofkit from answers/put_text.tpl (7711dfa8 a3908d74).
 use borrow.Author.Needs.{needs}
 use Rattle.sink.proofs.SinkLaws.{wrote-as}
 use Rattle.write_atom.proofs.TextLaws.{text-is, text-within}

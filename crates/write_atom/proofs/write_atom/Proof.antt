@@ -1,3 +1,4 @@
+-- Written by tools/proofkit from answers/write_atom.tpl (aae253a0 e8c11c74).
 use borrow.Author.Needs.{needs}
 use Rattle.sink.proofs.SinkLaws.{wrote-as}
 use Rattle.write_atom.proofs.TextLaws.{atom-is, atom-past}

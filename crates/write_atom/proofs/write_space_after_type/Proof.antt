@@ -1,3 +1,4 @@
+-- Written by tools/proofkit from answers/write_space_after_type.tpl (efb92f00 b3495348).
 use borrow.Author.Needs.{needs}
 use Rattle.write_atom.proofs.write_space_after_type.Statement.{statement}
 use Rattle.write_atom.proofs.write_space_after_type.Tie as tie

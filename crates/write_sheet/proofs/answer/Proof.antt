@@ -1,3 +1,4 @@
+-- Written by tools/proofkit from answers/answer.tpl (2bb5ef45 b052c4b6).
 use borrow.Author.Needs.{needs}
 use Rattle.decode.proofs.AnswerLaws.{refused, whole}
 use Rattle.write_sheet.proofs.DeliverLaws.{writes-refused}

@@ -1,3 +1,4 @@
+-- Written by tools/proofkit from answers/deliver.tpl (60490f0f 1ca7b0de).
 use borrow.Author.Needs.{needs}
 use native.Mathlib.Omega.{arith}
 use Rattle.write_sheet.proofs.DeliverLaws.{deliver-long, deliver-fits}

@@ -1,3 +1,4 @@
+-- Written by tools/proofkit from answers/deliver_with.tpl (f0db54a7 4ee3cafc).
 use borrow.Author.Needs.{needs}
 use native.Mathlib.Omega.{arith}
 use mathlib.Core.Path.{sym}

@@ -1,3 +1,4 @@
+-- Written by tools/proofkit from answers/write_decoded.tpl (6e92b9d8 6c3f4c67).
 use borrow.Author.Needs.{needs}
 use native.Mathlib.Omega.{arith}
 use mathlib.Core.Path.{sym}

@@ -1,3 +1,4 @@
+-- Written by tools/proofkit from answers/write_judged.tpl (74394566 375c6c1d).
 use borrow.Author.Needs.{needs}
 use Rattle.write_sheet.proofs.DeliverLaws.{judged-refused, judged-accepted}
 use Rattle.write_sheet.proofs.write_judged.Statement.{statement}

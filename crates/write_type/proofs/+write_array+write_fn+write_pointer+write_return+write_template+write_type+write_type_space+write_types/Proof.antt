@@ -1,3 +1,4 @@
+-- Written by tools/proofkit from answers/+write_array+write_fn+write_pointer+write_return+write_template+write_type+write_type_space+write_types.tpl (b475b904 c166bb1e).
 use borrow.Author.Needs.{needs}
 use Prim.Native.Nat.{ℕ, _+_, _-_, _*_, _<_}
 use native.Mathlib.Omega.{arith}
@@ -54,12 +55,8 @@ use Rattle.write_type.proofs.put_separator.Reads as put-separator-reads
 use Rattle.write_type.proofs.put_str.Reads as put-str-reads
 use Rattle.write_type.proofs.put_void.Reads as put-void-reads
 use Rattle.write_type.proofs.write_named.Reads as write-named-reads
-use Rattle.write_type.proofs.+write_array+write_fn+write_pointer+write_return+write_template+write_type+write_type_space+write_types.{
-  statement,
-}
-use Rattle.write_type.proofs.+write_array+write_fn+write_pointer+write_return+write_template+write_type+write_type_space+write_types.Tie.{
-  close,
-}
+use Rattle.write_type.proofs.+write_array+write_fn+write_pointer+write_return+write_template+write_type+write_type_space+write_types.{statement}
+use Rattle.write_type.proofs.+write_array+write_fn+write_pointer+write_return+write_template+write_type+write_type_space+write_types.Tie.{close}
 
 abbrev μ-write-array : Measures 4 write-array-kinds.ps ℕ
 μ-write-array κs a = 4 * (a .1 .1 .1 .1 .0) + 1
@@ -86,91 +83,52 @@ abbrev μ-write-types : Measures 4 write-types-kinds.ps ℕ
 μ-write-types κs a = 4 * (a .1 .1 .1 .1 .0) + 1
 
 abbrev write-array-at : ℕ → In 4 write-array-kinds.ps
-write-array-at t =
-    and 4 write-array-kinds.ps (is 4 write-array-kinds.ps μ-write-array t) write-array.Pre
+write-array-at t = and 4 write-array-kinds.ps (is 4 write-array-kinds.ps μ-write-array t) write-array.Pre
 
 abbrev write-array-below : ℕ → In 4 write-array-kinds.ps
-write-array-below t =
-    and 4 write-array-kinds.ps (falls 4 write-array-kinds.ps _<_ μ-write-array t) write-array.Pre
+write-array-below t = and 4 write-array-kinds.ps (falls 4 write-array-kinds.ps _<_ μ-write-array t) write-array.Pre
 
 abbrev write-fn-at : ℕ → In 4 write-fn-kinds.ps
 write-fn-at t = and 4 write-fn-kinds.ps (is 4 write-fn-kinds.ps μ-write-fn t) write-fn.Pre
 
 abbrev write-fn-below : ℕ → In 4 write-fn-kinds.ps
-write-fn-below t =
-    and 4 write-fn-kinds.ps (falls 4 write-fn-kinds.ps _<_ μ-write-fn t) write-fn.Pre
+write-fn-below t = and 4 write-fn-kinds.ps (falls 4 write-fn-kinds.ps _<_ μ-write-fn t) write-fn.Pre
 
 abbrev write-pointer-at : ℕ → In 4 write-pointer-kinds.ps
-write-pointer-at t =
-    and 4 write-pointer-kinds.ps (is 4 write-pointer-kinds.ps μ-write-pointer t) write-pointer.Pre
+write-pointer-at t = and 4 write-pointer-kinds.ps (is 4 write-pointer-kinds.ps μ-write-pointer t) write-pointer.Pre
 
 abbrev write-pointer-below : ℕ → In 4 write-pointer-kinds.ps
-write-pointer-below t =
-    and
-    4
-    write-pointer-kinds.ps
-    (falls 4 write-pointer-kinds.ps _<_ μ-write-pointer t)
-    write-pointer.Pre
+write-pointer-below t = and 4 write-pointer-kinds.ps (falls 4 write-pointer-kinds.ps _<_ μ-write-pointer t) write-pointer.Pre
 
 abbrev write-return-at : ℕ → In 4 write-return-kinds.ps
-write-return-at t =
-    and 4 write-return-kinds.ps (is 4 write-return-kinds.ps μ-write-return t) write-return.Pre
+write-return-at t = and 4 write-return-kinds.ps (is 4 write-return-kinds.ps μ-write-return t) write-return.Pre
 
 abbrev write-return-below : ℕ → In 4 write-return-kinds.ps
-write-return-below t =
-    and
-    4
-    write-return-kinds.ps
-    (falls 4 write-return-kinds.ps _<_ μ-write-return t)
-    write-return.Pre
+write-return-below t = and 4 write-return-kinds.ps (falls 4 write-return-kinds.ps _<_ μ-write-return t) write-return.Pre
 
 abbrev write-template-at : ℕ → In 4 write-template-kinds.ps
-write-template-at t =
-    and
-    4
-    write-template-kinds.ps
-    (is 4 write-template-kinds.ps μ-write-template t)
-    write-template.Pre
+write-template-at t = and 4 write-template-kinds.ps (is 4 write-template-kinds.ps μ-write-template t) write-template.Pre
 
 abbrev write-template-below : ℕ → In 4 write-template-kinds.ps
-write-template-below t =
-    and
-    4
-    write-template-kinds.ps
-    (falls 4 write-template-kinds.ps _<_ μ-write-template t)
-    write-template.Pre
+write-template-below t = and 4 write-template-kinds.ps (falls 4 write-template-kinds.ps _<_ μ-write-template t) write-template.Pre
 
 abbrev write-type-at : ℕ → In 4 write-type-kinds.ps
-write-type-at t =
-    and 4 write-type-kinds.ps (is 4 write-type-kinds.ps μ-write-type t) write-type.Pre
+write-type-at t = and 4 write-type-kinds.ps (is 4 write-type-kinds.ps μ-write-type t) write-type.Pre
 
 abbrev write-type-below : ℕ → In 4 write-type-kinds.ps
-write-type-below t =
-    and 4 write-type-kinds.ps (falls 4 write-type-kinds.ps _<_ μ-write-type t) write-type.Pre
+write-type-below t = and 4 write-type-kinds.ps (falls 4 write-type-kinds.ps _<_ μ-write-type t) write-type.Pre
 
 abbrev write-type-space-at : ℕ → In 4 write-type-space-kinds.ps
-write-type-space-at t =
-    and
-    4
-    write-type-space-kinds.ps
-    (is 4 write-type-space-kinds.ps μ-write-type-space t)
-    write-type-space.Pre
+write-type-space-at t = and 4 write-type-space-kinds.ps (is 4 write-type-space-kinds.ps μ-write-type-space t) write-type-space.Pre
 
 abbrev write-type-space-below : ℕ → In 4 write-type-space-kinds.ps
-write-type-space-below t =
-    and
-    4
-    write-type-space-kinds.ps
-    (falls 4 write-type-space-kinds.ps _<_ μ-write-type-space t)
-    write-type-space.Pre
+write-type-space-below t = and 4 write-type-space-kinds.ps (falls 4 write-type-space-kinds.ps _<_ μ-write-type-space t) write-type-space.Pre
 
 abbrev write-types-at : ℕ → In 4 write-types-kinds.ps
-write-types-at t =
-    and 4 write-types-kinds.ps (is 4 write-types-kinds.ps μ-write-types t) write-types.Pre
+write-types-at t = and 4 write-types-kinds.ps (is 4 write-types-kinds.ps μ-write-types t) write-types.Pre
 
 abbrev write-types-below : ℕ → In 4 write-types-kinds.ps
-write-types-below t =
-    and 4 write-types-kinds.ps (falls 4 write-types-kinds.ps _<_ μ-write-types t) write-types.Pre
+write-types-below t = and 4 write-types-kinds.ps (falls 4 write-types-kinds.ps _<_ μ-write-types t) write-types.Pre
 
 abbrev K-write-array : ℕ → write-array-lts.Claims
 K-write-array t = (
@@ -355,7 +313,12 @@ write-type-space-returns : (t : ℕ) → write-type-space-lts.Need-returns (K-wr
 write-type-space-returns t c = as-space _ _ _ _ _ (kind-is _ _ _ _ (c .before .before .before .before .before .before .before .before .before .before .before .before .before .before .before .pre .1 .1) (c .before .before .before .before .before .before .field .ensures) (c .before .before .before .before .before .kind-of .ensures)) (c .before .before .before .before .before .before .before .before .before .write-type .ensures) (c .before .before .before .write-space-after-type .ensures)
 
 abbrev K-write-types : ℕ → write-types-lts.Claims
-K-write-types t = (put-separator-reads.Asked, put-separator-reads.Learnt, write-type-below t, write-type.Post)
+K-write-types t = (
+  put-separator-reads.Asked,
+  put-separator-reads.Learnt,
+  write-type-below t,
+  write-type.Post,
+)
 
 abbrev write-types-Inv-loop : write-types-lts.InvT-loop
 write-types-Inv-loop s names items levels n out₀ at here₀ next₀ i₀ out here next i = Going (itemsAt s names items) (length items) levels s n (next₀ .at) i (next .at) (sink out₀ here₀) (sink out here)

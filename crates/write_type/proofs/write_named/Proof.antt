@@ -1,3 +1,4 @@
+-- Written by tools/proofkit from answers/write_named.tpl (3dc54a1d ba26614e).
 use borrow.Author.Needs.{needs}
 use Rattle.cursor.proofs.WidthLaws.{width-le}
 use Rattle.write_type.proofs.SpellLaws.{item-there, spells-item}

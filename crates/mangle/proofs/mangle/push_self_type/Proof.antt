@@ -1,3 +1,4 @@
+-- Written by tools/proofkit from answers/mangle/push_self_type.tpl (8d7c50cf a765baef).
 use borrow.Author.Needs.{needs}
 use Rattle.mangle.proofs.NameLaws.{self-none, self-one}
 use Rattle.mangle.proofs.mangle.push_self_type.Statement.{statement}

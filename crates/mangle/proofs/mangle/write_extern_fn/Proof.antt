@@ -1,3 +1,4 @@
+-- Written by tools/proofkit from answers/mangle/write_extern_fn.tpl (5f0f395e 128bacd1).
 use borrow.Author.Needs.{needs}
 use Rattle.mangle.proofs.NameLaws.{symbol}
 use Rattle.mangle.proofs.mangle.write_extern_fn.Statement.{statement}

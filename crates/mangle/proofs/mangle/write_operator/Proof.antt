@@ -1,3 +1,4 @@
+-- Written by tools/proofkit from answers/mangle/write_operator.tpl (14945390 591659a6).
 use borrow.Author.Needs.{needs}
 use Rattle.mangle.proofs.NameLaws.{layout}
 use Rattle.mangle.proofs.mangle.write_operator.Statement.{statement}

@@ -1,3 +1,4 @@
+-- Written by tools/proofkit from answers/mangle/write_version.tpl (a7680a95 97de089c).
 use borrow.Author.Needs.{needs}
 use Rattle.mangle.proofs.NameLaws.{begun}
 use Rattle.mangle.proofs.mangle.write_version.Statement.{statement}

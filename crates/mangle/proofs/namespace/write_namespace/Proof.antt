@@ -1,3 +1,4 @@
+-- Written by tools/proofkit from answers/namespace/write_namespace.tpl (8d6c9c77 997eb941).
 use borrow.Author.Needs.{needs}
 use native.Mathlib.Omega.{arith}
 use Prim.Native.Nat.{_≤_, _-_}

@@ -1,3 +1,4 @@
+-- Written by tools/proofkit from answers/pair/write_cxx_name.tpl (f653f817 802f5136).
 use borrow.Author.Needs.{needs}
 use Rattle.mangle.proofs.NameLaws.{cxx-name}
 use Rattle.mangle.proofs.pair.write_cxx_name.Statement.{statement}

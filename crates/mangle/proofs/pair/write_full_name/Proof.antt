@@ -1,3 +1,4 @@
+-- Written by tools/proofkit from answers/pair/write_full_name.tpl (97d5555d b60a2266).
 use borrow.Author.Needs.{needs}
 use Rattle.mangle.proofs.NameLaws.{full-name}
 use Rattle.mangle.proofs.pair.write_full_name.Statement.{statement}

@@ -1,3 +1,4 @@
+-- Written by tools/proofkit from answers/symbol/push.tpl (aa1c37ec 9e0d045d).
 use borrow.Author.Needs.{needs}
 use Rattle.mangle.proofs.NameLaws.{pushed}
 use Rattle.mangle.proofs.symbol.push.Statement.{statement}

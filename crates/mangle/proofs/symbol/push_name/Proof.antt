@@ -1,3 +1,4 @@
+-- Written by tools/proofkit from answers/symbol/push_name.tpl (51b67ccd 76a8b83a).
 use borrow.Author.Needs.{needs}
 use Rattle.mangle.proofs.NameLaws.{pushed}
 use Rattle.mangle.proofs.symbol.push_name.Statement.{statement}
