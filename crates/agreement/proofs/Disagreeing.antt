@@ -20,7 +20,7 @@ use Rattle.grammar.specs.Tree.{Text, Body, bodyEnd, item, block, namespace, ext
 use Rattle.grammar.specs.Tree.{Parameter, named, slot, Operand, receiver, direct, intoRaw, release, address}
 use Rattle.grammar.specs.Tree.{heldAddress, slotAddress, void, bare, noReturn}
 use Rattle.agreement.specs.Agreement.{rustFunctions, parameterNames, headNames, Declared, Defined, declarations}
-use Rattle.agreement.specs.Agreement.{shims, ofFunctions, parameterName, passing, argumentOperand, argumentOperands}
+use Rattle.agreement.specs.Agreement.{shims, ofFunctions, passing, argumentOperand, argumentOperands}
 use Rattle.agreement.specs.Agreement.{fitting, only, RustFunction, Matches, Agrees}
 use Rattle.agreement.proofs.AgreesTest.{agreesTest, agrees-told}
 
