@@ -186,6 +186,7 @@ module _ (c : CxxType) where
   abbrev countOperands : Ty → List Operand
   countOperands t = operand t (bytes "self") ∷ []
 
+  -- it agrees
   pub tree-agrees : (t : Ty) → Agrees (items t) (calling (runOperands t) (countOperands t))
   unfolding computes
   tree-agrees t = (
@@ -214,6 +215,7 @@ module _ (c : CxxType) where
     ),
   )
 
+  -- and with no other operands
   pub operands-told : (t : Ty) (run count : List Operand) → Agrees (items t) (calling run count) →
       (run ≡ runOperands t) × (count ≡ countOperands t)
   unfolding computes
@@ -222,6 +224,7 @@ module _ (c : CxxType) where
     only-eq count (countOperands t) (a .1 .0 .operands),
   )
 
+  -- nor with another operand for the first argument, whatever its form
   pub wrong-operand : (t : Ty) (o : Operand) → (o ≡ operand t (bytes "a") → ⊥) →
       Agrees (items t) (calling (receiver ∷ o ∷ operand t (bytes "b") ∷ slotAddress ∷ []) (countOperands t)) → ⊥
   wrong-operand t o wrong a =
@@ -312,15 +315,15 @@ module _ (c : CxxType) where
 
   -- with another symbol, and with other parameters, in the declaration and the call
 
-  abbrev both : Name → List Parameter → List Operand → Text
-  both symbol ps os =
+  abbrev matching : Name → List Parameter → List Operand → Text
+  matching symbol ps os =
       tree (declared mill symbol ps ∷ countDeclared ∷ []) (defined mill runHead runNames symbol os ∷ count ∷ [])
 
   abbrev throughout : Name → Text
-  throughout symbol = both symbol runParameters due
+  throughout symbol = matching symbol runParameters due
 
   abbrev handing : List Parameter → List Operand → Text
-  handing ps os = both runSymbol ps os
+  handing ps os = matching runSymbol ps os
 
   -- a declaration of no function's symbol is not looked at
   pub other-declaration : Agrees (items (atom U32)) (declaredAs (declared [] unknown [] ∷ runDeclared ∷ countDeclared ∷ []))
@@ -352,6 +355,7 @@ module _ (c : CxxType) where
     pub slotMissing : Refused (handing (self ∷ first ∷ second ∷ []) (receiver ∷ a ∷ b ∷ []))
     pub slotTwice : Refused (handing (self ∷ first ∷ second ∷ slot c ∷ slot c ∷ []) (receiver ∷ a ∷ b ∷ slotAddress ∷ slotAddress ∷ []))
     pub slotFirst : Refused (handing (slot c ∷ self ∷ first ∷ second ∷ []) (slotAddress ∷ receiver ∷ a ∷ b ∷ []))
+    pub slotNotDue : Refused (tree (runDeclared ∷ declared mill countSymbol (self ∷ slot c ∷ []) ∷ []) (run ∷ countDefined (direct (bytes "self") ∷ slotAddress ∷ []) ∷ []))
     -- the shims
     pub noShim : Refused (definedAs [])
     pub notDefined : Refused (definedAs (count ∷ []))
@@ -410,6 +414,7 @@ module _ (c : CxxType) where
         slotMissing = told refl;
         slotTwice = told refl;
         slotFirst = told refl;
+        slotNotDue = told refl;
         noShim = told refl;
         notDefined = told refl;
         definedTwice = told refl;
