@@ -18,6 +18,8 @@ use Rattle.format.specs.Decode.{pick}
 use Rattle.format.specs.Sheet.{Sheet}
 use Rattle.rules.specs.Judge.{Judged, refused, accepted, judge}
 use Rattle.bridge.specs.Write.{text}
+use Rattle.grammar.specs.Reading.{OneReading}
+use Rattle.agreement.specs.Agreement.{Agrees}
 use Rattle.services.specs.declared.Written.{Written}
 use Rattle.services.specs.declared.Written.the-variants as Written
 use Rattle.services.specs.Services.{answerOf, bufferOf, Writes, writtenCode}
@@ -25,7 +27,7 @@ use Rattle.struct_order.proofs.ServeLaws.{served-inside}
 use Rattle.write_sheet.proofs.WrittenLaws.{written-text}
 use Rattle.demand3.proofs.Demand3.{accepted-demand-3}
 use Rattle.exports.specs.Codes.{WritesCode}
-use Rattle.end_to_end.specs.TextAtFront.{Demand3Of, TextAtFront}
+use Rattle.end_to_end.specs.TextAtFront.{TextAtFront}
 
 -- ---- a length
 
@@ -54,10 +56,10 @@ module _ {sheet buffer after : List ℕ} {n : ℕ} {s : Sheet} (w : Writes sheet
           )
       go false a b = absurd (let z : _≡_ {A = ℕ} 0 1 = cc in omega arith)
 
-  demand-3-of : s .header ≡ false → Demand3Of (s .items) (take n after)
-  demand-3-of h =
+  front : s .header ≡ false → (r : OneReading (take n after)) × Agrees (s .items) (r .tree)
+  front h =
       let d = accepted-demand-3 sheet s e h in
-      rw (written-text w e) (record { reading = d .reading; agrees = d .agrees })
+      rw (written-text w e) (d .reading, d .agrees)
 
 pub text-at-front : {sheet buffer after : List ℕ} {n : ℕ} → Writes sheet buffer (Written.Length n) after →
     TextAtFront sheet buffer n after
@@ -70,7 +72,7 @@ text-at-front {sheet} {buffer} {after} {n} w = go (judge sheet) refl
     go (accepted s) e = record {
       value = s;
       accepts = e;
-      demand3 = demand-3-of w e;
+      demand3 = front w e;
       inside = served-inside w refl;
       behind = unchanged w e .0;
       sameLength = unchanged w e .1;

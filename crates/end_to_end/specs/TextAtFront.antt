@@ -6,21 +6,17 @@ use mathlib.Core.List.{List}
 use mathlib.Core.Bool.{false}
 use Prim.Native.Nat.{ℕ, _≤_}
 use lib.ListN.{length, take, drop}
-use Rattle.format.specs.Sheet.{Item, Sheet}
+use Rattle.format.specs.Sheet.{Sheet}
 use Rattle.rules.specs.Judge.{accepted, judge}
 use Rattle.grammar.specs.Reading.{OneReading}
 use Rattle.agreement.specs.Agreement.{Agrees}
 
--- bytes that have exactly one reading, which agrees with these items
-pub record Demand3Of (items : List Item) (bytes : List ℕ) : Type 0 where
-  pub reading : OneReading bytes
-  pub agrees : Agrees items (reading .tree)
-
--- the sheet is accepted, and its text stands in the first n bytes of the buffer; behind them nothing has changed
+-- the sheet is accepted; with header bit 0 the first n bytes of the buffer have exactly one reading, which agrees with the
+-- sheet's items; behind those bytes nothing has changed
 pub record TextAtFront (sheet buffer : List ℕ) (n : ℕ) (after : List ℕ) : Type 0 where
   pub value : Sheet
   pub accepts : judge sheet ≡ accepted value
-  pub demand3 : value .header ≡ false → Demand3Of (value .items) (take n after)
+  pub demand3 : value .header ≡ false → (r : OneReading (take n after)) × Agrees (value .items) (r .tree)
   pub inside : n ≤ length buffer
   pub behind : drop n after ≡ drop n buffer
   pub sameLength : length after ≡ length buffer
