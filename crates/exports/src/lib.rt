@@ -10,9 +10,8 @@ ghost use mathlib.Core.Path.{_≡_};
 ghost use Prim.Native.Nat.{_<_, _^_};
 ghost use lib.IntN.{pos, negℤ};
 ghost use Rattle.refusal.specs.Refusal.{numberOf};
-ghost use Rattle.rules.specs.Judge.{check as checkOf};
-ghost use Rattle.services.specs.Services.{checkedCode, writtenCode};
-ghost use Rattle.exports.specs.Codes.{OrdersCode, WritesCode, lengthOf};
+ghost use Rattle.services.specs.Services.{writtenCode};
+ghost use Rattle.exports.specs.Codes.{ChecksCode, OrdersCode, WritesCode, lengthOf};
 
 // Across C linkage a refusal is its number negated.
 fn refusal_code(e: Refusal) -> i64
@@ -26,7 +25,7 @@ fn refusal_code(e: Refusal) -> i64
 // Any bytes: 0 if the sheet is accepted, else the refusal's number negated.
 #[no_mangle]
 pub extern "C" fn bridgetext_check(sheet: &[u8]) -> i64
-    ensures { λ r. ⌜ r ≡ checkedCode (checkOf (now (sheet .entry))) ⌝ }
+    ensures { λ r. ⌜ ChecksCode (now (sheet .entry)) r ⌝ }
 {
     let c = check(sheet);
     match c {

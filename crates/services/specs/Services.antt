@@ -1,4 +1,5 @@
--- The three services' answers, for every input: the number and every byte of the buffer afterwards.
+-- The three services' answers, for every input: the number and every byte of the buffer afterwards. A check's answer is
+-- `check` of rules/specs/Judge.antt.
 -- "Check a sheet (0 if accepted), write its text, list its struct order (one byte per item number, counted from 0)".
 use mathlib.Core.Path.{_≡_}
 use mathlib.Core.List.{List, _++_}
@@ -15,7 +16,7 @@ use Rattle.toposort.specs.Sort.{order}
 use Rattle.rules.specs.Rules.{holds, structs}
 use Rattle.rules.specs.declared.Checked.{Checked}
 use Rattle.rules.specs.declared.Checked.the-variants.{Accepted, Refused}
-use Rattle.rules.specs.Judge.{Judged, refused, accepted, judge, check}
+use Rattle.rules.specs.Judge.{Judged, refused, accepted, judge}
 use Rattle.bridge.specs.Write.{text}
 use Rattle.services.specs.declared.Written.{Written}
 use Rattle.services.specs.declared.Written.the-variants as Written
@@ -53,10 +54,6 @@ Writes sheet buffer answer after = Serves text sheet buffer answer after
 -- list a sheet's struct order
 abbrev pub Orders : List ℕ → List ℕ → Written → List ℕ → Type 0
 Orders sheet buffer answer after = Serves structOrder sheet buffer answer after
-
--- check a sheet
-abbrev pub Checks : List ℕ → Checked → Type 0
-Checks sheet answer = answer ≡ check sheet
 
 -- "across C linkage a refusal is its number negated"
 abbrev pub writtenCode : Written → ℤ

@@ -1,0 +1,2 @@
+pub mod AgreesTest
+pub mod Disagreeing
