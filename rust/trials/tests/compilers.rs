@@ -5,7 +5,7 @@ use sheet::Rng;
 use std::fs;
 use std::path::{Path, PathBuf};
 use std::process::Command;
-use trials::compilers::{self, CXX_FLAGS, folder};
+use trials::compilers::{self, CXX, CXX_FLAGS, folder};
 use trials::{compare, formed};
 
 /// Sheets in a file. The first may use the root namespace, each other has a
@@ -25,14 +25,9 @@ fn more_texts_compile() {
 
 fn texts(seed: u64, files: usize) {
     let mut rng = Rng::new(seed);
-    let compilers = ["g++", "clang++"];
-    let there: Vec<&str> = compilers
-        .into_iter()
-        .filter(|compiler| !compilers::skipped(compiler))
-        .collect();
     for number in 0..files {
         let path = file(&mut rng, &format!("texts-{seed}-{number}.cc"));
-        for compiler in &there {
+        for compiler in CXX {
             compilers::run(
                 Command::new(compiler)
                     .args(CXX_FLAGS)
