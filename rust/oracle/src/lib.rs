@@ -10,6 +10,7 @@ use std::env;
 use std::fs::File;
 use std::io::{self, Write};
 use std::panic::Location;
+use std::thread;
 
 #[cfg(cxx_build_source)]
 include!(concat!(env!("OUT_DIR"), "/cxx-build.rs"));
@@ -43,8 +44,10 @@ pub fn skipped() -> bool {
     if HAVE_SOURCE {
         return false;
     }
-    let caller = Location::caller();
-    let line = format!("skipped: {}:{}: {ABSENT}\n", caller.file(), caller.line());
+    let (caller, thread) = (Location::caller(), thread::current());
+    let (file, line) = (caller.file(), caller.line());
+    let test = thread.name().unwrap_or("?");
+    let line = format!("skipped: {file}:{line}: {test}: {ABSENT}\n");
     let ci = env::var_os("CI").is_some_and(|value| value == "true");
     assert!(!ci, "{line}");
     let _ = io::stderr().write_all(line.as_bytes());
