@@ -74,7 +74,7 @@ fn check_and_order() {
 #[test]
 fn a_long_text() {
     let functions = (0..255).map(|number| {
-        let args: Vec<String> = (0..31).map(|arg| format!("a{arg}: String")).collect();
+        let args: Vec<String> = (0..31).map(|arg| format!("a{arg}: Vec<String>")).collect();
         format!("fn f{number}({})\n", args.join(", "))
     });
     let sheet = encode(&desc::parse(&functions.collect::<String>()).unwrap());
