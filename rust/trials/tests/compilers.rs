@@ -5,6 +5,7 @@ use sheet::Rng;
 use std::fs;
 use std::path::{Path, PathBuf};
 use std::process::Command;
+use std::thread;
 use trials::compilers::{self, CXX, CXX_FLAGS, folder};
 use trials::{compare, formed};
 
@@ -27,7 +28,7 @@ fn texts(seed: u64, files: usize) {
     let mut rng = Rng::new(seed);
     for number in 0..files {
         let path = file(&mut rng, &format!("texts-{seed}-{number}.cc"));
-        for compiler in CXX {
+        let compile = |compiler| {
             compilers::run(
                 Command::new(compiler)
                     .args(CXX_FLAGS)
@@ -35,7 +36,12 @@ fn texts(seed: u64, files: usize) {
                     .arg(folder())
                     .arg(&path),
             );
-        }
+        };
+        thread::scope(|scope| {
+            for compiler in CXX {
+                scope.spawn(move || compile(compiler));
+            }
+        });
     }
 }
 
