@@ -1,10 +1,14 @@
 /* The proved services on sheets, for a host in C99 or C++17 on x86-64. Link
- * libexports.a, which `rt staticlib exports` writes.
+ * libbridgetext.a, which tools/library makes and tools/install installs.
  *
  * A sheet is any bytes of any length; nothing of it has to be checked first.
- * Each service always returns, and answers the same for the same bytes. It
- * takes no heap, keeps no state and calls nothing back, so threads may ask at
- * once. How much stack it takes is in docs/FIGURES.md.
+ * Each service always returns, and answers the same for the same bytes.
+ *
+ * Threads and re-entrancy: a service takes no heap, has no global variable,
+ * keeps no state and calls nothing back. Threads may ask at once, and so may a
+ * signal handler, even within a call that it interrupts, if no two calls share a
+ * buffer and the handler's stack has room. How much stack a service takes is in
+ * docs/FIGURES.md.
  *
  * A pointer is that of as many bytes as the length behind it says, and not
  * null, not even for none. A buffer shares no byte with the sheet, and nothing
@@ -18,6 +22,14 @@
 
 #include <stddef.h>
 #include <stdint.h>
+
+#define BRIDGETEXT_VERSION "0.1.0"
+#define BRIDGETEXT_VERSION_MAJOR 0
+#define BRIDGETEXT_VERSION_MINOR 1
+#define BRIDGETEXT_VERSION_PATCH 0
+
+/* The release of the crate cxx-build whose text and struct order these are. */
+#define BRIDGETEXT_CXX_BUILD_VERSION "1.0.205"
 
 #ifdef __cplusplus
 extern "C" {

@@ -29,17 +29,26 @@ const SOURCE: [&str; 18] = [
 fn main() {
     println!("cargo::rustc-check-cfg=cfg(cxx_build_source)");
     println!("cargo::rerun-if-env-changed=CXX_BUILD_SRC");
+    println!("cargo::rerun-if-env-changed=CI");
     println!("cargo::rerun-if-changed=stand-ins");
 
     let package = PathBuf::from(env::var_os("CARGO_MANIFEST_DIR").unwrap());
-    let source = match env::var_os("CXX_BUILD_SRC") {
+    let named = env::var_os("CXX_BUILD_SRC");
+    let source = match &named {
         Some(path) => PathBuf::from(path),
         None => package.join("../../../shared/docs/src"),
     };
     for file in SOURCE {
         println!("cargo::rerun-if-changed={}", source.join(file).display());
     }
-    if !SOURCE.iter().all(|file| source.join(file).is_file()) {
+    if let Some(file) = SOURCE.iter().find(|file| !source.join(file).is_file()) {
+        let ci = env::var_os("CI").is_some_and(|value| value == "true");
+        if ci || named.is_some() || source.is_dir() {
+            println!(
+                "cargo::error=no cxx-build source: no file {} (set CXX_BUILD_SRC)",
+                source.join(file).display()
+            );
+        }
         return;
     }
 

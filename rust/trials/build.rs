@@ -5,6 +5,6 @@ use std::env;
 fn main() {
     println!("cargo::rerun-if-changed=build.rs");
     println!("cargo::rustc-link-arg-tests=-rdynamic");
-    let archive = env::var("DEP_EXPORTS_ARCHIVE").unwrap_or_default();
+    let archive = env::var("DEP_BRIDGETEXT_ARCHIVE").unwrap();
     println!("cargo::rustc-env=BRIDGETEXT_ARCHIVE={archive}");
 }

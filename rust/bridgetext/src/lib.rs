@@ -2,40 +2,27 @@
 //! text, and list its structs in the order in which C++ can define them.
 //! `include/bridgetext.h` is the same for a host in C or C++.
 //!
-//! The services are a static library, `libexports.a`, that `rt staticlib
-//! exports` writes. `build.rs` looks for it in the folder `BRIDGETEXT_LIB_DIR`,
-//! else in `target/staticlib` of the repository. Without it the crate builds,
-//! [`HAVE_LIBRARY`] is false, and asking a service panics.
+//! The services are a static library, `libbridgetext.a`, that `tools/library`
+//! makes. `build.rs` looks for it in the folder `BRIDGETEXT_LIB_DIR`, else in
+//! `target/staticlib` of the repository. Without it the crate does not build.
+//!
+//! The services keep no state, so threads may ask at once.
 
 #![deny(unsafe_code)]
 
-mod refusal;
-
-#[cfg(bridgetext_library)]
 #[allow(unsafe_code)]
 mod library;
-
-#[cfg(not(bridgetext_library))]
-mod absent;
-#[cfg(not(bridgetext_library))]
-use absent as library;
+mod refusal;
 
 pub use refusal::Refusal;
 
-/// Whether the static library was found.
-pub const HAVE_LIBRARY: bool = cfg!(bridgetext_library);
-
-/// Whether it lists struct orders.
-pub const HAVE_STRUCT_ORDER: bool = cfg!(bridgetext_struct_order);
-
-/// Whether it writes texts.
-pub const HAVE_WRITE: bool = cfg!(bridgetext_write);
+/// The library's version, that of `BRIDGETEXT_VERSION` in the header.
+pub const VERSION: &str = env!("CARGO_PKG_VERSION");
 
 /// Checks a sheet: any bytes of any length.
 ///
 /// ```
 /// use bridgetext::Refusal;
-/// # if !bridgetext::HAVE_LIBRARY { return }
 /// assert_eq!(bridgetext::check(&[0x10, 0, 0]), Ok(()));
 /// assert_eq!(bridgetext::check(&[0x20, 0, 0]), Err(Refusal::Edition));
 /// ```
@@ -56,31 +43,31 @@ pub fn struct_order(sheet: &[u8], buf: &mut [u8]) -> Result<usize, Refusal> {
 /// Writes the sheet's text to the start of `buf`, and says how long it is. The
 /// rest of `buf` stays as it was, and after a refusal all of it does.
 ///
-/// No length is known beforehand; a sheet of 32,768 bytes can stand for more
-/// than 73 million bytes of text. A host that takes any text grows its buffer:
+/// No length is known beforehand; [`text`] takes any.
+pub fn write(sheet: &[u8], buf: &mut [u8]) -> Result<usize, Refusal> {
+    answer(library::write(sheet, buf))
+}
+
+/// The sheet's text, of any length: asks again with a longer buffer after an
+/// overrun. A sheet of 32,768 bytes can stand for more than 73 million bytes of
+/// text; a host that wants less has [`write`].
 ///
 /// ```
-/// use bridgetext::Refusal;
-///
-/// fn text(sheet: &[u8]) -> Result<Vec<u8>, Refusal> {
-///     let mut buf = vec![0; 65_536];
-///     loop {
-///         match bridgetext::write(sheet, &mut buf) {
-///             Err(Refusal::Overrun) => buf.resize(2 * buf.len(), 0),
-///             answer => {
-///                 buf.truncate(answer?);
-///                 return Ok(buf);
-///             }
-///         }
-///     }
-/// }
-/// # if !bridgetext::HAVE_WRITE { return }
-///
+/// use bridgetext::{Refusal, text};
 /// assert_eq!(text(&[0x10, 0, 0]), Ok(Vec::new()));
 /// assert_eq!(text(&[0x10, 0, 0, 0]), Err(Refusal::Tail));
 /// ```
-pub fn write(sheet: &[u8], buf: &mut [u8]) -> Result<usize, Refusal> {
-    answer(library::write(sheet, buf))
+pub fn text(sheet: &[u8]) -> Result<Vec<u8>, Refusal> {
+    let mut buf = vec![0; 65_536];
+    loop {
+        match write(sheet, &mut buf) {
+            Err(Refusal::Overrun) => buf = vec![0; 8 * buf.len()],
+            answer => {
+                buf.truncate(answer?);
+                return Ok(buf);
+            }
+        }
+    }
 }
 
 /// An answer across C linkage: a length, or a refusal's number negated.

@@ -4,14 +4,12 @@
 mod c {
     unsafe extern "C" {
         pub fn bridgetext_check(sheet: *const u8, sheet_len: usize) -> i64;
-        #[cfg(bridgetext_struct_order)]
         pub fn bridgetext_struct_order(
             sheet: *const u8,
             sheet_len: usize,
             buf: *mut u8,
             buf_len: usize,
         ) -> i64;
-        #[cfg(bridgetext_write)]
         pub fn bridgetext_write(
             sheet: *const u8,
             sheet_len: usize,
@@ -26,24 +24,12 @@ pub fn check(sheet: &[u8]) -> i64 {
     unsafe { c::bridgetext_check(sheet.as_ptr(), sheet.len()) }
 }
 
-#[cfg(bridgetext_struct_order)]
 pub fn struct_order(sheet: &[u8], buf: &mut [u8]) -> i64 {
     // SAFETY: as above; the second slice is borrowed mutably, so they are apart.
     unsafe { c::bridgetext_struct_order(sheet.as_ptr(), sheet.len(), buf.as_mut_ptr(), buf.len()) }
 }
 
-#[cfg(not(bridgetext_struct_order))]
-pub fn struct_order(_sheet: &[u8], _buf: &mut [u8]) -> i64 {
-    panic!("the library has no struct order");
-}
-
-#[cfg(bridgetext_write)]
 pub fn write(sheet: &[u8], buf: &mut [u8]) -> i64 {
     // SAFETY: as above.
     unsafe { c::bridgetext_write(sheet.as_ptr(), sheet.len(), buf.as_mut_ptr(), buf.len()) }
-}
-
-#[cfg(not(bridgetext_write))]
-pub fn write(_sheet: &[u8], _buf: &mut [u8]) -> i64 {
-    panic!("the library writes no text");
 }

@@ -1,6 +1,6 @@
 //! What the oracle says without the crate's source.
 
-use crate::SKIPPED;
+use crate::ABSENT;
 use sheet::Sheet;
 
 pub struct Facts {
@@ -11,21 +11,17 @@ pub struct Facts {
 }
 
 pub fn text(_sheet: &Sheet) -> Vec<u8> {
-    panic!("{SKIPPED}")
-}
-
-pub fn text_by_write_functions(_sheet: &Sheet) -> Vec<u8> {
-    panic!("{SKIPPED}")
+    panic!("{ABSENT}")
 }
 
 pub fn struct_order(_sheet: &Sheet) -> Vec<u8> {
-    panic!("{SKIPPED}")
+    panic!("{ABSENT}")
 }
 
 pub fn with_sort<T>(_sheet: &Sheet, _measure: impl FnOnce(&dyn Fn() -> usize) -> T) -> T {
-    panic!("{SKIPPED}")
+    panic!("{ABSENT}")
 }
 
 pub fn facts(_sheet: &Sheet) -> Facts {
-    panic!("{SKIPPED}")
+    panic!("{ABSENT}")
 }

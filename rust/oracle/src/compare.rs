@@ -1,6 +1,6 @@
 //! One sheet, judged from every side at hand.
 
-use crate::{Facts, facts, struct_order, text, text_by_write_functions};
+use crate::{Facts, facts, struct_order, text};
 use sheet::{Kind, RUST_STRING, Refusal, Sheet, Type};
 use std::collections::HashSet;
 
@@ -44,9 +44,6 @@ pub fn compare(bytes: &[u8]) -> Result<Outcome, String> {
     agree("check and crate", answer, by_facts)?;
     if answer == 0 {
         outcome.text = text(&sheet);
-        if outcome.text != text_by_write_functions(&sheet) {
-            return Err("write_functions writes another text than its arms".into());
-        }
         outcome.order = struct_order(&sheet);
         legal_order(&sheet, &outcome.order)?;
     }

@@ -16,17 +16,21 @@ use sheet::{Form, Function, Item, ItemIndex, Kind, NameIndex, Sheet, Type as She
 use syn::token::{Brace, Bracket, Paren};
 use syn::{Generics, LitInt, LitStr, PointerMutability, Token};
 
-/// The crate's text for a sheet: forward declarations, functions, `flush`.
+/// The crate's text for a sheet: forward declarations, functions, `flush`. It is
+/// that of document 01's reference, and of `write_functions` with all its arms.
 pub fn text(sheet: &Sheet) -> Vec<u8> {
+    let options = Opt {
+        doxygen: sheet.doxygen,
+        ..Opt::default()
+    };
     with_types(sheet, |apis, types, _| {
-        write::text(apis, types, &options(sheet), sheet.header)
-    })
-}
-
-/// The same by the crate's `write_functions` with all its arms.
-pub fn text_by_write_functions(sheet: &Sheet) -> Vec<u8> {
-    with_types(sheet, |apis, types, _| {
-        write::text_by_write_functions(apis, types, &options(sheet), sheet.header)
+        let text = write::text(apis, types, &options, sheet.header);
+        let unchanged = write::text_by_write_functions(apis, types, &options, sheet.header);
+        assert!(
+            text == unchanged,
+            "write_functions writes another text than its arms"
+        );
+        text
     })
 }
 
@@ -88,13 +92,6 @@ pub fn facts(sheet: &Sheet) -> Facts {
             complaint,
         }
     })
-}
-
-fn options(sheet: &Sheet) -> Opt {
-    Opt {
-        doxygen: sheet.doxygen,
-        ..Opt::default()
-    }
 }
 
 /// toposort.rs' words for a cycle. types.rs reports one thing more that can be

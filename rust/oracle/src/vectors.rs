@@ -91,10 +91,10 @@ pub fn parse(file: &[u8]) -> Option<Vec<Record>> {
     let mut rest = file;
     let mut records = Vec::new();
     while !rest.is_empty() {
-        let len = u32::from_be_bytes(*rest.split_off(..4)?.as_array()?);
+        let len = u32::from_be_bytes(rest.split_off(..4)?.try_into().ok()?);
         let sheet = rest.split_off(..len as usize)?.to_vec();
         let answer = *rest.split_off_first()?;
-        let len = u32::from_be_bytes(*rest.split_off(..4)?.as_array()?);
+        let len = u32::from_be_bytes(rest.split_off(..4)?.try_into().ok()?);
         let text = rest.split_off(..len as usize)?.to_vec();
         let len = *rest.split_off_first()?;
         let order = rest.split_off(..usize::from(len))?.to_vec();

@@ -1,8 +1,7 @@
 //! The crate's writer in plain Rust on a lent buffer: block.rs, out.rs,
 //! nested.rs, mangle.rs and write.rs of cxx-build 1.0.205, with their names,
 //! from a sheet's value in the place of the syntax tree. It is what the proved
-//! service is timed against, and stands in for the crate's text where its
-//! source is not at hand.
+//! service is timed against.
 
 mod nested;
 mod out;

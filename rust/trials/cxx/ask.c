@@ -30,13 +30,9 @@ int main(int argc, char **argv) {
   size_t buf_len = argc > 1 ? (size_t)atol(argv[1]) : 0;
   size_t sheet_len = fread(sheet, 1, sizeof sheet, stdin);
   print("check", bridgetext_check(sheet, sheet_len), 0);
-#ifdef HAVE_STRUCT_ORDER
   memset(buf, 'Z', sizeof buf);
   print("order", bridgetext_struct_order(sheet, sheet_len, buf, buf_len), buf_len);
-#endif
-#ifdef HAVE_WRITE
   memset(buf, 'Z', sizeof buf);
   print("write", bridgetext_write(sheet, sheet_len, buf, buf_len), buf_len);
-#endif
   return buf_len > sizeof buf;
 }

@@ -1,7 +1,7 @@
 //! One sheet through a service, and what the service owes for it.
 
 use bridgetext::Refusal;
-use sheet::{Kind, Sheet, Type};
+use sheet::Sheet;
 use std::fmt::{self, Display};
 
 /// What the struct order service owes, but for the buffer: the list, or the
@@ -35,66 +35,29 @@ pub fn check(bytes: &[u8]) -> Result<u8, String> {
     Ok(wanted)
 }
 
-/// The order by the crate's `sort`; without its source by [`plain_order`].
+/// The order by the crate's `sort`; it needs the crate's source.
 pub fn wanted_order(bytes: &[u8]) -> Order {
-    let sheet = sheet::read(bytes).map_err(|refusal| refusal.number())?;
-    Ok(if oracle::HAVE_SOURCE {
-        oracle::struct_order(&sheet)
-    } else {
-        plain_order(&sheet)
-    })
+    match sheet::read(bytes) {
+        Ok(sheet) => Ok(oracle::struct_order(&sheet)),
+        Err(refusal) => Err(refusal.number()),
+    }
 }
 
-/// The structs of an accepted sheet: one after the other in sheet order, each
-/// after those that it holds by named fields, these in the order of the fields.
-pub fn plain_order(sheet: &Sheet) -> Vec<u8> {
-    fn place(sheet: &Sheet, item: u8, list: &mut Vec<u8>) {
-        if let Kind::Struct { fields, .. } = &sheet.item(item).kind
-            && !list.contains(&item)
-        {
-            for field in fields {
-                if let Type::Named(held) = field {
-                    place(sheet, *held, list);
-                }
-            }
-            list.push(item);
-        }
-    }
-    let mut list = Vec::new();
-    for item in 0..sheet.items.len() {
-        place(sheet, item as u8, &mut list);
-    }
-    list
-}
-
-/// The text by the crate's writer; without its source by crate `plain`.
+/// The text by the crate's writer; it needs the crate's source.
 pub fn wanted_text(bytes: &[u8]) -> Text {
-    let sheet = sheet::read(bytes).map_err(|refusal| refusal.number())?;
-    Ok(if oracle::HAVE_SOURCE {
-        oracle::text(&sheet)
-    } else {
-        plain::text(&sheet)
-    })
+    match sheet::read(bytes) {
+        Ok(sheet) => Ok(oracle::text(&sheet)),
+        Err(refusal) => Err(refusal.number()),
+    }
 }
 
-/// The text of an accepted sheet by the service or, while the library has none,
-/// by [`wanted_text`].
+/// The text of an accepted sheet by the service.
 pub fn text(sheet: &Sheet) -> Vec<u8> {
-    let bytes = sheet::encode(sheet);
-    if !bridgetext::HAVE_WRITE {
-        return wanted_text(&bytes).unwrap();
-    }
-    let mut text = vec![0; 1 << 24];
-    let length = bridgetext::write(&bytes, &mut text).unwrap();
-    text.truncate(length);
-    text
+    bridgetext::text(&sheet::encode(sheet)).unwrap()
 }
 
-/// The same for the struct order.
+/// The struct order of an accepted sheet by the service.
 pub fn order(sheet: &Sheet) -> Vec<u8> {
-    if !bridgetext::HAVE_STRUCT_ORDER {
-        return plain_order(sheet);
-    }
     let mut list = vec![0; 255];
     let length = bridgetext::struct_order(&sheet::encode(sheet), &mut list).unwrap();
     list.truncate(length);
@@ -130,9 +93,6 @@ pub fn with_buffers(
     lengths: &[usize],
     margin: usize,
 ) -> Result<u64, String> {
-    if !service.is_there() {
-        return Ok(0);
-    }
     let mut overruns = 0;
     for length in lengths {
         // Of two complementary fillings a write leaves at most one as it was.
@@ -183,13 +143,6 @@ fn with_buffer(
 }
 
 impl Service {
-    fn is_there(self) -> bool {
-        match self {
-            Service::StructOrder => bridgetext::HAVE_STRUCT_ORDER,
-            Service::Write => bridgetext::HAVE_WRITE,
-        }
-    }
-
     fn ask(self, bytes: &[u8], buffer: &mut [u8]) -> Result<usize, Refusal> {
         match self {
             Service::StructOrder => bridgetext::struct_order(bytes, buffer),

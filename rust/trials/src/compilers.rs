@@ -1,7 +1,7 @@
 //! Real compilers, for tests that need one.
 
 use std::path::Path;
-use std::process::{Command, Stdio};
+use std::process::Command;
 
 /// The flags for the text of a sheet. A symbol has `$` in it.
 pub const CXX_FLAGS: [&str; 5] = [
@@ -12,16 +12,15 @@ pub const CXX_FLAGS: [&str; 5] = [
     "-Wno-dollar-in-identifier-extension",
 ];
 
-/// For tests: whether a compiler is missing, said aloud.
-pub fn skipped(compiler: &str) -> bool {
-    let mut command = Command::new(compiler);
-    command.arg("--version").stdout(Stdio::null());
-    crate::absent(command.status().is_ok(), &format!("no {compiler}"))
-}
+/// The compilers of C++ that every text goes through.
+pub const CXX: [&str; 2] = ["g++", "clang++"];
 
-/// Runs a compiler; what it says against a file is a failure.
+/// Runs a compiler; to be missing, or to say anything against a file, is a
+/// failure.
 pub fn run(command: &mut Command) {
-    let output = command.output().unwrap();
+    let output = command
+        .output()
+        .unwrap_or_else(|error| panic!("{command:?}: {error}"));
     assert!(
         output.status.success(),
         "{command:?}\n{}",

@@ -5,7 +5,8 @@ use sheet::Rng;
 use std::fs;
 use std::path::{Path, PathBuf};
 use std::process::Command;
-use trials::compilers::{self, CXX_FLAGS, folder};
+use std::thread;
+use trials::compilers::{self, CXX, CXX_FLAGS, folder};
 use trials::{compare, formed};
 
 /// Sheets in a file. The first may use the root namespace, each other has a
@@ -25,14 +26,9 @@ fn more_texts_compile() {
 
 fn texts(seed: u64, files: usize) {
     let mut rng = Rng::new(seed);
-    let compilers = ["g++", "clang++"];
-    let there: Vec<&str> = compilers
-        .into_iter()
-        .filter(|compiler| !compilers::skipped(compiler))
-        .collect();
     for number in 0..files {
         let path = file(&mut rng, &format!("texts-{seed}-{number}.cc"));
-        for compiler in &there {
+        let compile = |compiler| {
             compilers::run(
                 Command::new(compiler)
                     .args(CXX_FLAGS)
@@ -40,7 +36,12 @@ fn texts(seed: u64, files: usize) {
                     .arg(folder())
                     .arg(&path),
             );
-        }
+        };
+        thread::scope(|scope| {
+            for compiler in CXX {
+                scope.spawn(move || compile(compiler));
+            }
+        });
     }
 }
 

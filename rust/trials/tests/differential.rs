@@ -1,14 +1,17 @@
 //! Generated and damaged sheets: the services agree with the Rust check, the
 //! crate's `sort` and its writer. The program `differential` runs more of them.
 
-use sheet::{Rng, decode, desc, encode, generate};
+use sheet::{Rng, desc, encode, generate};
 use trials::compare::Text;
 use trials::{compare, sheets};
 
-fn both(sheet: &[u8]) -> Result<u8, String> {
+/// A check and, unless that is skipped, the struct order.
+fn both(sheet: &[u8], skipped: bool) -> Result<u8, String> {
     let answer = compare::check(sheet)?;
-    let order = compare::wanted_order(sheet);
-    compare::struct_order(sheet, &order, &compare::lengths(&order, 400))?;
+    if !skipped {
+        let order = compare::wanted_order(sheet);
+        compare::struct_order(sheet, &order, &compare::lengths(&order, 400))?;
+    }
     Ok(answer)
 }
 
@@ -20,12 +23,10 @@ fn text(sheet: &[u8]) -> Result<Text, String> {
 
 #[test]
 fn limits_and_signatures() {
-    if trials::skipped() {
-        return;
-    }
+    let skipped = oracle::skipped();
     let fixed = generate::boundaries().into_iter();
     for (label, sheet) in fixed.chain(generate::signatures()) {
-        if let Err(error) = both(&sheet) {
+        if let Err(error) = both(&sheet, skipped) {
             panic!("{label}: {error}");
         }
     }
@@ -33,9 +34,7 @@ fn limits_and_signatures() {
 
 #[test]
 fn large_sheets() {
-    if trials::skipped() {
-        return;
-    }
+    let skipped = oracle::skipped();
     let large = [
         sheets::many_names(),
         sheets::functions(8),
@@ -47,13 +46,13 @@ fn large_sheets() {
         sheets::dense(),
     ];
     for (number, sheet) in large.iter().enumerate() {
-        assert_eq!(both(&encode(sheet)), Ok(0), "sheet {number}");
+        assert_eq!(both(&encode(sheet), skipped), Ok(0), "sheet {number}");
     }
 }
 
 #[test]
 fn every_buffer_length() {
-    if trials::skipped() {
+    if oracle::skipped() {
         return;
     }
     let lengths: Vec<usize> = (0..=258).collect();
@@ -62,20 +61,18 @@ fn every_buffer_length() {
         let order = compare::wanted_order(&sheet);
         assert_eq!(order.as_ref().map(Vec::len), Ok(255));
         let overruns = compare::struct_order(&sheet, &order, &lengths).unwrap();
-        assert!(!bridgetext::HAVE_STRUCT_ORDER || overruns == 2 * 255);
+        assert_eq!(overruns, 2 * 255);
     }
 }
 
 #[test]
 fn generated_sheets() {
-    if trials::skipped() {
-        return;
-    }
+    let skipped = oracle::skipped();
     let mut rng = Rng::new(1);
     let mut answers = [0; 13];
     for _ in 0..16_000 {
         let sheet = generate::any(&mut rng);
-        match both(&sheet) {
+        match both(&sheet, skipped) {
             Ok(answer) => answers[usize::from(answer)] += 1,
             Err(error) => panic!("{error}\n{}", desc::hex(&sheet)),
         }
@@ -85,16 +82,14 @@ fn generated_sheets() {
 
 #[test]
 fn many_structs() {
-    if trials::skipped() {
-        return;
-    }
+    let skipped = oracle::skipped();
     let mut rng = Rng::new(2);
     for number in 0..4_000 {
         let mut sheet = encode(&sheets::structs(&mut rng));
         if number % 8 == 0 {
             generate::damage(&mut rng, &mut sheet);
         }
-        if let Err(error) = both(&sheet) {
+        if let Err(error) = both(&sheet, skipped) {
             panic!("{error}\n{}", desc::hex(&sheet));
         }
     }
@@ -102,7 +97,7 @@ fn many_structs() {
 
 #[test]
 fn texts_at_the_limits() {
-    if trials::skipped_write() {
+    if oracle::skipped() {
         return;
     }
     let fixed = generate::boundaries().into_iter();
@@ -115,7 +110,7 @@ fn texts_at_the_limits() {
 
 #[test]
 fn large_texts() {
-    if trials::skipped_write() {
+    if oracle::skipped() {
         return;
     }
     let mut rng = Rng::new(5);
@@ -136,7 +131,7 @@ fn large_texts() {
 /// Some 73 million bytes.
 #[test]
 fn the_longest_text() {
-    if trials::skipped_write() {
+    if oracle::skipped() {
         return;
     }
     let sheet = encode(&sheets::longest_text());
@@ -149,7 +144,7 @@ fn the_longest_text() {
 
 #[test]
 fn generated_texts() {
-    if trials::skipped_write() {
+    if oracle::skipped() {
         return;
     }
     let mut rng = Rng::new(6);
@@ -162,25 +157,4 @@ fn generated_texts() {
         }
     }
     assert!(accepted > 2_000, "{accepted}");
-}
-
-/// What stands in for the crate's `sort` where its source is not at hand.
-#[test]
-fn the_plain_order_is_that_of_sort() {
-    if oracle::skipped() {
-        return;
-    }
-    let mut rng = Rng::new(3);
-    let mut accepted = 0;
-    for _ in 0..3_000 {
-        let sheet = sheets::structs(&mut rng);
-        let bytes = encode(&sheet);
-        if sheet::check(&bytes) != 0 {
-            continue;
-        }
-        accepted += 1;
-        assert_eq!(decode(&bytes).unwrap(), sheet);
-        assert_eq!(compare::plain_order(&sheet), oracle::struct_order(&sheet));
-    }
-    assert!(accepted > 2_500, "{accepted}");
 }

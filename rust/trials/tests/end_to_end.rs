@@ -13,7 +13,7 @@ use std::process::Command;
 use std::ptr::{self, NonNull};
 use std::{slice, str};
 use trials::compare;
-use trials::compilers::{self, CXX_FLAGS, folder};
+use trials::compilers::{self, CXX, CXX_FLAGS, folder};
 
 const SHEET: &str = "
 rust-type mill::Job indirect
@@ -100,10 +100,7 @@ fn calls_through_the_glue() {
     let made = Path::new(env!("CARGO_TARGET_TMPDIR"));
     let source = made.join("glue.cc");
     fs::write(&source, glue).unwrap();
-    for compiler in ["g++", "clang++"] {
-        if compilers::skipped(compiler) {
-            continue;
-        }
+    for compiler in CXX {
         let object = made.join(format!("glue-{compiler}.so"));
         compilers::run(
             Command::new(compiler)

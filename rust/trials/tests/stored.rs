@@ -14,9 +14,6 @@ fn records() -> Vec<Record> {
 
 #[test]
 fn stored_answers_and_orders() {
-    if trials::skipped() {
-        return;
-    }
     let mut overruns = 0;
     for (number, record) in records().iter().enumerate() {
         let answer = bridgetext::check(&record.sheet).err();
@@ -32,17 +29,11 @@ fn stored_answers_and_orders() {
             Err(error) => panic!("record {number}: {error}"),
         }
     }
-    assert!(
-        !bridgetext::HAVE_STRUCT_ORDER || overruns > 100,
-        "{overruns}"
-    );
+    assert!(overruns > 100, "{overruns}");
 }
 
 #[test]
 fn stored_texts() {
-    if trials::skipped_write() {
-        return;
-    }
     let mut overruns = 0;
     for (number, record) in records().iter().enumerate() {
         let text = match record.answer {

@@ -15,8 +15,8 @@ against `plain::write`, N runs of each (501 unless given), one of the first, one
 of the second and so on. Prints medians and their ratio as Markdown. Buffers are
 not cleared between the runs.
 
-Exit code: 0 done, 1 a service answers wrong, 2 wrong use, no library, or not
-built for release.";
+Exit code: 0 done, 1 a service answers wrong, 2 wrong use or not built
+for release.";
 
 /// A run repeats the call until it takes about so long.
 const RUN: Duration = Duration::from_micros(200);
@@ -26,10 +26,6 @@ fn main() -> ExitCode {
         eprintln!("{USAGE}");
         return ExitCode::from(2);
     };
-    if !bridgetext::HAVE_LIBRARY {
-        eprintln!("bench: no library (run rt staticlib exports and build again)");
-        return ExitCode::from(2);
-    }
     if cfg!(debug_assertions) {
         eprintln!("bench: not built for release");
         return ExitCode::from(2);
@@ -112,9 +108,6 @@ fn checks(runs: usize) -> Result<(), String> {
 }
 
 fn orders(runs: usize) -> Result<(), String> {
-    if !bridgetext::HAVE_STRUCT_ORDER {
-        return Ok(());
-    }
     if !oracle::HAVE_SOURCE {
         eprintln!("bench: no cxx-build source (set CXX_BUILD_SRC), so no `sort` to time");
         return Ok(());
@@ -170,9 +163,6 @@ fn orders(runs: usize) -> Result<(), String> {
 }
 
 fn texts(runs: usize) -> Result<(), String> {
-    if !bridgetext::HAVE_WRITE {
-        return Ok(());
-    }
     let cases = [
         (
             "255 functions, 8 arguments",

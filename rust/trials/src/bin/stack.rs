@@ -13,15 +13,11 @@ each on a painted stack: on large sheets, on those at the limits, on 2,000
 generated ones and on 2,000 of many structs. Prints the most bytes of stack that
 each took, wrapper included, and the sheet.
 
-Exit code: 0 done, 1 a call took 1 MiB or more, 2 wrong use or no library.";
+Exit code: 0 done, 1 a call took 1 MiB or more, 2 wrong use.";
 
 fn main() -> ExitCode {
     if std::env::args().len() > 1 {
         eprintln!("{USAGE}");
-        return ExitCode::from(2);
-    }
-    if !bridgetext::HAVE_LIBRARY {
-        eprintln!("stack: no library (run rt staticlib exports and build again)");
         return ExitCode::from(2);
     }
     let mut buffer = [0; 255];
@@ -32,14 +28,10 @@ fn main() -> ExitCode {
             let _ = black_box(bridgetext::check(sheet));
         }),
         deepest(|sheet| {
-            if bridgetext::HAVE_STRUCT_ORDER {
-                let _ = black_box(bridgetext::struct_order(sheet, &mut buffer));
-            }
+            let _ = black_box(bridgetext::struct_order(sheet, &mut buffer));
         }),
         deepest(|sheet| {
-            if bridgetext::HAVE_WRITE {
-                let _ = black_box(bridgetext::write(sheet, &mut text));
-            }
+            let _ = black_box(bridgetext::write(sheet, &mut text));
         }),
         deepest(|sheet| {
             black_box(sheet::check(sheet));
