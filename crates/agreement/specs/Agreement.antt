@@ -3,14 +3,14 @@
 -- parameters one by one. The sentences quoted are those of document 01, "The grammar", last paragraph.
 use mathlib.Core.Path.{_≡_}
 use mathlib.Core.List.{List, [], _∷_, _++_, map}
-use mathlib.Core.Bool.{Bool, true, false, not, _&&_}
+use mathlib.Core.Bool.{Bool, not, _&&_}
 use Prim.Native.Nat.{ℕ}
 use Rattle.lexical.specs.Bytes.{bytes, same, member}
 use Rattle.format.specs.Decode.{pick}
 use Rattle.format.specs.declared.Template.{Template}
 use Rattle.format.specs.declared.Template.the-variants.{RustBox, RustVec, UniquePtr, SharedPtr, WeakPtr, CxxVector}
 use Rattle.format.specs.Types.{Ty, atom, named, template, pointer, str, fn, array, Ret, none, gives}
-use Rattle.format.specs.Sheet.{Name, Form, Argument, Function, Body, struct, enum, cxxType, rustType, function, Item}
+use Rattle.format.specs.Sheet.{Name, Argument, Function, Body, struct, enum, cxxType, rustType, function, Item}
 use Rattle.format.specs.Sheet.{Sheet}
 use Rattle.syntax.specs.Items.{itemAt, selfType}
 use Rattle.syntax.specs.Mangle.{externFn}

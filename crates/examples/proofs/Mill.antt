@@ -1,14 +1,14 @@
 -- Document 01's example: an opaque Rust type `Job` and a function `count(job: &Job) -> u32`, both in `mill`.
 use mathlib.Core.Path.{_≡_, refl}
 use mathlib.Core.List.{List, [], _∷_}
-use mathlib.Core.Bool.{Bool, true, false}
+use mathlib.Core.Bool.{false}
 use Prim.Native.Nat.{ℕ}
 use Rattle.lexical.specs.Bytes.{bytes}
 use Rattle.format.specs.declared.Atom.the-variants.{U32}
 use Rattle.format.specs.declared.Pointer.the-variants.{Ref}
-use Rattle.format.specs.Types.{Ty, atom, named, pointer, Ret, gives}
+use Rattle.format.specs.Types.{atom, named, pointer, gives}
 use Rattle.format.specs.Sheet.{free, rustType, function, Sheet}
-use Rattle.rules.specs.Judge.{Judged, accepted, judge}
+use Rattle.rules.specs.Judge.{accepted, judge}
 use Rattle.bridge.specs.Write.{text}
 use Rattle.examples.proofs.Computing.{computes}
 

@@ -2,7 +2,7 @@
 -- is still read, and no longer fits.
 use mathlib.Core.Path.{_≡_, refl, sym, subst}
 use mathlib.Core.List.{List, [], _∷_}
-use mathlib.Core.Bool.{true, false}
+use mathlib.Core.Bool.{false}
 use Prim.Native.Nat.{ℕ}
 use native.Mathlib.Omega.{arith}
 use Rattle.lexical.specs.Bytes.{bytes}
@@ -10,8 +10,8 @@ use Rattle.format.specs.declared.Atom.the-variants.{U32}
 use Rattle.format.specs.declared.Pointer.the-variants.{Ref}
 use Rattle.format.specs.Types.{atom, named, pointer, gives}
 use Rattle.format.specs.Sheet.{free, rustType, function, Item}
-use Rattle.grammar.specs.Tree.{Text, Operand, direct}
-use Rattle.grammar.specs.Reading.{Reads, OneReading}
+use Rattle.grammar.specs.Tree.{Operand, direct}
+use Rattle.grammar.specs.Reading.{Reads}
 use Rattle.grammar.proofs.Examples.{worked, workedTree, worked-reads, worked-once, swapped, swappedTree, swapped-reads}
 use Rattle.bridge.specs.Write.{text}
 use Rattle.agreement.specs.Agreement.{Agrees, Demand3}

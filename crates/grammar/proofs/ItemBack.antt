@@ -24,8 +24,8 @@ use Rattle.grammar.specs.Tokens.{resultTokens, parameterTokens, headToke
 use Rattle.grammar.specs.Tokens.{measureTokens, layoutTokens, operandTokens, localTokens, formTokens, closeTokens}
 use Rattle.grammar.specs.Tokens.{callTokens, errorTestTokens, endingTokens, commentTokens, shimTokens, itemTokens}
 use Rattle.grammar.specs.Rules.{maxLevels, maxDeclaredLevels, maxArguments, isSymbol, levels, partsOk, baseOk, typeOk}
-use Rattle.grammar.specs.Rules.{resultOk, isMain, declaredOk, declaredArguments, declarationOk, headOk}
-use Rattle.grammar.specs.Rules.{argumentOk, localOk, operandOk, callArguments, formOk, callOk, commentsOk, shimOk}
+use Rattle.grammar.specs.Rules.{resultOk, fewArguments, isMain, declaredOk, isSelf, isSlot, declarationOk, headOk}
+use Rattle.grammar.specs.Rules.{argumentOk, localOk, operandOk, isReceiver, isSlotAddress, formOk, callOk, commentsOk, shimOk}
 use Rattle.grammar.specs.Rules.{itemOk}
 use Rattle.grammar.proofs.Parser.{begins, fork, flagP, wordP, commentP, pathP, manyP, listP, typeP}
 use Rattle.grammar.proofs.Parser.{typesP, isComment, isLocal, onResult, resultP, parameterP, operandP}
@@ -256,10 +256,10 @@ module _ {A : Type 0} where
   unfolding same callP callOk
   call-back c n l o r k =
       let a = both (formOk (c .form))
-      (isSymbol (c .symbol) && (every operandOk (c .operands) && leb (callArguments (c .operands)) maxArguments)) o in
+      (isSymbol (c .symbol) && (every operandOk (c .operands) && fewArguments isReceiver isSlotAddress (c .operands))) o in
       let b = both (isSymbol (c .symbol))
-      (every operandOk (c .operands) && leb (callArguments (c .operands)) maxArguments) (a .1) in
-      let d = both (every operandOk (c .operands)) (leb (callArguments (c .operands)) maxArguments) (b .1) in
+      (every operandOk (c .operands) && fewArguments isReceiver isSlotAddress (c .operands)) (a .1) in
+      let d = both (every operandOk (c .operands)) (fewArguments isReceiver isSlotAddress (c .operands)) (b .1) in
       form-back (c .form) n (omega arith) (a .0) (c .symbol) (symbol-no-return (c .symbol) (b .0)) _ _
       ∙ operands-back (c .operands) n (omega arith) (d .0) _ _
       ∙ close-back (c .form) _ _
@@ -345,10 +345,10 @@ module _ {A : Type 0} where
   unfolding same tailP declarationOk
   declaration-back d n depth l o r k =
       let a = both (isSymbol (d .symbol)) (resultOk (isMain depth (free (d .symbol))) (d .result) &&
-      (every declaredOk (d .parameters) && leb (declaredArguments (d .parameters)) maxArguments)) o in
+      (every declaredOk (d .parameters) && fewArguments isSelf isSlot (d .parameters))) o in
       let b = both (resultOk (isMain depth (free (d .symbol))) (d .result))
-      (every declaredOk (d .parameters) && leb (declaredArguments (d .parameters)) maxArguments) (a .1) in
-      let c = both (every declaredOk (d .parameters)) (leb (declaredArguments (d .parameters)) maxArguments) (b .1) in
+      (every declaredOk (d .parameters) && fewArguments isSelf isSlot (d .parameters)) (a .1) in
+      let c = both (every declaredOk (d .parameters)) (fewArguments isSelf isSlot (d .parameters)) (b .1) in
       signature-back [] (d .result) (free (d .symbol)) (d .parameters) false (d .noexcept) n (omega arith) (omega arith)
       (omega arith) (result-readable (isMain depth (free (d .symbol))) (d .result) (b .0))
       (every-weaken declaredOk parameterReadable declared-readable (d .parameters) (c .0)) (quoted ";" r) refl refl k

@@ -1,6 +1,6 @@
 -- What a tree must keep: the name rule and the limits of document 01's grammar.
 use mathlib.Core.List.{List, [], _∷_}
-use mathlib.Core.Bool.{Bool, true, false, _&&_, _||_, not}
+use mathlib.Core.Bool.{Bool, true, false, _&&_, _||_, not, cond}
 use Prim.Native.Nat.{ℕ, suc, _+_, max}
 use lib.Dec.{leb, ltb, eqb}
 use lib.ListN.{length}
@@ -107,6 +107,17 @@ unfoldable mutual
 abbrev pub typeOk : ℕ → CxxType → Bool
 typeOk limit x = leb (levels x) limit && partsOk x
 
+-- arguments
+
+-- how many pass the test, but at most one
+unfoldable pub atMostOne : {A : Type 0} → (A → Bool) → List A → ℕ
+atMostOne test [] = 0
+atMostOne test (x ∷ xs) = cond (test x) 1 (atMostOne test xs)
+
+-- "31 arguments", and besides them one receiver and one slot
+unfoldable pub fewArguments : {A : Type 0} → (A → Bool) → (A → Bool) → List A → Bool
+fewArguments isReceiver isSlot xs = leb (length xs) (maxArguments + atMostOne isReceiver xs + atMostOne isSlot xs)
+
 -- heads
 
 -- "and `int` for `main` in the root"
@@ -125,17 +136,18 @@ unfoldable pub declaredOk : Parameter → Bool
 declaredOk (named x name) = typeOk maxDeclaredLevels x && isName name
 declaredOk (slot x) = typeOk maxDeclaredLevels x
 
--- the parameters but the slot and `self`, which may be the receiver
-unfoldable pub declaredArguments : List Parameter → ℕ
-declaredArguments [] = 0
-declaredArguments (named x name ∷ parameters) =
-    elim (same name (bytes "self")) [ true ↦ declaredArguments parameters | false ↦ suc (declaredArguments parameters) ]
-declaredArguments (slot x ∷ parameters) = declaredArguments parameters
+unfoldable pub isSelf : Parameter → Bool
+isSelf (named x name) = same name (bytes "self")
+isSelf (slot x) = false
+
+unfoldable pub isSlot : Parameter → Bool
+isSlot (named x name) = false
+isSlot (slot x) = true
 
 unfoldable pub declarationOk : ℕ → Declaration → Bool
 declarationOk depth d =
     isSymbol (d .symbol) && (resultOk (isMain depth (free (d .symbol))) (d .result) &&
-    (every declaredOk (d .parameters) && leb (declaredArguments (d .parameters)) maxArguments))
+    (every declaredOk (d .parameters) && fewArguments isSelf isSlot (d .parameters)))
 
 unfoldable pub layoutOk : LayoutDefinition → Bool
 layoutOk d = isName (d .owner) && isSymbol (d .symbol)
@@ -163,16 +175,23 @@ operandOk (address x) = isName x
 operandOk (heldAddress x) = isName x
 operandOk slotAddress = true
 
--- the operands but the receiver and the slot
-unfoldable pub callArguments : List Operand → ℕ
-callArguments [] = 0
-callArguments (receiver ∷ operands) = callArguments operands
-callArguments (direct x ∷ operands) = suc (callArguments operands)
-callArguments (intoRaw x ∷ operands) = suc (callArguments operands)
-callArguments (release x ∷ operands) = suc (callArguments operands)
-callArguments (address x ∷ operands) = suc (callArguments operands)
-callArguments (heldAddress x ∷ operands) = suc (callArguments operands)
-callArguments (slotAddress ∷ operands) = callArguments operands
+unfoldable pub isReceiver : Operand → Bool
+isReceiver receiver = true
+isReceiver (direct x) = false
+isReceiver (intoRaw x) = false
+isReceiver (release x) = false
+isReceiver (address x) = false
+isReceiver (heldAddress x) = false
+isReceiver slotAddress = false
+
+unfoldable pub isSlotAddress : Operand → Bool
+isSlotAddress receiver = false
+isSlotAddress (direct x) = false
+isSlotAddress (intoRaw x) = false
+isSlotAddress (release x) = false
+isSlotAddress (address x) = false
+isSlotAddress (heldAddress x) = false
+isSlotAddress slotAddress = true
 
 -- `::rust::Box<T>` and `::std::unique_ptr<T>` are types themselves
 unfoldable pub formOk : CallForm → Bool
@@ -188,7 +207,7 @@ formOk (inSlice x) = typeOk maxLevels x
 unfoldable pub callOk : Call → Bool
 callOk c =
     formOk (c .form) && (isSymbol (c .symbol) &&
-    (every operandOk (c .operands) && leb (callArguments (c .operands)) maxArguments))
+    (every operandOk (c .operands) && fewArguments isReceiver isSlotAddress (c .operands)))
 
 unfoldable pub commentsOk : List (List ℕ) → Bool
 commentsOk comments = leb (length comments) maxComments && every (λ s. leb (length s) maxCommentLength) comments

@@ -1,7 +1,7 @@
 -- Demand 3 of a sheet, if the trees of its items are spelled by its text, keep the rules and match its functions.
 use mathlib.Core.Path.{_≡_, refl, sym, ap, _∙_}
 use mathlib.Core.List.{List, [], _∷_, _++_, map, append-assoc, append-nil}
-use mathlib.Core.Bool.{Bool, true, false, cond, _||_, false≢true}
+use mathlib.Core.Bool.{true, false, cond, false≢true}
 use Prim.Native.Nat.{ℕ}
 use lib.Dec.{eqb}
 use Rattle.lexical.specs.Bytes.{bytes, every, same, member}
@@ -9,14 +9,13 @@ use Rattle.lexical.specs.Names.{nameChar, nameShape, nameOk, keywords, alternat
 use Rattle.lexical.proofs.BoolLaws.{by-cases, or-left, or-right}
 use Rattle.lexical.proofs.ByteLaws.{byte-eq, same-eq, same-refl, every-cons}
 use Rattle.lexical.proofs.NameLaws.{name-chars}
-use Rattle.format.specs.Decode.{pick}
 use Rattle.format.specs.Sheet.{Name, Function, Body, struct, enum, cxxType, rustType, function, Item, Sheet}
 use Rattle.syntax.specs.Items.{itemAt, selfType}
 use Rattle.syntax.specs.Symbol.{pushAll, join}
 use Rattle.syntax.specs.Mangle.{version, externFn, operator}
 use Rattle.rules.specs.Rules.{gather}
 use Rattle.grammar.specs.Tree.{size, align}
-use Rattle.agreement.specs.Agreement.{RustFunction, rustFunction, rustFunctions, symbolOf, Declared, Defined, ofFunctions}
+use Rattle.agreement.specs.Agreement.{RustFunction, rustFunction, rustFunctions, symbolOf, ofFunctions}
 use Rattle.agreement.specs.Agreement.{Matches, MatchAll, Agrees, Demand3}
 use Rattle.pieces.proofs.ForwardTree.{itemNamed}
 use Rattle.pieces.proofs.SheetEntries.{Each, Trees, entriesOf, Spelled, RulesKept, entries-spelled, entries-ok}

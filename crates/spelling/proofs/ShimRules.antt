@@ -1,10 +1,9 @@
 -- The trees of shims keep the grammar's rules.
-use mathlib.Core.Path.{_≡_, refl, ap, _∙_}
+use mathlib.Core.Path.{_≡_, refl}
 use mathlib.Core.List.{List, [], _∷_, _++_, map}
 use mathlib.Core.Bool.{Bool, true, false, not, false≢true}
-use Prim.Native.Nat.{suc, _+_, _≤_}
+use Prim.Native.Nat.{_+_, _≤_}
 use native.Mathlib.Omega.{arith}
-use borrow.Author.Tests.{leb-true}
 use lib.Dec.{leb}
 use lib.ListN.{length, length-map}
 use Rattle.lexical.specs.Bytes.{bytes, every, same}
@@ -22,22 +21,21 @@ use Rattle.decoded.proofs.Kept.{All, argument-name, argument-type, ItemKept, Fu
 use Rattle.bridge.specs.Write.{indirectReturn, Shape, slot, isRoot, isFree, isMain, isHeld, direct}
 use Rattle.grammar.specs.Types.{CxxType}
 use Rattle.grammar.specs.Tree as Tree
-use Rattle.grammar.specs.Tree.{Operand}
 use Rattle.grammar.specs.Rules
 use Rattle.grammar.specs.Rules.{levels, partsOk, typeOk, resultOk, headOk, argumentOk, localOk, operandOk}
-use Rattle.grammar.specs.Rules.{callArguments, formOk, callOk, commentsOk, shimOk}
+use Rattle.grammar.specs.Rules.{atMostOne, fewArguments, isReceiver, isSlotAddress, formOk, callOk, commentsOk, shimOk}
 use Rattle.agreement.specs.Agreement as Agreement
 use Rattle.agreement.specs.Agreement.{Passing, passing, argumentOperand}
 use Rattle.spelling.specs.TypeTree.{cxxType}
 use Rattle.spelling.specs.ShimTree.{commentsOf, resultOf, headOf, argumentOf, heldOf, roomOf, directForm}
 use Rattle.spelling.specs.ShimTree.{returnForm, operandOf, slotAddressOf, operandsOf, shimOf}
-use Rattle.spelling.proofs.Lists.{count-within}
+use Rattle.spelling.proofs.Lists.{few-between, none-or-one}
 use Rattle.spelling.proofs.TypeSpelling.{item-kept}
 use Rattle.spelling.proofs.TypeRules.{type-ok}
 use Rattle.spelling.proofs.Shapes.{Shaped, isBox, isUniquePtr, isRef, isStr, isSlice, isOther, shaped}
 use Rattle.spelling.proofs.Symbols.{externFn-symbol}
 use Rattle.spelling.proofs.DeclarationSpelling.{slot-fits}
-use Rattle.spelling.proofs.DeclarationRules.{slotTree-ok}
+use Rattle.spelling.proofs.DeclarationRules.{mapped-few, slot-few, slotTree-ok}
 use Rattle.spelling.proofs.Comments.{comments-ok}
 
 -- ---- operands
@@ -50,35 +48,10 @@ operand-ok Agreement.uniquePtr x h = h
 operand-ok Agreement.rustString x h = h
 operand-ok Agreement.otherIndirect x h = h
 
-one-argument : (p : Passing) (x : Name) (os : List Operand) →
-    callArguments (argumentOperand p x ∷ os) ≡ suc (callArguments os)
-unfolding callArguments
-one-argument Agreement.direct x os = refl
-one-argument Agreement.box x os = refl
-one-argument Agreement.uniquePtr x os = refl
-one-argument Agreement.rustString x os = refl
-one-argument Agreement.otherIndirect x os = refl
-
 slots-ok : (ts : List Ty) → every operandOk (map slotAddressOf ts) ≡ true
 unfolding every operandOk
 slots-ok [] = refl
 slots-ok (t ∷ ts) = slots-ok ts
-
-no-arguments : (ts : List Ty) → callArguments (map slotAddressOf ts) ≡ 0
-unfolding callArguments
-no-arguments [] = refl
-no-arguments (t ∷ ts) = no-arguments ts
-
-call-append : (os ps : List Operand) → callArguments (os ++ ps) ≡ callArguments os + callArguments ps
-unfolding callArguments
-call-append [] ps = omega arith
-call-append (Tree.receiver ∷ os) ps = call-append os ps
-call-append (Tree.direct x ∷ os) ps = omega (arith, call-append os ps)
-call-append (Tree.intoRaw x ∷ os) ps = omega (arith, call-append os ps)
-call-append (Tree.release x ∷ os) ps = omega (arith, call-append os ps)
-call-append (Tree.address x ∷ os) ps = omega (arith, call-append os ps)
-call-append (Tree.heldAddress x ∷ os) ps = omega (arith, call-append os ps)
-call-append (Tree.slotAddress ∷ os) ps = call-append os ps
 
 module _ (items : List Item) where
   operands-ok : (f : Function) → FunctionKept items f → every operandOk (operandsOf items f) ≡ true
@@ -102,21 +75,18 @@ module _ (items : List Item) where
           and-of (operandOk (operandOf items a)) _
           (operand-ok (passing items (a .type)) (a .name) (argument-name (length items) a (q .0))) (go xs (q .1))
 
-  few-operands : (f : Function) → FunctionKept items f → leb (callArguments (operandsOf items f)) 31 ≡ true
-  unfolding callArguments operandsOf
+  few-operands : (f : Function) → FunctionKept items f →
+      fewArguments isReceiver isSlotAddress (operandsOf items f) ≡ true
+  unfolding operandsOf atMostOne isReceiver isSlotAddress
   few-operands f g =
-      let few : length (f .arguments) ≤ 31 = leb-true (length (f .arguments)) 31 (g .fewArguments) in
-      count-within callArguments call-append (pick (isMethod (f .form)) (Tree.receiver ∷ []) [])
-      (map (operandOf items) (f .arguments)) (map slotAddressOf (slot items f)) 31 (none (isMethod (f .form)))
-      (omega (arith, all (f .arguments))) (no-arguments (slot items f))
+      few-between isReceiver isSlotAddress (pick (isMethod (f .form)) (Tree.receiver ∷ []) [])
+      (map (operandOf items) (f .arguments)) (map slotAddressOf (slot items f)) (one (isMethod (f .form)))
+      (mapped-few (operandOf items) f g)
+      (none-or-one isSlotAddress slotAddressOf (λ t. refl) (slot items f) (slot-few items f))
     where
-      none : (b : Bool) → callArguments (pick b (Tree.receiver ∷ []) []) ≡ 0
-      none true = refl
-      none false = refl
-
-      all : (xs : List Argument) → callArguments (map (operandOf items) xs) ≡ length xs
-      all [] = refl
-      all (a ∷ xs) = one-argument (passing items (a .type)) (a .name) (map (operandOf items) xs) ∙ ap suc (all xs)
+      one : (b : Bool) → length (pick b (Tree.receiver ∷ []) []) ≤ atMostOne isReceiver (pick b (Tree.receiver ∷ []) [])
+      one true = omega arith
+      one false = omega arith
 
 module _ (items : List Item) (kept : All (ItemKept items) items) where
   -- ---- the call
