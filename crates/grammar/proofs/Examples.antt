@@ -3,9 +3,7 @@ use mathlib.Core.Path.{_≡_, refl, subst}
 use mathlib.Core.List.{List, [], _∷_, _++_}
 use mathlib.Core.Bool.{Bool, true, false}
 use Prim.Native.Nat.{ℕ, zero, suc}
-use Rattle.lexical.specs.Bytes.{bytes, every, same, member}
-use Rattle.lexical.specs.Decimal.{digits, decimal}
-use Rattle.lexical.specs.Names.{nameShape, nameOk, keywords, alternativeTokens, reserved}
+use Rattle.lexical.specs.Bytes.{bytes, same}
 use Rattle.grammar.specs.Types.{Name, bool, usize, u32, box, reference, CxxType, suffixed, atom, full, template}
 use Rattle.grammar.specs.Types.{array, voidFn, CxxTypes, nil, cons}
 use Rattle.grammar.specs.Tree.{void, int, value, Parameter, named, slot, size, align, free, Operand, receiver, direct}
@@ -15,8 +13,10 @@ use Rattle.grammar.specs.Tree.{item, block, Forward}
 use Rattle.grammar.specs.Tree.{structLine, forwardEnd, line, bareNamespace, Text, text}
 use Rattle.grammar.specs.Rules
 use Rattle.grammar.specs.Reading.{Reads, OneReading}
-use Rattle.grammar.proofs.Checked.{checked}
-use Rattle.grammar.proofs.Forms.{plainShim, formsTree, forms}
+use Rattle.grammar.specs.Tokens.{Closings}
+use Rattle.grammar.proofs.Checked.{closing, checked}
+use Rattle.grammar.proofs.Computing.{computes}
+use Rattle.grammar.proofs.Forms.{plainShim, formsTree, formsClosings, forms}
 use Rattle.grammar.proofs.Unique.{one-reading}
 
 -- document 01's worked text, over the parameters and operands of its function
@@ -94,6 +94,11 @@ worked = lines (bytes "::mill::Job const &job") (bytes "job")
 
 abbrev pub workedTree : Text
 workedTree = tree (job ∷ []) (direct (bytes "job") ∷ [])
+
+-- of both texts
+abbrev millClosings : Closings workedTree
+unfolding same
+millClosings = (closing (namespace mill) " namespace mill" refl, (closing externC " extern \"C\"" refl, tt, tt), tt)
 
 -- with one more argument, and the two operands swapped
 
@@ -209,13 +214,13 @@ pub record Limits : Type 0 where
 
 computed : Reads workedTree worked × Reads swappedTree swapped × Reads inForward twofold × Reads inBody twofold × Reads formsTree forms
     × Limits
-unfolding every same member digits decimal nameShape nameOk keywords alternativeTokens reserved Rules.isSymbol Rules.fullNameOk Rules.levels Rules.baseLevels Rules.deepest Rules.count Rules.partsOk Rules.baseOk Rules.allPartsOk Rules.resultOk Rules.declaredOk Rules.atMostOne Rules.fewArguments Rules.isSelf Rules.isSlot Rules.declarationOk Rules.layoutOk Rules.headOk Rules.argumentOk Rules.localOk Rules.operandOk Rules.isReceiver Rules.isSlotAddress Rules.formOk Rules.callOk Rules.commentsOk Rules.shimOk Rules.itemOk Rules.bodyOk Rules.lineOk Rules.forwardOk Rules.textOk
+unfolding computes
 computed = (
-  checked workedTree worked refl,
-  checked swappedTree swapped refl,
-  checked inForward twofold refl,
-  checked inBody twofold refl,
-  checked formsTree forms refl,
+  checked workedTree millClosings worked refl,
+  checked swappedTree millClosings swapped refl,
+  checked inForward tt twofold refl,
+  checked inBody (closing (namespace (bytes "a")) " namespace a" refl, tt, tt) twofold refl,
+  checked formsTree formsClosings forms refl,
   record {
     levels = (refl, refl);
     declaredLevels = (refl, refl);

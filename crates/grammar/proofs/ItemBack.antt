@@ -1,8 +1,8 @@
 -- The parser gives back each declaration, layout definition and shim from its tokens.
-use mathlib.Core.Path.{_≡_, refl, _∙_}
+use mathlib.Core.Path.{_≡_, refl, ap, _∙_}
 use mathlib.Core.List.{List, [], _∷_, _++_}
-use mathlib.Core.Bool.{Bool, true, false, _&&_, not, false≢true}
-use mathlib.Core.Option.{Option}
+use mathlib.Core.Bool.{Bool, true, false, _&&_, not, cond, false≢true}
+use mathlib.Core.Option.{Option, none}
 use Prim.Native.Nat.{ℕ, suc, _≤_, _+_}
 use native.Mathlib.Omega.{arith}
 use lib.Dec.{leb}
@@ -10,7 +10,7 @@ use lib.ListN.{length}
 use Rattle.lexical.specs.Bytes.{bytes, every, same}
 use Rattle.lexical.specs.Names.{isName}
 use Rattle.lexical.proofs.BoolLaws.{both, not-true}
-use Rattle.lexical.proofs.ByteLaws.{every-weaken}
+use Rattle.lexical.proofs.ByteLaws.{every-weaken, same-refl}
 use Rattle.grammar.specs.Token.{Token, word, scope, comment, quoted}
 use Rattle.grammar.specs.Types.{Name, usize, CxxType, suffixed, atom, box, uniquePtr, template}
 use Rattle.grammar.specs.Tree.{Result, void, ptrLen, fat, int, value, Parameter, named, slot, Declaration}
@@ -186,6 +186,7 @@ module _ {A : Type 0} where
   local-back (held x s) n l o r k =
       type-back x n l (both (leb (levels x) maxLevels) (partsOk x) (both (typeOk maxLevels x) (isName s) o .0) .1)
       (quoted ">" (word (s ++ bytes "$") ∷ quoted "( :: std :: move (" (word s ∷ quoted ") ) ;" r))) refl _
+      ∙ ap (λ (b : Bool). cond b (k (held x s) r) none) (same-refl (s ++ bytes "$"))
   local-back (room x) n l o r k =
       type-back x n l (both (leb (levels x) maxLevels) (partsOk x) o .1) (quoted "> return$ ;" r) refl _
 

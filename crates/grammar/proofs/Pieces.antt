@@ -1,7 +1,7 @@
 -- Pieces of a text in front of a rest that is laid out: `Layout ts r` gives `Layout (tokens x ts) (bytes of x, then r)`.
 -- A piece that is spelled out whole is one use of `literal`.
-use mathlib.Core.Path.{_≡_, refl, ap, _∙_, sym}
-use mathlib.Core.List.{List, [], _∷_, _++_, append-assoc, map}
+use mathlib.Core.Path.{_≡_, refl, ap, _∙_, sym, subst}
+use mathlib.Core.List.{List, [], _∷_, _++_, append-assoc, append-nil, map}
 use mathlib.Core.Bool.{Bool, true, false, _&&_, not, false≢true}
 use Prim.Native.Nat.{ℕ}
 use lib.Dec.{eqb}
@@ -12,20 +12,21 @@ use Rattle.lexical.proofs.BoolLaws.{both, and-of, by-cases}
 use Rattle.lexical.proofs.ByteLaws.{byte-eq, every-cons, every-snoc, every-weaken}
 use Rattle.lexical.proofs.NameLaws.{name-starts, name-chars}
 use Rattle.grammar.specs.Token.{Token, word, comment, wordChar, quoted}
-use Rattle.grammar.specs.Layout.{nonempty, endsIn, inLine, wellFormed, noWordChar, Layout, blank, token}
+use Rattle.grammar.specs.Layout.{nonempty, endsIn, inLine, wellFormed, noWordChar, Layout, finished, blank, token}
 use Rattle.grammar.specs.Types.{Name, Atom, bool, char, u8, u16, u32, u64, usize, i8, i16, i32, i64, isize}
 use Rattle.grammar.specs.Types.{f32, f64, cxxString, rustString, Template, box, vec, uniquePtr, sharedPtr}
 use Rattle.grammar.specs.Types.{weakPtr, vector, Suffix, reference, pointer, CxxType, suffixed}
 use Rattle.grammar.specs.Tree.{Operand, receiver, direct, intoRaw, release, address, heldAddress, slotAddress}
-use Rattle.grammar.specs.Tree.{Block, namespace, externC}
+use Rattle.grammar.specs.Tree.{Block, namespace, externC, Body, bodyEnd, item, block}
 use Rattle.grammar.specs.Tokens.{eachTokens, commaTokens, listTokens, pathTokens, atomTokens, templateTokens}
 use Rattle.grammar.specs.Tokens.{constTokens, suffixTokens, typeTokens, operandTokens, blockTokens}
-use Rattle.grammar.specs.Tokens.{closingComment}
-use Rattle.grammar.specs.Rules.{symbolStart, isSymbol, operandOk}
+use Rattle.grammar.specs.Tokens.{BodyClosings}
+use Rattle.grammar.specs.Rules.{symbolStart, isSymbol, operandOk, itemOk, bodyOk}
 use Rattle.grammar.proofs.LexedLayout.{some-snoc}
 use Rattle.grammar.proofs.Literal.{literal}
 use Rattle.grammar.proofs.Decimal.{decimal-word}
 use Rattle.grammar.proofs.RuleFacts.{name-to-word, withSuffix}
+use Rattle.grammar.proofs.TextBack.{blockOk, block-rules}
 
 -- words
 
@@ -248,10 +249,6 @@ no-splice : (a : ℕ) (x : List ℕ) → every nameChar x ≡ true → eqb a 92 
 no-splice a [] h e = e
 no-splice a (c ∷ x) h e = let q = every-cons nameChar c x h in no-splice c x (q .1) (other nameChar 92 refl c (q .0))
 
-abbrev pub blockOk : Block → Bool
-blockOk (namespace x) = isName x
-blockOk externC = true
-
 abbrev pub blockBytes : Block → List ℕ → List ℕ
 blockBytes (namespace x) r = bytes "namespace " ++ (x ++ r)
 blockBytes externC r = bytes "extern \"C\"" ++ r
@@ -261,15 +258,38 @@ pub open-laid : (b : Block) {ts : List Token} {r : List ℕ} → blockOk b ≡ t
 open-laid (namespace x) h d = literal (bytes "namespace ") refl refl (name-laid x h refl (literal (bytes " {\n") refl refl d))
 open-laid externC h d = literal (bytes "extern \"C\" {\n") refl refl d
 
-closing-in-line : (b : Block) → blockOk b ≡ true → every inLine (closingComment b) ≡ true
-unfolding every
-closing-in-line (namespace x) h = every-weaken nameChar inLine name-in-line x (name-chars reserved x h)
-closing-in-line externC h = refl
+-- the crate's closing comments
 
-closing-unspliced : (b : Block) → blockOk b ≡ true → endsIn 92 (closingComment b) ≡ false
-closing-unspliced (namespace x) h = no-splice 32 x (name-chars reserved x h) refl
-closing-unspliced externC h = refl
+abbrev pub usualComment : Block → List ℕ
+usualComment (namespace x) = bytes " namespace " ++ x
+usualComment externC = bytes " extern \"C\""
+
+usual-in-line : (b : Block) → blockOk b ≡ true → every inLine (usualComment b) ≡ true
+unfolding every
+usual-in-line (namespace x) h = every-weaken nameChar inLine name-in-line x (name-chars reserved x h)
+usual-in-line externC h = refl
+
+usual-unspliced : (b : Block) → blockOk b ≡ true → endsIn 92 (usualComment b) ≡ false
+usual-unspliced (namespace x) h = no-splice 32 x (name-chars reserved x h) refl
+usual-unspliced externC h = refl
 
 pub close-laid : (b : Block) {ts : List Token} {r : List ℕ} → blockOk b ≡ true → Layout ts r →
-    Layout (quoted "}" (comment (closingComment b) ∷ ts)) (bytes "} //" ++ (closingComment b ++ (bytes "\n" ++ r)))
-close-laid b h d = literal (bytes "} ") refl refl (comment-laid (closingComment b) (closing-in-line b h) (closing-unspliced b h) d)
+    Layout (quoted "}" (comment (usualComment b) ∷ ts)) (bytes "} //" ++ (usualComment b ++ (bytes "\n" ++ r)))
+close-laid b h d = literal (bytes "} ") refl refl (comment-laid (usualComment b) (usual-in-line b h) (usual-unspliced b h) d)
+
+pub usual-repeats : (b : Block) → blockOk b ≡ true → Layout (blockTokens b []) (usualComment b)
+usual-repeats (namespace x) h =
+    literal (bytes " namespace ") refl refl
+    (subst (λ (s : List ℕ). Layout (word x ∷ []) s) (append-nil x) (name-laid x h refl finished))
+usual-repeats externC h = literal (bytes " extern \"C\"") refl refl finished
+
+unfoldable pub usualClosings : (b : Body) (depth : ℕ) (c : Bool) → bodyOk depth c b ≡ true → BodyClosings b
+unfolding bodyOk
+usualClosings bodyEnd depth c o = tt
+usualClosings (item i next) depth c o = usualClosings next depth c (both (itemOk depth c i) (bodyOk depth c next) o .1)
+usualClosings (block b inside next) depth c o =
+    let q = block-rules b inside next depth c o in (
+      record { characters = usualComment b; repeats = usual-repeats b (q .4) },
+      usualClosings inside (q .0) (q .1) (q .2),
+      usualClosings next depth c (q .3),
+    )

@@ -20,7 +20,8 @@ use Rattle.grammar.specs.Tokens.{eachTokens, pathTokens, atomTokens, tem
 use Rattle.grammar.specs.Tokens.{typeTokens, baseTokens, typesTokens, moreTypesTokens}
 use Rattle.grammar.specs.Rules.{maxNamespaces, maxFnArguments, arrayLengths, ofStdOrRust, fullNameOk, count, partsOk}
 use Rattle.grammar.specs.Rules.{baseOk, allPartsOk}
-use Rattle.grammar.proofs.Parser.{sameToken, begins, Parser, fork, need, pathP, isSuffix, suffixesP, opening}
+use Rattle.grammar.proofs.SameTokens.{sameToken}
+use Rattle.grammar.proofs.Parser.{begins, Parser, fork, need, pathP, isSuffix, suffixesP, opening}
 use Rattle.grammar.proofs.Parser.{Start, based, insideP, startP, suffixedP, typeP, typesP}
 use Rattle.grammar.proofs.Parser.{moreTypesP}
 use Rattle.grammar.proofs.Decimal.{number-decimal}

@@ -1,18 +1,20 @@
 -- A text in which no `{` stands directly before `}` has at most one reading.
-use mathlib.Core.Path.{_≡_, refl, _∙_, sym}
+use mathlib.Core.Path.{_≡_, refl, ap, _∙_, sym, subst}
 use mathlib.Core.List.{List, []}
 use mathlib.Core.Bool.{true, _&&_, not, false≢true}
-use Prim.Native.Nat.{ℕ}
+use mathlib.Core.Option.{Option, none, some}
+use Prim.Native.Nat.{ℕ, zero, suc, _≤_}
+use native.Mathlib.Omega.{arith}
 use Rattle.lexical.specs.Bytes.{same}
 use Rattle.lexical.proofs.BoolLaws.{both, and-of}
 use Rattle.grammar.specs.Token.{Token, quoted}
 use Rattle.grammar.specs.Layout.{Layout}
 use Rattle.grammar.specs.Tree.{Forward, forwardEnd, line, bareNamespace, Text, text}
-use Rattle.grammar.specs.Tokens.{forwardTokens, bodyTokens, textTokens}
+use Rattle.grammar.specs.Tokens.{forwardTokens, bodyTokens, Closings, textTokens}
 use Rattle.grammar.specs.Reading.{Reads, OneReading}
-use Rattle.grammar.proofs.Lexer.{same-tokens}
-use Rattle.grammar.proofs.Parser.{begins}
-use Rattle.grammar.proofs.TextBack.{hasLines, forwardFilled, forwardOf, told-by-tokens}
+use Rattle.grammar.proofs.Lexer.{lex, lexed, same-tokens}
+use Rattle.grammar.proofs.Parser.{begins, textP}
+use Rattle.grammar.proofs.TextBack.{hasLines, forwardFilled, forwardOf, textSize, text-back, told-by-tokens}
 use Rattle.grammar.proofs.Braces.{noEmptyBraces, line-braceless, textFilled, filled-braces}
 
 brace-rest : (r : List Token) → noEmptyBraces (quoted "{" r) ≡ true → noEmptyBraces r ≡ true
@@ -45,17 +47,47 @@ forward-filled (bareNamespace x inside next) r h =
     (and-of (forwardFilled inside) (forwardFilled next) (forward-filled inside rest e)
     (forward-filled next r (forward-rest inside rest e)))
 
-text-filled : (t : Text) → noEmptyBraces (textTokens t) ≡ true → forwardFilled (forwardOf t) ≡ true
-text-filled (text f b) h = forward-filled f (bodyTokens b []) h
+text-filled : (t : Text) (cs : Closings t) → noEmptyBraces (textTokens t cs) ≡ true → forwardFilled (forwardOf t) ≡ true
+text-filled (text f b) cs h = forward-filled f (bodyTokens b cs []) h
 
 -- any two readings of a text whose tokens have no empty braces are equal
 pub unique : {ts : List Token} {s : List ℕ} → Layout ts s → noEmptyBraces ts ≡ true →
     (t u : Text) → Reads t s → Reads u s → t ≡ u
 unique d h t u a b =
-    let e : textTokens t ≡ _ = same-tokens (a .laidOut) d in
-    let f : textTokens u ≡ _ = same-tokens (b .laidOut) d in
-    told-by-tokens t u (a .keepsRules) (b .keepsRules) (text-filled t (rw e h)) (text-filled u (rw f h)) (e ∙ sym f)
+    let e : textTokens t (a .closings) ≡ _ = same-tokens (a .laidOut) d in
+    let f : textTokens u (b .closings) ≡ _ = same-tokens (b .laidOut) d in
+    told-by-tokens t u (a .closings) (b .closings) (a .keepsRules) (b .keepsRules) (text-filled t (a .closings) (rw e h))
+    (text-filled u (b .closings) (rw f h)) (e ∙ sym f)
 
 -- a reading in which each namespace and extern "C" has content is the only one
 pub one-reading : (t : Text) (s : List ℕ) → Reads t s → textFilled t ≡ true → OneReading s
-one-reading t s a h = record { tree = t; reads = a; equal = unique (a .laidOut) (filled-braces t (a .keepsRules) h) }
+one-reading t s a h =
+    record { tree = t; reads = a; equal = unique (a .laidOut) (filled-braces t (a .closings) (a .keepsRules) h) }
+
+abbrev pub NoReading : List ℕ → Type 0
+NoReading s = (t : Text) → Reads t s → ⊥
+
+-- n, and k more
+abbrev pub raised : ℕ → ℕ → ℕ
+raised zero n = n
+raised (suc k) n = suc (raised k n)
+
+at-least : (k n : ℕ) → n ≤ raised k n
+at-least zero n = omega arith
+at-least (suc k) n = omega (arith, at-least k n)
+
+isNone : {A : Type 0} → Option A → Type 0
+isNone none = Unit {0}
+isNone (some a) = ⊥
+
+-- a text that the parser does not read has no reading
+pub unread : (s : List ℕ) (k : ℕ) → noEmptyBraces (lex s) ≡ true → ((n : ℕ) → textP (raised k n) (lex s) ≡ none) →
+    NoReading s
+unfolding isNone
+unread s k h p t a =
+    let n : ℕ = raised k (textSize t) in
+    let e : lex s ≡ textTokens t (a .closings) = lexed (a .laidOut) in
+    let read : textP n (textTokens t (a .closings)) ≡ some t =
+    text-back t (a .closings) n (at-least k (textSize t)) (a .keepsRules) (text-filled t (a .closings) (rw (← e) h)) in
+    let q : none ≡ some t = sym (p (textSize t)) ∙ ap (textP n) e ∙ read in
+    subst isNone q tt

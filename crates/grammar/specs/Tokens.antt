@@ -5,6 +5,7 @@ use Prim.Native.Nat.{ℕ}
 use Rattle.lexical.specs.Bytes.{bytes}
 use Rattle.lexical.specs.Decimal.{decimal}
 use Rattle.grammar.specs.Token.{Token, word, scope, comment, quoted}
+use Rattle.grammar.specs.Layout.{Layout}
 use Rattle.grammar.specs.Types.{Name, Atom, bool, char, u8, u16, u32, u64, usize, i8, i16, i32, i64, isize}
 use Rattle.grammar.specs.Types.{f32, f64, cxxString, rustString, Template, box, vec, uniquePtr, sharedPtr}
 use Rattle.grammar.specs.Types.{weakPtr, vector, Suffix, reference, pointer, CxxType, suffixed, Base, atom, str}
@@ -214,16 +215,23 @@ abbrev pub blockTokens : Block → List Token → List Token
 blockTokens (namespace x) rest = quoted "namespace" (word x ∷ rest)
 blockTokens externC rest = quoted "extern \"C\"" rest
 
--- "a comment that repeats its head"
-abbrev pub closingComment : Block → List ℕ
-closingComment (namespace x) = bytes " namespace " ++ x
-closingComment externC = bytes " extern \"C\""
+-- "a comment that repeats its head": the head's tokens, laid out behind the two slashes
+pub record Closing (b : Block) : Type 0 where
+  pub characters : List ℕ
+  pub repeats : Layout (blockTokens b []) characters
 
-abbrev pub bodyTokens : Body → List Token → List Token
-bodyTokens bodyEnd rest = rest
-bodyTokens (item i next) rest = itemTokens i (bodyTokens next rest)
-bodyTokens (block b inside next) rest =
-    blockTokens b (quoted "{" (bodyTokens inside (quoted "}" (comment (closingComment b) ∷ bodyTokens next rest))))
+-- one for each block
+abbrev pub BodyClosings : Body → Type 0
+BodyClosings bodyEnd = Unit {0}
+BodyClosings (item i next) = BodyClosings next
+BodyClosings (block b inside next) = Closing b × BodyClosings inside × BodyClosings next
+
+abbrev pub bodyTokens : (body : Body) → BodyClosings body → List Token → List Token
+bodyTokens bodyEnd closings rest = rest
+bodyTokens (item i next) closings rest = itemTokens i (bodyTokens next closings rest)
+bodyTokens (block b inside next) closings rest =
+    blockTokens b (quoted "{" (bodyTokens inside (closings .1) (quoted "}" (comment (closings .0 .characters) ∷
+    bodyTokens next (closings .2) rest))))
 
 -- the forward part
 
@@ -238,5 +246,10 @@ forwardTokens (line l next) rest = lineTokens l (forwardTokens next rest)
 forwardTokens (bareNamespace x inside next) rest =
     quoted "namespace" (word x ∷ quoted "{" (forwardTokens inside (quoted "}" (forwardTokens next rest))))
 
-abbrev pub textTokens : Text → List Token
-textTokens (text forward body) = forwardTokens forward (bodyTokens body [])
+-- the text
+
+abbrev pub Closings : Text → Type 0
+Closings (text forward body) = BodyClosings body
+
+abbrev pub textTokens : (t : Text) → Closings t → List Token
+textTokens (text forward body) closings = forwardTokens forward (bodyTokens body closings [])
