@@ -2,21 +2,19 @@
 -- is still read, and no longer fits.
 use mathlib.Core.Path.{_≡_, refl, sym, subst}
 use mathlib.Core.List.{List, [], _∷_}
-use mathlib.Core.Bool.{false}
 use Prim.Native.Nat.{ℕ}
 use native.Mathlib.Omega.{arith}
 use Rattle.lexical.specs.Bytes.{bytes}
 use Rattle.format.specs.declared.Atom.the-variants.{U32}
-use Rattle.format.specs.declared.Pointer.the-variants.{Ref}
-use Rattle.format.specs.Types.{atom, named, pointer, gives}
-use Rattle.format.specs.Sheet.{free, rustType, function, Item}
+use Rattle.format.specs.Types.{atom}
+use Rattle.format.specs.Sheet.{Item}
 use Rattle.grammar.specs.Tree.{Operand, direct}
 use Rattle.grammar.specs.Reading.{Reads}
 use Rattle.grammar.proofs.Examples.{worked, workedTree, worked-reads, worked-once, swapped, swappedTree, swapped-reads}
 use Rattle.bridge.specs.Write.{text}
 use Rattle.agreement.specs.Agreement.{Agrees, Demand3}
 use Rattle.examples.proofs.Computing.{computes}
-use Rattle.examples.proofs.Mill.{value}
+use Rattle.examples.proofs.Mill.{millItems, value}
 
 mill-is-worked : text value ≡ worked
 unfolding computes
@@ -51,23 +49,7 @@ mill-demand3 = record {
 
 -- the same function with one more argument
 abbrev twoArguments : List Item
-twoArguments =
-    record { namespace = bytes "mill" ∷ []; cxx = bytes "Job"; body = rustType false }
-    ∷ record {
-      namespace = bytes "mill" ∷ [];
-      cxx = bytes "count";
-      body = function (record {
-        rust = bytes "count";
-        form = free;
-        throws = false;
-        return = gives (atom U32);
-        arguments =
-            record { name = bytes "job"; type = pointer Ref false (named 0) }
-            ∷ record { name = bytes "more"; type = atom U32 } ∷ [];
-        comment = [];
-      });
-    }
-    ∷ []
+twoArguments = millItems (record { name = bytes "more"; type = atom U32 } ∷ [])
 
 -- a text with swapped operands is read, and its reading does not fit
 pub swapped-does-not-fit : Reads swappedTree swapped × (Agrees twoArguments swappedTree → ⊥)

@@ -27,7 +27,7 @@ use Rattle.grammar.specs.Tree as Tree
 use Rattle.grammar.specs.Tree.{Measure}
 use Rattle.grammar.specs.Tokens.{measureTokens, typeTokens, resultTokens, parameterTokens, declarationTokens}
 use Rattle.grammar.specs.Tokens.{layoutTokens}
-use Rattle.grammar.proofs.Pieces.{suffix-tokens}
+use Rattle.spelling.proofs.Suffixes.{suffix-tokens}
 use Rattle.spelling.specs.TypeTree.{pointerTo, cxxType}
 use Rattle.spelling.specs.DeclarationTree.{directResult, directResultOf, declaredResult, declaredReceiver}
 use Rattle.spelling.specs.DeclarationTree.{declaredType, declaredArgument, slotTree, declaredSlot}

@@ -21,7 +21,7 @@ use Rattle.grammar.specs.Types.{CxxType, Suffix, CxxTypes}
 use Rattle.grammar.specs.Rules
 use Rattle.grammar.specs.Rules.{ofStdOrRust, fullNameOk, levels, baseLevels, deepest, partsOk, baseOk, allPartsOk}
 use Rattle.grammar.specs.Rules.{typeOk}
-use Rattle.grammar.proofs.RuleFacts.{suffix-levels, suffix-parts}
+use Rattle.spelling.proofs.Suffixes.{suffix-levels, suffix-parts}
 use Rattle.spelling.specs.TypeTree.{itemPath, withSuffix, pointerTree, cxxType, fnTree, cxxTypes}
 use Rattle.spelling.proofs.TypeSpelling.{item-kept, itemPath-names}
 

@@ -28,11 +28,12 @@ use Rattle.grammar.specs.Types as Cxx
 use Rattle.grammar.specs.Types.{CxxType, Suffix, CxxTypes}
 use Rattle.grammar.specs.Tokens.{pathTokens, atomTokens, templateTokens, constTokens, suffixTokens, typeTokens}
 use Rattle.grammar.specs.Tokens.{baseTokens, typesTokens, moreTypesTokens}
-use Rattle.spelling.specs.TypeTree.{atomTree, templateTree, itemPath, withSuffix, cxxType, fnTree, cxxTypes}
+use Rattle.agreement.specs.Atoms.{atomTree}
+use Rattle.spelling.specs.TypeTree.{templateTree, itemPath, withSuffix, cxxType, fnTree, cxxTypes}
 use Rattle.spelling.proofs.Spells.{End, closed, inside, Spells, meets, _▷_, _▷⟨_⟩_, weaken, as-tokens, empty}
 use Rattle.spelling.proofs.Spells.{lit, word-spells, name-spells}
 use Rattle.grammar.proofs.Decimal.{decimal-word}
-use Rattle.grammar.proofs.Pieces.{suffix-tokens}
+use Rattle.spelling.proofs.Suffixes.{suffix-tokens}
 
 -- ---- full names
 
