@@ -12,7 +12,7 @@ use Rattle.decoded.proofs.Kept.{All, ItemKept, accepted-kept}
 use Rattle.grammar.specs.Tree.{size, align}
 use Rattle.agreement.specs.Agreement.{Demand3}
 use Rattle.spelling.specs.DeclarationTree.{declarationOf, layoutDeclarationOf, layoutDefinitionOf}
-use Rattle.spelling.specs.ShimTree.{shimOf}
+use Rattle.spelling.specs.ShimTree.{shimTree}
 use Rattle.spelling.proofs.Pieces.{declaration-laid, declaration-keeps, layoutDeclaration-laid, layoutDeclaration-keeps}
 use Rattle.spelling.proofs.Pieces.{layoutDefinition-laid, layoutDefinition-keeps, shim-laid, shim-keeps}
 use Rattle.spelling.proofs.Matching.{function-matches}
@@ -27,7 +27,7 @@ treesOf s =
       layoutDeclared = layoutDeclarationOf;
       functionDeclared = declarationOf (s .items);
       layoutDefined = layoutDefinitionOf;
-      functionDefined = shimOf s;
+      functionDefined = shimTree s;
     }
 
 each-of : {A : Type 0} (P Q : A → Type 0) → ((x : A) → P x → Q x) → (xs : List A) → All P xs → Each Q xs

@@ -9,7 +9,7 @@ use Rattle.format.specs.declared.Atom.the-variants.{U32}
 use Rattle.format.specs.Types.{atom}
 use Rattle.format.specs.Sheet.{Item}
 use Rattle.grammar.specs.Tree.{Operand, direct}
-use Rattle.grammar.specs.Reading.{Reads}
+use Rattle.grammar.specs.Reading.{Reading}
 use Rattle.grammar.proofs.Examples.{worked, workedTree, worked-reads, worked-once, swapped, swappedTree, swapped-reads}
 use Rattle.bridge.specs.Write.{text}
 use Rattle.agreement.specs.Agreement.{Agrees, Demand3}
@@ -40,9 +40,9 @@ pub mill-demand3 : Demand3 value
 mill-demand3 = record {
   reading = record {
     tree = workedTree;
-    reads = subst (λ (s : List ℕ). Reads workedTree s) (sym mill-is-worked) worked-reads;
-    equal = λ a b p q. worked-once .equal a b (subst (λ (s : List ℕ). Reads a s) mill-is-worked p)
-        (subst (λ (s : List ℕ). Reads b s) mill-is-worked q);
+    reads = subst (λ (s : List ℕ). Reading workedTree s) (sym mill-is-worked) worked-reads;
+    equal = λ a b p q. worked-once .equal a b (subst (λ (s : List ℕ). Reading a s) mill-is-worked p)
+        (subst (λ (s : List ℕ). Reading b s) mill-is-worked q);
   };
   agrees = mill-agrees;
 }
@@ -52,7 +52,7 @@ abbrev twoArguments : List Item
 twoArguments = millItems (record { name = bytes "more"; type = atom U32 } ∷ [])
 
 -- a text with swapped operands is read, and its reading does not fit
-pub swapped-does-not-fit : Reads swappedTree swapped × (Agrees twoArguments swappedTree → ⊥)
+pub swapped-does-not-fit : Reading swappedTree swapped × (Agrees twoArguments swappedTree → ⊥)
 unfolding computes
 swapped-does-not-fit = (swapped-reads, λ a. different (a .0 .operands))
   where

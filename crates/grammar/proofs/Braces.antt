@@ -18,7 +18,7 @@ use Rattle.grammar.specs.Tree.{inNewUnchecked, inSlice, Call, Ending, no
 use Rattle.grammar.specs.Tree.{declares, defines, shim, Block, namespace, externC, Body, bodyEnd, item, block}
 use Rattle.grammar.specs.Tree.{Line, structLine, enumLine, usingLine, Forward, forwardEnd, line, bareNamespace}
 use Rattle.grammar.specs.Tree.{Text, text}
-use Rattle.grammar.specs.Tokens.{eachTokens, commaTokens, listTokens, optional, pathTokens, atomTokens}
+use Rattle.grammar.specs.Tokens.{eachTokens, commaTokens, listTokens, optionalTokens, pathTokens, atomTokens}
 use Rattle.grammar.specs.Tokens.{templateTokens, constTokens, suffixTokens, typeTokens, baseTokens, typesTokens}
 use Rattle.grammar.specs.Tokens.{moreTypesTokens, resultTokens, parameterTokens, headTokens, signatureTokens}
 use Rattle.grammar.specs.Tokens.{measureTokens, operandTokens, localTokens}
@@ -143,7 +143,7 @@ unfolding same
 head-braceless (free f) r = refl
 head-braceless (method t f) r = refl
 
-noexcept-braceless : (e : Bool) (r : List Token) → noEmptyBraces (optional e (quoted "noexcept" []) r) ≡ noEmptyBraces r
+noexcept-braceless : (e : Bool) (r : List Token) → noEmptyBraces (optionalTokens e (quoted "noexcept" []) r) ≡ noEmptyBraces r
 unfolding same
 noexcept-braceless true r = refl
 noexcept-braceless false r = refl

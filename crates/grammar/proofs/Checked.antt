@@ -9,7 +9,7 @@ use Rattle.lexical.proofs.BoolLaws.{both, and-of}
 use Rattle.grammar.specs.Tree.{Block, namespace, externC, Text}
 use Rattle.grammar.specs.Tokens.{blockTokens, Closing, Closings, textTokens}
 use Rattle.grammar.specs.Rules.{textOk}
-use Rattle.grammar.specs.Reading.{Reads}
+use Rattle.grammar.specs.Reading.{Reading}
 use Rattle.grammar.proofs.Lexer.{lex, lexed}
 use Rattle.grammar.proofs.LexedLayout.{allSound, laid}
 use Rattle.grammar.proofs.Literal.{laid-sound}
@@ -30,14 +30,14 @@ closing b s h =
 abbrev pub readsTest : (t : Text) → Closings t → List ℕ → Bool
 readsTest t cs s = textOk t && (allSound (textTokens t cs) && sameTokens (lex s) (textTokens t cs))
 
-pub checked : (t : Text) (cs : Closings t) (s : List ℕ) → readsTest t cs s ≡ true → Reads t s
+pub checked : (t : Text) (cs : Closings t) (s : List ℕ) → readsTest t cs s ≡ true → Reading t s
 checked t cs s h =
     let ts = textTokens t cs in
     let p = both (textOk t) (allSound ts && sameTokens (lex s) ts) h in
     let q = both (allSound ts) (sameTokens (lex s) ts) (p .1) in
     record { keepsRules = p .0; closings = cs; laidOut = laid s ts (q .0) (tokens-eq (lex s) ts (q .1)) }
 
-pub passes : (t : Text) (s : List ℕ) (a : Reads t s) → readsTest t (a .closings) s ≡ true
+pub passes : (t : Text) (s : List ℕ) (a : Reading t s) → readsTest t (a .closings) s ≡ true
 passes t s a =
     let ts = textTokens t (a .closings) in
     and-of (textOk t) (allSound ts && sameTokens (lex s) ts) (a .keepsRules)

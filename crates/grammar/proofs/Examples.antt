@@ -12,7 +12,7 @@ use Rattle.grammar.specs.Tree.{inFromRaw, noReturn, Item, declares, defi
 use Rattle.grammar.specs.Tree.{item, block, Forward}
 use Rattle.grammar.specs.Tree.{structLine, forwardEnd, line, bareNamespace, Text, text}
 use Rattle.grammar.specs.Rules
-use Rattle.grammar.specs.Reading.{Reads, OneReading}
+use Rattle.grammar.specs.Reading.{Reading, OneReading}
 use Rattle.grammar.specs.Tokens.{Closings}
 use Rattle.grammar.proofs.Checked.{closing, checked}
 use Rattle.grammar.proofs.Computing.{computes}
@@ -212,7 +212,7 @@ pub record Limits : Type 0 where
   pub mainInRoot : Limit (Rules.itemOk 0 true declares-main) (Rules.itemOk 1 true declares-main)
   pub inExternC : Limit (Rules.itemOk 0 true declares-main) (Rules.itemOk 0 false declares-main)
 
-computed : Reads workedTree worked × Reads swappedTree swapped × Reads inForward twofold × Reads inBody twofold × Reads formsTree forms
+computed : Reading workedTree worked × Reading swappedTree swapped × Reading inForward twofold × Reading inBody twofold × Reading formsTree forms
     × Limits
 unfolding computes
 computed = (
@@ -252,25 +252,25 @@ computed = (
 )
 
 -- document 01's text has this reading and no other
-pub worked-reads : Reads workedTree worked
+pub worked-reads : Reading workedTree worked
 worked-reads = computed .0
 
 pub worked-once : OneReading worked
 worked-once = one-reading workedTree worked worked-reads refl
 
 -- a text in which a call hands its operands on in another order is read too, and also has no other reading
-pub swapped-reads : Reads swappedTree swapped
+pub swapped-reads : Reading swappedTree swapped
 swapped-reads = computed .1
 
 pub swapped-once : OneReading swapped
 swapped-once = one-reading swappedTree swapped swapped-reads refl
 
-pub ambiguous : Reads inForward twofold × Reads inBody twofold × (inForward ≡ inBody → ⊥)
+pub ambiguous : Reading inForward twofold × Reading inBody twofold × (inForward ≡ inBody → ⊥)
 unfolding HasForward
 ambiguous = (computed .2, computed .3, λ e. subst HasForward e tt)
 
 -- every form of the grammar is read
-pub forms-read : Reads formsTree forms
+pub forms-read : Reading formsTree forms
 forms-read = computed .4
 
 pub forms-once : OneReading forms

@@ -11,7 +11,7 @@ use Rattle.grammar.specs.Token.{Token, quoted}
 use Rattle.grammar.specs.Layout.{Layout}
 use Rattle.grammar.specs.Tree.{Forward, forwardEnd, line, bareNamespace, Text, text}
 use Rattle.grammar.specs.Tokens.{forwardTokens, bodyTokens, Closings, textTokens}
-use Rattle.grammar.specs.Reading.{Reads, OneReading}
+use Rattle.grammar.specs.Reading.{Reading, OneReading}
 use Rattle.grammar.proofs.Lexer.{lex, lexed, same-tokens}
 use Rattle.grammar.proofs.Parser.{begins, textP}
 use Rattle.grammar.proofs.TextBack.{hasLines, forwardFilled, forwardOf, textSize, text-back, told-by-tokens}
@@ -52,7 +52,7 @@ text-filled (text f b) cs h = forward-filled f (bodyTokens b cs []) h
 
 -- any two readings of a text whose tokens have no empty braces are equal
 pub unique : {ts : List Token} {s : List ℕ} → Layout ts s → noEmptyBraces ts ≡ true →
-    (t u : Text) → Reads t s → Reads u s → t ≡ u
+    (t u : Text) → Reading t s → Reading u s → t ≡ u
 unique d h t u a b =
     let e : textTokens t (a .closings) ≡ _ = same-tokens (a .laidOut) d in
     let f : textTokens u (b .closings) ≡ _ = same-tokens (b .laidOut) d in
@@ -60,12 +60,12 @@ unique d h t u a b =
     (text-filled u (b .closings) (rw f h)) (e ∙ sym f)
 
 -- a reading in which each namespace and extern "C" has content is the only one
-pub one-reading : (t : Text) (s : List ℕ) → Reads t s → textFilled t ≡ true → OneReading s
+pub one-reading : (t : Text) (s : List ℕ) → Reading t s → textFilled t ≡ true → OneReading s
 one-reading t s a h =
     record { tree = t; reads = a; equal = unique (a .laidOut) (filled-braces t (a .closings) (a .keepsRules) h) }
 
 abbrev pub NoReading : List ℕ → Type 0
-NoReading s = (t : Text) → Reads t s → ⊥
+NoReading s = (t : Text) → Reading t s → ⊥
 
 -- n, and k more
 abbrev pub raised : ℕ → ℕ → ℕ

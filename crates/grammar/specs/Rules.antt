@@ -82,9 +82,9 @@ unfoldable mutual
   deepest nil = 0
   deepest (cons x xs) = max (levels x) (deepest xs)
 
-unfoldable pub count : CxxTypes → ℕ
-count nil = 0
-count (cons x xs) = suc (count xs)
+unfoldable pub typeCount : CxxTypes → ℕ
+typeCount nil = 0
+typeCount (cons x xs) = suc (typeCount xs)
 
 unfoldable mutual
   pub partsOk : CxxType → Bool
@@ -97,8 +97,8 @@ unfoldable mutual
   baseOk (template t x) = partsOk x
   baseOk (slice x isConst) = partsOk x
   baseOk (array x n) = ltb n arrayLengths && partsOk x
-  baseOk (voidFn xs) = leb (count xs) maxFnArguments && allPartsOk xs
-  baseOk (fn x xs) = leb (count xs) maxFnArguments && (partsOk x && allPartsOk xs)
+  baseOk (voidFn xs) = leb (typeCount xs) maxFnArguments && allPartsOk xs
+  baseOk (fn x xs) = leb (typeCount xs) maxFnArguments && (partsOk x && allPartsOk xs)
 
   pub allPartsOk : CxxTypes → Bool
   allPartsOk nil = true
@@ -128,9 +128,9 @@ resultOk main fat = true
 resultOk main int = main
 resultOk main (value x) = typeOk maxLevels x
 
-abbrev pub isMain : ℕ → Head → Bool
-isMain depth (free f) = eqb depth 0 && same f (bytes "main")
-isMain depth (method t f) = false
+abbrev pub isRootMain : ℕ → Head → Bool
+isRootMain depth (free f) = eqb depth 0 && same f (bytes "main")
+isRootMain depth (method t f) = false
 
 unfoldable pub declaredOk : Parameter → Bool
 declaredOk (named x name) = typeOk maxDeclaredLevels x && isName name
@@ -146,7 +146,7 @@ isSlot (slot x) = true
 
 unfoldable pub declarationOk : ℕ → Declaration → Bool
 declarationOk depth d =
-    isSymbol (d .symbol) && (resultOk (isMain depth (free (d .symbol))) (d .result) &&
+    isSymbol (d .symbol) && (resultOk (isRootMain depth (free (d .symbol))) (d .result) &&
     (every declaredOk (d .parameters) && fewArguments isSelf isSlot (d .parameters)))
 
 unfoldable pub layoutOk : LayoutDefinition → Bool
@@ -214,7 +214,7 @@ commentsOk comments = leb (length comments) maxComments && every (λ s. leb (len
 
 unfoldable pub shimOk : ℕ → Shim → Bool
 shimOk depth s =
-    commentsOk (s .comments) && (resultOk (isMain depth (s .head)) (s .result) && (headOk (s .head) &&
+    commentsOk (s .comments) && (resultOk (isRootMain depth (s .head)) (s .result) && (headOk (s .head) &&
     (every argumentOk (s .parameters) && (leb (length (s .parameters)) maxArguments &&
     (every localOk (s .locals) && callOk (s .call))))))
 
@@ -235,14 +235,14 @@ bodyOk depth inExternC (block externC inside next) = bodyOk depth true inside &&
 
 -- the forward part
 
-unfoldable pub lineOk : Line → Bool
-lineOk (structLine x) = isName x
-lineOk (enumLine x a) = isName x
-lineOk (usingLine x path) = isName x && fullNameOk path
+unfoldable pub forwardLineOk : Line → Bool
+forwardLineOk (structLine x) = isName x
+forwardLineOk (enumLine x a) = isName x
+forwardLineOk (usingLine x path) = isName x && fullNameOk path
 
 unfoldable pub forwardOk : ℕ → Forward → Bool
 forwardOk depth forwardEnd = true
-forwardOk depth (line l next) = lineOk l && forwardOk depth next
+forwardOk depth (line l next) = forwardLineOk l && forwardOk depth next
 forwardOk depth (bareNamespace x inside next) =
     isName x && (ltb depth maxNamespaces && (forwardOk (suc depth) inside && forwardOk depth next))
 

@@ -35,9 +35,9 @@ module _ {A : Type 0} (tokens : A → List Token → List Token) where
   listTokens [] rest = rest
   listTokens (x ∷ xs) rest = tokens x (commaTokens xs rest)
 
-abbrev pub optional : Bool → List Token → List Token → List Token
-optional true ts rest = ts ++ rest
-optional false ts rest = rest
+abbrev pub optionalTokens : Bool → List Token → List Token → List Token
+optionalTokens true ts rest = ts ++ rest
+optionalTokens false ts rest = rest
 
 -- types
 
@@ -74,7 +74,7 @@ templateTokens weakPtr rest = quoted ":: std :: weak_ptr <" rest
 templateTokens vector rest = quoted ":: std :: vector <" rest
 
 abbrev pub constTokens : Bool → List Token → List Token
-constTokens isConst rest = optional isConst (quoted "const" []) rest
+constTokens isConst rest = optionalTokens isConst (quoted "const" []) rest
 
 abbrev pub suffixTokens : Suffix → List Token → List Token
 suffixTokens (reference isConst) rest = constTokens isConst (quoted "&" rest)
@@ -124,7 +124,7 @@ headTokens (method t f) rest = word t ∷ quoted "::" (word f ∷ rest)
 abbrev pub signatureTokens : Result → Head → List Parameter → Bool → Bool → List Token → List Token
 signatureTokens result head parameters isConst noexcept rest =
     resultTokens result (headTokens head (quoted "(" (listTokens parameterTokens parameters (quoted ")"
-    (constTokens isConst (optional noexcept (quoted "noexcept" []) rest))))))
+    (constTokens isConst (optionalTokens noexcept (quoted "noexcept" []) rest))))))
 
 abbrev pub declarationTokens : Declaration → List Token → List Token
 declarationTokens d rest =

@@ -10,7 +10,7 @@ use Rattle.grammar.specs.Tree as Tree
 use Rattle.grammar.specs.Tree.{Text}
 use Rattle.grammar.specs.Tokens.{BodyClosings, bodyTokens}
 use Rattle.grammar.specs.Rules.{forwardOk, bodyOk, textOk}
-use Rattle.grammar.specs.Reading.{Reads, OneReading}
+use Rattle.grammar.specs.Reading.{Reading, OneReading}
 use Rattle.grammar.proofs.TextBack.{forwardFilled}
 use Rattle.grammar.proofs.Braces.{bodyFilled, textFilled}
 use Rattle.grammar.proofs.Unique.{one-reading}
@@ -33,7 +33,7 @@ module _ (s : Sheet) (es : List Entry) (spelled : SpellAll (pieces s) es) (kept 
   abbrev closings : BodyClosings (bodyOf es)
   closings = usualClosings (bodyOf es) 0 false (body-ok es kept)
 
-  pub sheet-reads : Reads (treeOf s es) (text s)
+  pub sheet-reads : Reading (treeOf s es) (text s)
   unfolding textOk bodyText
   sheet-reads =
       record {

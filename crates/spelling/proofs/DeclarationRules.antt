@@ -28,7 +28,7 @@ use Rattle.grammar.specs.Types as Cxx
 use Rattle.grammar.specs.Types.{CxxType}
 use Rattle.grammar.specs.Tree as Tree
 use Rattle.grammar.specs.Tree.{Measure}
-use Rattle.grammar.specs.Rules.{levels, partsOk, typeOk, resultOk, isMain, declaredOk, isSelf, isSlot, declarationOk}
+use Rattle.grammar.specs.Rules.{levels, partsOk, typeOk, resultOk, isRootMain, declaredOk, isSelf, isSlot, declarationOk}
 use Rattle.grammar.specs.Rules.{atMostOne, fewArguments, layoutOk}
 use Rattle.spelling.specs.TypeTree.{pointerTo, cxxType}
 use Rattle.spelling.specs.DeclarationTree.{directResult, directResultOf, declaredResult, declaredReceiver}
@@ -193,7 +193,7 @@ module _ (items : List Item) (kept : All (ItemKept items) items) where
       declarationOk depth (declarationOf items x f) ≡ true
   unfolding declarationOk
   declaration-ok x k f g depth =
-      let main = isMain depth (Tree.free (externFn items (x .namespace) f)) in
+      let main = isRootMain depth (Tree.free (externFn items (x .namespace) f)) in
       rw (externFn-symbol items kept x k f g, declaredResult-ok main f g, parameters-ok f g, few-parameters f g)
 
 -- ---- layouts

@@ -14,7 +14,7 @@ use Rattle.grammar.specs.Tokens.{itemTokens}
 use Rattle.grammar.specs.Rules.{itemOk}
 use Rattle.spelling.specs.DeclarationTree.{declarationOf, layoutDeclarationOf, measureName, operatorName}
 use Rattle.spelling.specs.DeclarationTree.{layoutDefinitionOf}
-use Rattle.spelling.specs.ShimTree.{shimOf}
+use Rattle.spelling.specs.ShimTree.{shimTree}
 use Rattle.spelling.proofs.DeclarationSpelling.{declaration-spells, layoutDeclaration-spells}
 use Rattle.spelling.proofs.DeclarationSpelling.{layoutDefinition-spells}
 use Rattle.spelling.proofs.DeclarationRules.{declaration-ok, layoutDeclaration-ok, layoutDefinition-ok}
@@ -57,10 +57,10 @@ module _ (s : Sheet) (kept : All (ItemKept (s .items)) (s .items)) (x : Item) (k
 
   module _ (f : Function) (g : FunctionKept (s .items) f) where
     pub shim-laid : s .header ≡ false → (ts : List Token) (r : List ℕ) → Layout ts r →
-        Layout (itemTokens (shim (shimOf s x f)) ts) (functionShim s x f ++ r)
+        Layout (itemTokens (shim (shimTree s x f)) ts) (functionShim s x f ++ r)
     shim-laid e ts r d = shim-spells s e kept x k f g .laid ts r refl d
 
     -- at the depth of its namespace
-    pub shim-keeps : itemOk (length (x .namespace)) false (shim (shimOf s x f)) ≡ true
+    pub shim-keeps : itemOk (length (x .namespace)) false (shim (shimTree s x f)) ≡ true
     unfolding itemOk
     shim-keeps = shim-ok s kept x k f g

@@ -28,7 +28,7 @@ use Rattle.agreement.specs.Agreement as Agreement
 use Rattle.agreement.specs.Agreement.{Passing, passing, argumentOperand}
 use Rattle.spelling.specs.TypeTree.{cxxType}
 use Rattle.spelling.specs.ShimTree.{commentsOf, resultOf, headOf, argumentOf, heldOf, roomOf, directForm}
-use Rattle.spelling.specs.ShimTree.{returnForm, operandOf, slotAddressOf, operandsOf, shimOf}
+use Rattle.spelling.specs.ShimTree.{returnForm, operandOf, slotAddressOf, operandsOf, shimTree}
 use Rattle.spelling.proofs.Lists.{few-between, none-or-one}
 use Rattle.spelling.proofs.TypeSpelling.{item-kept}
 use Rattle.spelling.proofs.TypeRules.{type-ok}
@@ -160,7 +160,7 @@ module _ (items : List Item) (kept : All (ItemKept items) items) where
 
   -- `int` is for `main` in the root
   main-root : (x : Item) (f : Function) → isMain x f ≡ true →
-      Rules.isMain (length (x .namespace)) (headOf items x (f .form)) ≡ true
+      Rules.isRootMain (length (x .namespace)) (headOf items x (f .form)) ≡ true
   unfolding isMain
   main-root x f h =
       let a = both _ _ h in
@@ -172,7 +172,7 @@ module _ (items : List Item) (kept : All (ItemKept items) items) where
     where
       go : (ns : List Name) (form : Form) → isRoot ns ≡ true → isFree form ≡ true →
           same (x .cxx) (bytes "main") ≡ true →
-          Rules.isMain (length ns) (headOf items x form) ≡ true
+          Rules.isRootMain (length ns) (headOf items x form) ≡ true
       go [] free r e h = h
       go [] (constMethod i) r e h = absurd (false≢true e)
       go [] (mutMethod i) r e h = absurd (false≢true e)
@@ -180,13 +180,13 @@ module _ (items : List Item) (kept : All (ItemKept items) items) where
       go (n ∷ ns) form r e h = absurd (false≢true r)
 
   result-ok : (x : Item) (f : Function) → FunctionKept items f →
-      resultOk (Rules.isMain (length (x .namespace)) (headOf items x (f .form)))
+      resultOk (Rules.isRootMain (length (x .namespace)) (headOf items x (f .form)))
       (pick (isMain x f) Tree.int (resultOf items (f .return))) ≡ true
   unfolding resultOk returnFits
   result-ok x f g = go (isMain x f) (main-root x f) (f .return) (g .returnFits)
     where
       main : Bool
-      main = Rules.isMain (length (x .namespace)) (headOf items x (f .form))
+      main = Rules.isRootMain (length (x .namespace)) (headOf items x (f .form))
 
       go : (b : Bool) → (b ≡ true → main ≡ true) → (r : Ret) → returnFits (length items) r ≡ true →
           resultOk main (pick b Tree.int (resultOf items r)) ≡ true
@@ -201,7 +201,7 @@ comments-kept true doxygen items f g = comments-ok doxygen (f .comment) (g .fewL
 comments-kept false doxygen items f g = refl
 
 pub shim-ok : (s : Sheet) → All (ItemKept (s .items)) (s .items) → (x : Item) → ItemKept (s .items) x → (f : Function) →
-    FunctionKept (s .items) f → shimOk (length (x .namespace)) (shimOf s x f) ≡ true
+    FunctionKept (s .items) f → shimOk (length (x .namespace)) (shimTree s x f) ≡ true
 unfolding shimOk callOk slot
 shim-ok s kept x k f g =
     let items = s .items in

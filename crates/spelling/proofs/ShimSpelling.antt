@@ -29,7 +29,7 @@ use Rattle.bridge.specs.Write.{slotReturn, shimBody, writeDoc, functionShim}
 use Rattle.grammar.specs.Token.{Token, quoted}
 use Rattle.grammar.specs.Tree as Tree
 use Rattle.grammar.specs.Tree.{CallForm}
-use Rattle.grammar.specs.Tokens.{eachTokens, optional, constTokens, typeTokens, resultTokens, parameterTokens}
+use Rattle.grammar.specs.Tokens.{eachTokens, optionalTokens, constTokens, typeTokens, resultTokens, parameterTokens}
 use Rattle.grammar.specs.Tokens.{headTokens, signatureTokens, operandTokens, localTokens, formTokens, closeTokens}
 use Rattle.grammar.specs.Tokens.{callTokens, errorTestTokens, endingTokens, commentTokens, shimTokens}
 use Rattle.agreement.specs.Agreement.{rustString, otherIndirect, passing, argumentOperand}
@@ -38,7 +38,7 @@ use Rattle.spelling.specs.TypeTree.{cxxType}
 use Rattle.spelling.specs.DeclarationTree.{slotTree}
 use Rattle.spelling.specs.ShimTree.{commentsOf, resultOf, headOf, argumentOf, heldOf, roomOf, directForm}
 use Rattle.spelling.specs.ShimTree.{returnForm, operandOf, slotAddressOf, operandsOf, slotEnding, endingOf}
-use Rattle.spelling.specs.ShimTree.{shimOf}
+use Rattle.spelling.specs.ShimTree.{shimTree}
 use Rattle.spelling.proofs.Spells.{closed, inside, Spells, meets, _▷_, _▷⟨_⟩_, weaken, as-tokens, empty, lit}
 use Rattle.spelling.proofs.Spells.{name-spells, dollar-behind}
 use Rattle.spelling.proofs.Lists.{SpellsEach, none, more, each-tokens-append, each-append, list-spells}
@@ -101,7 +101,7 @@ module _ (items : List Item) (kept : All (ItemKept items) items) where
   const-spells false = empty
 
   noexcept-spells : (throws : Bool) →
-      Spells inside (pickText throws [] (bytes " noexcept")) (optional (not throws) (quoted "noexcept" []))
+      Spells inside (pickText throws [] (bytes " noexcept")) (optionalTokens (not throws) (quoted "noexcept" []))
   noexcept-spells true = empty
   noexcept-spells false = lit " noexcept" refl
 
@@ -386,7 +386,7 @@ comments-spell false doxygen f items g = empty
 -- a shim of a text that is no header
 pub shim-spells : (s : Sheet) → s .header ≡ false → All (ItemKept (s .items)) (s .items) → (x : Item) →
     ItemKept (s .items) x → (f : Function) → FunctionKept (s .items) f →
-    Spells closed (functionShim s x f) (shimTokens (shimOf s x f))
+    Spells closed (functionShim s x f) (shimTokens (shimTree s x f))
 unfolding functionShim shimBody
 shim-spells s e kept x k f g =
     rw e

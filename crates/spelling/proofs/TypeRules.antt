@@ -62,8 +62,8 @@ not-reserved [] x h = refl
 not-reserved (n ∷ []) x h = h
 not-reserved (n ∷ (m ∷ ns)) x h = h
 
-count-same : (items : List Item) (ts : Tys) → Rules.count (cxxTypes items ts) ≡ count ts
-unfolding Rules.count count cxxTypes
+count-same : (items : List Item) (ts : Tys) → Rules.typeCount (cxxTypes items ts) ≡ count ts
+unfolding Rules.typeCount count cxxTypes
 count-same items nil = refl
 count-same items (cons t ts) = ap suc (count-same items ts)
 
@@ -100,9 +100,9 @@ module _ (items : List Item) (kept : All (ItemKept items) items) where
         let q = both (ltb n 4294967296) (partsFit (length items) t) h in
         and-of (ltb n 4294967296) (partsOk (cxxType items t)) (q .0) (parts-ok t (q .1))
 
-    fn-parts : (r : Ret) (xs : CxxTypes) → leb (Rules.count xs) 15 ≡ true → partsFitRet (length items) r ≡ true →
+    fn-parts : (r : Ret) (xs : CxxTypes) → leb (Rules.typeCount xs) 15 ≡ true → partsFitRet (length items) r ≡ true →
         allPartsOk xs ≡ true → baseOk (fnTree items r xs) ≡ true
-    fn-parts none xs l h g = and-of (leb (Rules.count xs) 15) (allPartsOk xs) l g
+    fn-parts none xs l h g = and-of (leb (Rules.typeCount xs) 15) (allPartsOk xs) l g
     fn-parts (gives t) xs l h g = rw (l, parts-ok t h, g)
 
     all-parts : (ts : Tys) → partsFitTys (length items) ts ≡ true → allPartsOk (cxxTypes items ts) ≡ true
