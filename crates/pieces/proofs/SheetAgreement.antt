@@ -7,7 +7,7 @@ use lib.Dec.{eqb}
 use Rattle.lexical.specs.Bytes.{bytes, every, same, member}
 use Rattle.lexical.specs.Names.{nameChar, nameShape, nameOk, keywords, alternativeTokens, reserved, isName}
 use Rattle.lexical.proofs.BoolLaws.{by-cases, or-left, or-right}
-use Rattle.lexical.proofs.ByteLaws.{byte-eq, same-eq, same-refl, every-cons}
+use Rattle.lexical.proofs.ByteLaws.{Each, byte-eq, same-eq, same-refl, every-cons}
 use Rattle.lexical.proofs.NameLaws.{name-chars}
 use Rattle.format.specs.Sheet.{Name, Function, Body, struct, enum, cxxType, rustType, function, Item, Sheet}
 use Rattle.syntax.specs.Items.{itemAt, selfType}
@@ -18,7 +18,7 @@ use Rattle.grammar.specs.Tree.{size, align}
 use Rattle.agreement.specs.Agreement.{RustFunction, rustFunction, rustFunctions, functionSymbol, ofFunctions}
 use Rattle.agreement.specs.Agreement.{Matches, MatchAll, Agrees, Demand3}
 use Rattle.pieces.proofs.ForwardTree.{itemNamed}
-use Rattle.pieces.proofs.SheetEntries.{Each, Trees, entriesOf, Spelled, RulesKept, entries-spelled, entries-ok}
+use Rattle.pieces.proofs.SheetEntries.{Trees, entriesOf, Spelled, RulesKept, entries-spelled, entries-ok}
 use Rattle.pieces.proofs.SheetEntries.{declaredOf, definedOf, sheet-declarations, sheet-shims}
 use Rattle.pieces.proofs.SheetReading.{treeOf, sheet-reading}
 

@@ -9,7 +9,7 @@ use lib.ListN.{length, length-map}
 use Rattle.lexical.specs.Bytes.{bytes, every, same, member}
 use Rattle.lexical.specs.Names.{nameShape, nameOk, keywords, alternativeTokens, reserved, isName}
 use Rattle.lexical.proofs.BoolLaws.{both}
-use Rattle.lexical.proofs.ByteLaws.{every-append}
+use Rattle.lexical.proofs.ByteLaws.{Each, every-append}
 use Rattle.format.specs.Decode.{pick}
 use Rattle.format.specs.declared.Template.{Template}
 use Rattle.format.specs.declared.Template.the-variants.{RustBox, UniquePtr}
@@ -22,7 +22,7 @@ use Rattle.syntax.specs.Mangle.{externFn}
 use Rattle.syntax.specs.Types.{needsIndirectAbi}
 use Rattle.decoded.specs.Fits.{depth, partsFit, typeFits, returnFits, argumentFits, formFits}
 use Rattle.decoded.proofs.Decoded.{fits-depth, fits-parts, fits}
-use Rattle.decoded.proofs.Kept.{All, argument-name, argument-type, ItemKept, FunctionKept}
+use Rattle.decoded.proofs.Kept.{argument-name, argument-type, ItemKept, FunctionKept}
 use Rattle.bridge.specs.Write.{indirectReturn, Shape, shape, slotOf, slot}
 use Rattle.grammar.specs.Types as Cxx
 use Rattle.grammar.specs.Types.{CxxType}
@@ -77,7 +77,7 @@ receiver-self items (constMethod i) = omega arith
 receiver-self items (mutMethod i) = omega arith
 receiver-self items (associated i) = omega arith
 
-module _ (items : List Item) (kept : All (ItemKept items) items) where
+module _ (items : List Item) (kept : Each (ItemKept items) items) where
   -- ---- types
 
   pub pointer-ok : (m : Bool) (limit : ℕ) (t : Ty) → typeFits limit (length items) t ≡ true →

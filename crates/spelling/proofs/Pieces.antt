@@ -4,8 +4,9 @@ use mathlib.Core.List.{List, _++_}
 use mathlib.Core.Bool.{true, false}
 use Prim.Native.Nat.{ℕ}
 use lib.ListN.{length}
+use Rattle.lexical.proofs.ByteLaws.{Each}
 use Rattle.format.specs.Sheet.{Function, Item, Sheet}
-use Rattle.decoded.proofs.Kept.{All, ItemKept, FunctionKept}
+use Rattle.decoded.proofs.Kept.{ItemKept, FunctionKept}
 use Rattle.bridge.specs.Write.{functionDecl, layoutDecl, layoutDefinition, functionShim}
 use Rattle.grammar.specs.Token.{Token}
 use Rattle.grammar.specs.Layout.{Layout}
@@ -21,7 +22,7 @@ use Rattle.spelling.proofs.DeclarationRules.{declaration-ok, layoutDecl
 use Rattle.spelling.proofs.ShimSpelling.{shim-spells}
 use Rattle.spelling.proofs.ShimRules.{shim-ok}
 
-module _ (s : Sheet) (kept : All (ItemKept (s .items)) (s .items)) (x : Item) (k : ItemKept (s .items) x) where
+module _ (s : Sheet) (kept : Each (ItemKept (s .items)) (s .items)) (x : Item) (k : ItemKept (s .items) x) where
   -- ---- declarations
 
   pub declaration-laid : (f : Function) → FunctionKept (s .items) f → (ts : List Token) (r : List ℕ) → Layout ts r →

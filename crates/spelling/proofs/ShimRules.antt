@@ -9,7 +9,7 @@ use lib.ListN.{length, length-map}
 use Rattle.lexical.specs.Bytes.{bytes, every, same}
 use Rattle.lexical.specs.Names.{isName}
 use Rattle.lexical.proofs.BoolLaws.{both, and-of}
-use Rattle.lexical.proofs.ByteLaws.{every-cons, every-append}
+use Rattle.lexical.proofs.ByteLaws.{Each, every-cons, every-append}
 use Rattle.format.specs.Decode.{pick}
 use Rattle.format.specs.declared.Template.the-variants.{RustBox, UniquePtr}
 use Rattle.format.specs.declared.Pointer.the-variants.{SliceRef}
@@ -17,7 +17,7 @@ use Rattle.format.specs.Types.{Ty, template, pointer, Ret, none, gives}
 use Rattle.format.specs.Sheet.{Name, Form, free, constMethod, mutMethod, associated, Argument, Function, Item, Sheet}
 use Rattle.rules.specs.Rules.{gather, isMethod}
 use Rattle.decoded.specs.Fits.{typeFits, returnFits, argumentFits, formFits}
-use Rattle.decoded.proofs.Kept.{All, argument-name, argument-type, ItemKept, FunctionKept}
+use Rattle.decoded.proofs.Kept.{argument-name, argument-type, ItemKept, FunctionKept}
 use Rattle.bridge.specs.Write.{indirectReturn, Shape, slot, isRoot, isFree, isMain, isHeld, direct}
 use Rattle.grammar.specs.Types.{CxxType}
 use Rattle.grammar.specs.Tree as Tree
@@ -88,7 +88,7 @@ module _ (items : List Item) where
       one true = omega arith
       one false = omega arith
 
-module _ (items : List Item) (kept : All (ItemKept items) items) where
+module _ (items : List Item) (kept : Each (ItemKept items) items) where
   -- ---- the call
 
   directForm-ok : {t : Ty} {k : Shape} → Shaped t k → typeFits 8 (length items) t ≡ true →
@@ -200,7 +200,7 @@ unfolding every commentsOk
 comments-kept true doxygen items f g = comments-ok doxygen (f .comment) (g .fewLines) (g .linesFit)
 comments-kept false doxygen items f g = refl
 
-pub shim-ok : (s : Sheet) → All (ItemKept (s .items)) (s .items) → (x : Item) → ItemKept (s .items) x → (f : Function) →
+pub shim-ok : (s : Sheet) → Each (ItemKept (s .items)) (s .items) → (x : Item) → ItemKept (s .items) x → (f : Function) →
     FunctionKept (s .items) f → shimOk (length (x .namespace)) (shimTree s x f) ≡ true
 unfolding shimOk callOk slot
 shim-ok s kept x k f g =

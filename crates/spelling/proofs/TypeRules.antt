@@ -8,6 +8,7 @@ use borrow.Author.Tests.{leb-true, le-leb}
 use lib.Dec.{leb, ltb}
 use lib.ListN.{length, length-append}
 use Rattle.lexical.proofs.BoolLaws.{both, and-of}
+use Rattle.lexical.proofs.ByteLaws.{Each}
 use Rattle.format.specs.declared.Pointer.{Pointer}
 use Rattle.format.specs.declared.Pointer.the-variants.{Ref, Ptr, SliceRef}
 use Rattle.format.specs.Types.{Ty, atom, named, template, pointer, str, fn, array, Ret, none, gives, Tys, nil, cons}
@@ -15,7 +16,7 @@ use Rattle.format.specs.Sheet.{Name, Item}
 use Rattle.syntax.specs.Items.{itemAt}
 use Rattle.rules.specs.Rules.{reservedNamespace}
 use Rattle.decoded.specs.Fits.{depth, depthRet, depthTys, count, partsFit, partsFitRet, partsFitTys, typeFits}
-use Rattle.decoded.proofs.Kept.{All, ItemKept}
+use Rattle.decoded.proofs.Kept.{ItemKept}
 use Rattle.grammar.specs.Types as Cxx
 use Rattle.grammar.specs.Types.{CxxType, Suffix, CxxTypes}
 use Rattle.grammar.specs.Rules
@@ -82,7 +83,7 @@ pointer-parts Ref m x = suffix-parts (Cxx.reference (not m)) x
 pointer-parts Ptr m x = suffix-parts (Cxx.pointer (not m)) x
 pointer-parts SliceRef m x = refl
 
-module _ (items : List Item) (kept : All (ItemKept items) items) where
+module _ (items : List Item) (kept : Each (ItemKept items) items) where
   mutual
     unfolding partsOk partsFit cxxType
 
