@@ -255,7 +255,7 @@ line-braceless (usingLine x p) r = path-braceless p (quoted ";" r)
 
 -- blocks with content
 
-abbrev hasContent : Body → Bool
+abbrev pub hasContent : Body → Bool
 hasContent bodyEnd = false
 hasContent (item i next) = true
 hasContent (block b inside next) = true
