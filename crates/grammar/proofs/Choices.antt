@@ -5,9 +5,9 @@ use mathlib.Core.Bool.{true, false}
 use Prim.Native.Nat.{ℕ}
 use Prim.Native.String.{String}
 use Rattle.lexical.specs.Bytes.{bytes}
-use Rattle.grammar.specs.Types.{u8, suffixed, full}
+use Rattle.grammar.specs.Types.{suffixed, full}
 use Rattle.grammar.specs.Tree.{void, named, free, held, bare, noReturn, declares, shim, namespace, externC}
-use Rattle.grammar.specs.Tree.{bodyEnd, item, block, enumLine, forwardEnd, line, Text, text}
+use Rattle.grammar.specs.Tree.{bodyEnd, item, block, forwardEnd, Text, text}
 use Rattle.grammar.specs.Tokens.{blockTokens, Closings}
 use Rattle.grammar.specs.Reading.{OneReading}
 use Rattle.grammar.proofs.Lexer.{lex}
@@ -15,7 +15,7 @@ use Rattle.grammar.proofs.SameTokens.{sameTokens}
 use Rattle.grammar.proofs.Checked.{closing, readsTest, checked}
 use Rattle.grammar.proofs.Computing.{computes}
 use Rattle.grammar.proofs.Forms.{plainShim}
-use Rattle.grammar.proofs.Unique.{one-reading, NoReading, unread}
+use Rattle.grammar.proofs.Unique.{one-reading, NotRead, not-read}
 
 -- ---- closing comments
 
@@ -52,35 +52,34 @@ in-extern-c s characters h e =
     one-reading externCTree s (checked externCTree closings s e) refl
 
 -- the head's tokens, in any spacing within the line
-pub record ClosingComments : Type 0 where
-  pub usual : OneReading (inNamespace " // namespace a\n") × OneReading (inExternC " // extern \"C\"\n")
-  pub narrow : OneReading (inNamespace "//namespace a") × OneReading (inExternC "//extern\"C\"")
-  pub wide : OneReading (inNamespace "\n  //  namespace   a \n") × OneReading (inExternC " //  extern\"C\" \n")
-  pub missing : NoReading (inNamespace "\n") × NoReading (inExternC "\n")
-  pub empty : NoReading (inNamespace " //\n") × NoReading (inExternC " //\n")
-  pub otherHead : NoReading (inNamespace " // namespace b\n") × NoReading (inExternC " // namespace a\n")
-  pub otherBlock : NoReading (inNamespace " // extern \"C\"\n") × NoReading (inExternC " // extern \"D\"\n")
-  pub moreWords : NoReading (inNamespace " // end of namespace a\n") × NoReading (inExternC " // extern \"C\" {\n")
-  pub joined : NoReading (inNamespace " // namespacea\n") × NoReading (inExternC " // externC\n")
-  pub twoLines : NoReading (inNamespace " // namespace\n// a\n") × NoReading (inExternC " // extern\n\"C\"\n")
-  pub spliced : NoReading (inNamespace " // namespace a\\\n") × NoReading (inExternC " // extern \"C\"\\\n")
-
-pub closing-comments : ClosingComments
+pub closing-comments :
+    OneReading (inNamespace " // namespace a\n")
+    × OneReading (inNamespace "//namespace a")
+    × OneReading (inNamespace "\n  //  namespace   a \n")
+    × OneReading (inExternC " // extern \"C\"\n")
+    × OneReading (inExternC "//extern\"C\"")
+    × OneReading (inExternC " //  extern\"C\" \n")
 unfolding computes
-closing-comments =
-    record {
-      usual = (in-namespace _ " namespace a" refl refl, in-extern-c _ " extern \"C\"" refl refl);
-      narrow = (in-namespace _ "namespace a" refl refl, in-extern-c _ "extern\"C\"" refl refl);
-      wide = (in-namespace _ "  namespace   a " refl refl, in-extern-c _ "  extern\"C\" " refl refl);
-      missing = (unread _ 9 refl (λ n. refl), unread _ 9 refl (λ n. refl));
-      empty = (unread _ 9 refl (λ n. refl), unread _ 9 refl (λ n. refl));
-      otherHead = (unread _ 9 refl (λ n. refl), unread _ 9 refl (λ n. refl));
-      otherBlock = (unread _ 9 refl (λ n. refl), unread _ 9 refl (λ n. refl));
-      moreWords = (unread _ 9 refl (λ n. refl), unread _ 9 refl (λ n. refl));
-      joined = (unread _ 9 refl (λ n. refl), unread _ 9 refl (λ n. refl));
-      twoLines = (unread _ 9 refl (λ n. refl), unread _ 9 refl (λ n. refl));
-      spliced = (unread _ 9 refl (λ n. refl), unread _ 9 refl (λ n. refl));
-    }
+closing-comments = (
+  in-namespace _ " namespace a" refl refl,
+  in-namespace _ "namespace a" refl refl,
+  in-namespace _ "  namespace   a " refl refl,
+  in-extern-c _ " extern \"C\"" refl refl,
+  in-extern-c _ "extern\"C\"" refl refl,
+  in-extern-c _ "  extern\"C\" " refl refl,
+)
+
+-- none, an empty one, another head, more words, words joined, two lines, a line spliced to the next
+pub other-closing-comments :
+    NotRead
+    (inNamespace "\n" ∷ inNamespace " //\n" ∷ inNamespace " // namespace b\n" ∷ inNamespace " // extern \"C\"\n"
+    ∷ inNamespace " // end of namespace a\n" ∷ inNamespace " // namespace a {\n" ∷ inNamespace " // namespacea\n"
+    ∷ inNamespace " // namespace\n// a\n" ∷ inNamespace " // namespace a\\\n"
+    ∷ inExternC "\n" ∷ inExternC " //\n" ∷ inExternC " // namespace a\n" ∷ inExternC " // extern \"D\"\n"
+    ∷ inExternC " // end of extern \"C\"\n" ∷ inExternC " // extern \"C\" {\n" ∷ inExternC " // externC\n"
+    ∷ inExternC " // extern\n\"C\"\n" ∷ inExternC " // extern \"C\"\\\n" ∷ [])
+unfolding computes
+other-closing-comments = not-read 9 refl (λ n. refl)
 
 -- ---- held locals
 
@@ -106,27 +105,50 @@ localTree =
     bodyEnd)
 
 -- a held local takes the parameter that it is called after
-pub held-locals : OneReading (withLocal "x$(::std::move(x));") × NoReading (withLocal "x$(::std::move(y));")
-    × NoReading (withLocal "x(::std::move(x));")
+pub held-locals : OneReading (withLocal "x$(::std::move(x));")
 unfolding computes
-held-locals = (
-  one-reading localTree _ (checked localTree tt _ refl) refl,
-  unread _ 9 refl (λ n. refl),
-  unread _ 9 refl (λ n. refl),
-)
+held-locals = one-reading localTree _ (checked localTree tt _ refl) refl
 
--- ---- enum class lines
-
--- an enum class line names its type, an atom
-pub enum-lines : OneReading (bytes "enum class X : ::std::uint8_t;") × NoReading (bytes "enum class X;")
-    × NoReading (bytes "enum class X : ::S;") × NoReading (bytes "enum X : ::std::uint8_t;")
+pub other-held-locals :
+    NotRead (withLocal "x$(::std::move(y));" ∷ withLocal "x(::std::move(x));" ∷ withLocal "x$(x);" ∷ [])
 unfolding computes
-enum-lines = (
-  one-reading tree _ (checked tree tt _ refl) refl,
-  unread _ 9 refl (λ n. refl),
-  unread _ 9 refl (λ n. refl),
-  unread _ 9 refl (λ n. refl),
-)
-  where
-    tree : Text
-    tree = text (line (enumLine (bytes "X") u8) forwardEnd) bodyEnd
+other-held-locals = not-read 9 refl (λ n. refl)
+
+-- ---- other forms of ISO C++
+
+pub other-blanks : NotRead (bytes "struct\tX;" ∷ bytes "struct X; // one\n" ∷ bytes "struct X; /* one */" ∷ [])
+unfolding computes
+other-blanks = not-read 9 refl (λ n. refl)
+
+pub other-forward-parts :
+    NotRead
+    (bytes "enum class X;" ∷ bytes "enum X : ::std::uint8_t;" ∷ bytes "enum class X : ::S;" ∷ bytes "using X = S;"
+    ∷ bytes "using X = ::std::string;" ∷ bytes "namespace a::b { struct X; }" ∷ bytes "namespace { struct X; }"
+    ∷ bytes "namespace class { struct X; }" ∷ [])
+unfolding computes
+other-forward-parts = not-read 9 refl (λ n. refl)
+
+abbrev declared : String → List ℕ
+declared declaration = bytes "extern \"C\" {\n" ++ bytes declaration ++ bytes "\n} // extern \"C\"\n"
+
+pub other-bodies :
+    NotRead (bytes "void f();" ∷ bytes "extern \"C\" void f();" ∷ declared "void f() { g(); }" ∷ [])
+unfolding computes
+other-bodies = not-read 9 refl (λ n. refl)
+
+pub other-declarations :
+    NotRead
+    (declared "void f(const ::S &x);" ∷ declared "void f(::S const x);" ∷ declared "void f(S x);"
+    ∷ declared "void f(::std::S x);" ∷ declared "void f(::rust::Fn<void(void)> x);" ∷ declared "void f(void);"
+    ∷ declared "void f(::S);" ∷ declared "void f(::S x, );" ∷ declared "void f(::S x$);" ∷ declared "void *f();"
+    ∷ declared "int f();" ∷ [])
+unfolding computes
+other-declarations = not-read 9 refl (λ n. refl)
+
+pub other-shims :
+    NotRead
+    (bytes "void f(::S *return$) { g(); }" ∷ bytes "void f() noexcept(true) { g(); }" ∷ bytes "void f() { return; }"
+    ∷ bytes "void f() { g(); g(); }" ∷ bytes "void f() { error$ = g(); }" ∷ bytes "void f() { g(this); }"
+    ∷ bytes "void f() { g(x.get()); }" ∷ bytes "void f() { g(&x$); }" ∷ [])
+unfolding computes
+other-shims = not-read 9 refl (λ n. refl)

@@ -1,16 +1,18 @@
 -- A text in which no `{` stands directly before `}` has at most one reading.
-use mathlib.Core.Path.{_≡_, refl, ap, _∙_, sym, subst}
-use mathlib.Core.List.{List, []}
-use mathlib.Core.Bool.{true, _&&_, not, false≢true}
+use mathlib.Core.Path.{_≡_, refl, ap, _∙_, sym}
+use mathlib.Core.List.{List, [], _∷_}
+use mathlib.Core.Bool.{Bool, true, false, _&&_, not, cond, false≢true}
 use mathlib.Core.Option.{Option, none, some}
 use Prim.Native.Nat.{ℕ, zero, suc, _≤_}
 use native.Mathlib.Omega.{arith}
-use Rattle.lexical.specs.Bytes.{same}
+use Rattle.lexical.specs.Bytes.{every, same}
 use Rattle.lexical.proofs.BoolLaws.{both, and-of}
+use Rattle.lexical.proofs.ByteLaws.{Each}
 use Rattle.grammar.specs.Token.{Token, quoted}
 use Rattle.grammar.specs.Layout.{Layout}
 use Rattle.grammar.specs.Tree.{Forward, forwardEnd, line, bareNamespace, Text, text}
 use Rattle.grammar.specs.Tokens.{forwardTokens, bodyTokens, Closings, textTokens}
+use Rattle.grammar.specs.Rules.{textOk}
 use Rattle.grammar.specs.Reading.{Reading, OneReading}
 use Rattle.grammar.proofs.Lexer.{lex, lexed, same-tokens}
 use Rattle.grammar.proofs.Parser.{begins, textP}
@@ -76,18 +78,42 @@ at-least : (k n : ℕ) → n ≤ raised k n
 at-least zero n = omega arith
 at-least (suc k) n = omega (arith, at-least k n)
 
-isNone : {A : Type 0} → Option A → Type 0
-isNone none = Unit {0}
-isNone (some a) = ⊥
+-- what the parser reads, if it keeps the rules
+abbrev pub kept : Option Text → Option Text
+kept none = none
+kept (some t) = cond (textOk t) (some t) none
 
--- a text that the parser does not read has no reading
-pub unread : (s : List ℕ) (k : ℕ) → noEmptyBraces (lex s) ≡ true → ((n : ℕ) → textP (raised k n) (lex s) ≡ none) →
-    NoReading s
-unfolding isNone
+abbrev pub isNone : Option Text → Bool
+isNone none = true
+isNone (some t) = false
+
+-- a text of which the parser reads no tree that keeps the rules has no reading
+unread : (s : List ℕ) (k : ℕ) → noEmptyBraces (lex s) ≡ true →
+    ((n : ℕ) → isNone (kept (textP (raised k n) (lex s))) ≡ true) → NoReading s
 unread s k h p t a =
     let n : ℕ = raised k (textSize t) in
     let e : lex s ≡ textTokens t (a .closings) = lexed (a .laidOut) in
-    let read : textP n (textTokens t (a .closings)) ≡ some t =
+    let read : textP n (lex s) ≡ some t =
+    ap (textP n) e ∙
     text-back t (a .closings) n (at-least k (textSize t)) (a .keepsRules) (text-filled t (a .closings) (rw (← e) h)) in
-    let q : none ≡ some t = sym (p (textSize t)) ∙ ap (textP n) e ∙ read in
-    subst isNone q tt
+    let good : isNone (kept (some t)) ≡ false = rw (a .keepsRules) in
+    false≢true (sym good ∙ ap (λ (x : Option Text). isNone (kept x)) (sym read) ∙ p (textSize t))
+
+each-unread : (texts : List (List ℕ)) (k : ℕ) → every (λ s. noEmptyBraces (lex s)) texts ≡ true →
+    ((n : ℕ) → every (λ s. isNone (kept (textP (raised k n) (lex s)))) texts ≡ true) → Each NoReading texts
+unfolding every
+each-unread [] k h p = tt
+each-unread (s ∷ texts) k h p =
+    let q = both (noEmptyBraces (lex s)) (every (λ s. noEmptyBraces (lex s)) texts) h in
+    let test : ℕ → List ℕ → Bool = λ n s. isNone (kept (textP (raised k n) (lex s))) in (
+      unread s k (q .0) (λ n. both (test n s) (every (test n) texts) (p n) .0),
+      each-unread texts k (q .1) (λ n. both (test n s) (every (test n) texts) (p n) .1),
+    )
+
+pub record NotRead (texts : List (List ℕ)) : Type 0 where
+  pub none-reads : Each NoReading texts
+
+-- `not-read k refl (λ n. refl)`, where the parser goes k levels deep at most
+pub not-read : {texts : List (List ℕ)} (k : ℕ) → every (λ s. noEmptyBraces (lex s)) texts ≡ true →
+    ((n : ℕ) → every (λ s. isNone (kept (textP (raised k n) (lex s)))) texts ≡ true) → NotRead texts
+not-read {texts} k h p = record { none-reads = each-unread texts k h p }
