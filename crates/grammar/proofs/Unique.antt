@@ -1,7 +1,7 @@
 -- A text in which no `{` stands directly before `}` has at most one reading.
 use mathlib.Core.Path.{_≡_, refl, ap, _∙_, sym}
 use mathlib.Core.List.{List, [], _∷_}
-use mathlib.Core.Bool.{Bool, true, false, _&&_, not, cond, false≢true}
+use mathlib.Core.Bool.{Bool, true, false, _&&_, not, false≢true}
 use mathlib.Core.Option.{Option, none, some}
 use Prim.Native.Nat.{ℕ, zero, suc, _≤_}
 use native.Mathlib.Omega.{arith}
@@ -66,6 +66,8 @@ pub one-reading : (t : Text) (s : List ℕ) → Reading t s → textFilled t ≡
 one-reading t s a h =
     record { tree = t; reads = a; equal = unique (a .laidOut) (filled-braces t (a .closings) (a .keepsRules) h) }
 
+-- ---- texts without a reading
+
 abbrev pub NoReading : List ℕ → Type 0
 NoReading s = (t : Text) → Reading t s → ⊥
 
@@ -78,34 +80,30 @@ at-least : (k n : ℕ) → n ≤ raised k n
 at-least zero n = omega arith
 at-least (suc k) n = omega (arith, at-least k n)
 
--- what the parser reads, if it keeps the rules
-abbrev pub kept : Option Text → Option Text
-kept none = none
-kept (some t) = cond (textOk t) (some t) none
-
-abbrev pub isNone : Option Text → Bool
-isNone none = true
-isNone (some t) = false
+-- the parser read no tree that keeps the rules
+abbrev pub refuses : Option Text → Bool
+refuses none = true
+refuses (some t) = not (textOk t)
 
 -- a text of which the parser reads no tree that keeps the rules has no reading
 unread : (s : List ℕ) (k : ℕ) → noEmptyBraces (lex s) ≡ true →
-    ((n : ℕ) → isNone (kept (textP (raised k n) (lex s))) ≡ true) → NoReading s
+    ((n : ℕ) → refuses (textP (raised k n) (lex s)) ≡ true) → NoReading s
 unread s k h p t a =
     let n : ℕ = raised k (textSize t) in
     let e : lex s ≡ textTokens t (a .closings) = lexed (a .laidOut) in
     let read : textP n (lex s) ≡ some t =
     ap (textP n) e ∙
     text-back t (a .closings) n (at-least k (textSize t)) (a .keepsRules) (text-filled t (a .closings) (rw (← e) h)) in
-    let good : isNone (kept (some t)) ≡ false = rw (a .keepsRules) in
-    false≢true (sym good ∙ ap (λ (x : Option Text). isNone (kept x)) (sym read) ∙ p (textSize t))
+    let good : refuses (some t) ≡ false = rw (a .keepsRules) in
+    false≢true (sym good ∙ ap refuses (sym read) ∙ p (textSize t))
 
 each-unread : (texts : List (List ℕ)) (k : ℕ) → every (λ s. noEmptyBraces (lex s)) texts ≡ true →
-    ((n : ℕ) → every (λ s. isNone (kept (textP (raised k n) (lex s)))) texts ≡ true) → Each NoReading texts
+    ((n : ℕ) → every (λ s. refuses (textP (raised k n) (lex s))) texts ≡ true) → Each NoReading texts
 unfolding every
 each-unread [] k h p = tt
 each-unread (s ∷ texts) k h p =
     let q = both (noEmptyBraces (lex s)) (every (λ s. noEmptyBraces (lex s)) texts) h in
-    let test : ℕ → List ℕ → Bool = λ n s. isNone (kept (textP (raised k n) (lex s))) in (
+    let test : ℕ → List ℕ → Bool = λ n s. refuses (textP (raised k n) (lex s)) in (
       unread s k (q .0) (λ n. both (test n s) (every (test n) texts) (p n) .0),
       each-unread texts k (q .1) (λ n. both (test n s) (every (test n) texts) (p n) .1),
     )
@@ -115,5 +113,5 @@ pub record NotRead (texts : List (List ℕ)) : Type 0 where
 
 -- `not-read k refl (λ n. refl)`, where the parser goes k levels deep at most
 pub not-read : {texts : List (List ℕ)} (k : ℕ) → every (λ s. noEmptyBraces (lex s)) texts ≡ true →
-    ((n : ℕ) → every (λ s. isNone (kept (textP (raised k n) (lex s)))) texts ≡ true) → NotRead texts
+    ((n : ℕ) → every (λ s. refuses (textP (raised k n) (lex s))) texts ≡ true) → NotRead texts
 not-read {texts} k h p = record { none-reads = each-unread texts k h p }
