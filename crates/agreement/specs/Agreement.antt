@@ -3,14 +3,14 @@
 -- parameters one by one. The sentences quoted are those of document 01, "The grammar", last paragraph.
 use mathlib.Core.Path.{_≡_}
 use mathlib.Core.List.{List, [], _∷_, _++_, map}
-use mathlib.Core.Bool.{Bool, true, false, not, _&&_}
+use mathlib.Core.Bool.{Bool, not, _&&_}
 use Prim.Native.Nat.{ℕ}
 use Rattle.lexical.specs.Bytes.{bytes, same, member}
 use Rattle.format.specs.Decode.{pick}
 use Rattle.format.specs.declared.Template.{Template}
 use Rattle.format.specs.declared.Template.the-variants.{RustBox, RustVec, UniquePtr, SharedPtr, WeakPtr, CxxVector}
 use Rattle.format.specs.Types.{Ty, atom, named, template, pointer, str, fn, array, Ret, none, gives}
-use Rattle.format.specs.Sheet.{Name, Form, Argument, Function, Body, struct, enum, cxxType, rustType, function, Item}
+use Rattle.format.specs.Sheet.{Name, Argument, Function, Body, struct, enum, cxxType, rustType, function, Item}
 use Rattle.format.specs.Sheet.{Sheet}
 use Rattle.syntax.specs.Items.{itemAt, selfType}
 use Rattle.syntax.specs.Mangle.{externFn}
@@ -41,16 +41,16 @@ rustFunctions [] = []
 rustFunctions (x ∷ xs) = rustFunction x (x .body) ++ rustFunctions xs
 
 -- its symbol, "built from S"
-abbrev pub symbolOf : List Item → RustFunction → List ℕ
-symbolOf items f = externFn items (f .namespace) (f .function)
+abbrev pub functionSymbol : List Item → RustFunction → List ℕ
+functionSymbol items f = externFn items (f .namespace) (f .function)
 
 -- `return$` "when it returns an indirect type, or throws and returns any type"
 abbrev pub slotNames : Bool → Bool → List Name
 slotNames throws indirect = pick throws (bytes "return$" ∷ []) (pick indirect (bytes "return$" ∷ []) [])
 
-abbrev pub slotOf : List Item → Bool → Ret → List Name
-slotOf items throws none = []
-slotOf items throws (gives t) = slotNames throws (needsIndirectAbi items t)
+abbrev pub slotNamesOf : List Item → Bool → Ret → List Name
+slotNamesOf items throws none = []
+slotNamesOf items throws (gives t) = slotNames throws (needsIndirectAbi items t)
 
 abbrev pub argumentNames : Function → List Name
 argumentNames f = map (λ a. a .name) (f .arguments)
@@ -59,7 +59,7 @@ argumentNames f = map (λ a. a .name) (f .arguments)
 -- names, and `return$`"
 unfoldable pub parameterNames : List Item → Function → List Name
 parameterNames items f =
-    pick (isMethod (f .form)) (bytes "self" ∷ []) [] ++ argumentNames f ++ slotOf items (f .throws) (f .return)
+    pick (isMethod (f .form)) (bytes "self" ∷ []) [] ++ argumentNames f ++ slotNamesOf items (f .throws) (f .return)
 
 -- "each head names the function's C++ name, in forms 1 to 3 behind the self type's C++ name and `::`"
 unfoldable pub headNames : List Item → RustFunction → List Name
@@ -169,7 +169,7 @@ only o = o ∷ []
 pub record Matches (items : List Item) (f : RustFunction) (d : Declared) (s : Defined) : Type 0 where
   pub declaredIn : d .namespace ≡ f .namespace
   pub definedIn : s .namespace ≡ f .namespace
-  pub declares : d .declaration .symbol ≡ symbolOf items f
+  pub declares : d .declaration .symbol ≡ functionSymbol items f
   pub parameters : map parameterName (d .declaration .parameters) ≡ parameterNames items (f .function)
   pub head : headParts (s .shim .head) ≡ headNames items f
   pub arguments : map parameterName (s .shim .parameters) ≡ argumentNames (f .function)
@@ -190,7 +190,7 @@ MatchAll items (f ∷ fs) (d ∷ ds) (s ∷ ss) = Matches items f d s × MatchAl
 abbrev pub Agrees : List Item → Tree.Text → Type 0
 Agrees items (Tree.text forward body) =
     MatchAll items (rustFunctions items)
-    (ofFunctions (map (symbolOf items) (rustFunctions items)) (declarations [] body)) (shims [] body)
+    (ofFunctions (map (functionSymbol items) (rustFunctions items)) (declarations [] body)) (shims [] body)
 
 -- demand 3 of a sheet, due for every accepted one with header bit 0
 pub record Demand3 (s : Sheet) : Type 0 where

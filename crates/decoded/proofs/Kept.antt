@@ -9,6 +9,7 @@ use lib.ListN.{length, getD}
 use Rattle.lexical.specs.Bytes.{every, same}
 use Rattle.lexical.specs.Names.{isName}
 use Rattle.lexical.proofs.BoolLaws.{both, neither}
+use Rattle.lexical.proofs.ByteLaws.{Each}
 use Rattle.format.specs.Sheet.{Name, Argument, Function, function, Item, Sheet}
 use Rattle.rules.specs.Rules.{any, twice, gather, functionOf, functions, reservedNamespace, typeName, symbol, taken}
 use Rattle.rules.specs.Rules.{unfit, unfitArgument}
@@ -17,12 +18,7 @@ use Rattle.decoded.specs.Fits.{returnFits, argumentFits, formFits, comme
 use Rattle.decoded.specs.Fits.{sheetFits, typeFits}
 use Rattle.decoded.proofs.Accepted.{Accepted}
 
--- each element has the property
-abbrev pub All : {A : Type 0} → (A → Type 0) → List A → Type 0
-All P [] = Unit {0}
-All P (x ∷ xs) = P x × All P xs
-
-pub all-at : {A : Type 0} (P : A → Type 0) (xs : List A) (i : ℕ) (d : A) → All P xs → i < length xs → P (getD xs i d)
+pub all-at : {A : Type 0} (P : A → Type 0) (xs : List A) (i : ℕ) (d : A) → Each P xs → i < length xs → P (getD xs i d)
 all-at P [] i d h l = absurd (omega arith)
 all-at P (x ∷ xs) zero d h l = h .0
 all-at P (x ∷ xs) (suc i) d h l = all-at P xs i d (h .1) (omega arith)
@@ -127,7 +123,7 @@ item-kept items x h u d g =
 each-kept : (items xs : List Item) → every (itemFits (length items)) xs ≡ true →
     any (λ x. reservedNamespace (x .namespace)) xs ≡ false →
     any (λ f. twice same (argumentNames f)) (functions xs) ≡ false →
-    any (λ f. any (unfit items f) (f .arguments)) (functions xs) ≡ false → All (ItemKept items) xs
+    any (λ f. any (unfit items f) (f .arguments)) (functions xs) ≡ false → Each (ItemKept items) xs
 unfolding every any gather
 each-kept items [] h u d g = tt
 each-kept items (x ∷ xs) h u d g =
@@ -137,7 +133,7 @@ each-kept items (x ∷ xs) h u d g =
     let e = any-split (λ f. any (unfit items f) (f .arguments)) (functionOf (x .body)) (functions xs) g in
     (item-kept items x (a .0) (b .0) (c .0) (e .0), each-kept items xs (a .1) (b .1) (c .1) (e .1))
 
-pub accepted-kept : (s : List ℕ) (x : Sheet) → Accepted s x → All (ItemKept (x .items)) (x .items)
+pub accepted-kept : (s : List ℕ) (x : Sheet) → Accepted s x → Each (ItemKept (x .items)) (x .items)
 unfolding sheetFits unfitArgument
 accepted-kept s x h =
     let items = x .items in

@@ -5,19 +5,20 @@ use mathlib.Core.Bool.{Bool, true, false}
 use Prim.Native.Nat.{ℕ}
 use lib.ListN.{length}
 use Rattle.lexical.specs.Bytes.{every}
+use Rattle.lexical.proofs.ByteLaws.{Each}
 use Rattle.format.specs.Sheet.{Body, struct, enum, cxxType, rustType, function, Item, Sheet}
 use Rattle.rules.specs.Judge.{accepted, judge}
 use Rattle.decoded.proofs.Accepted.{judge-accepted}
-use Rattle.decoded.proofs.Kept.{All, ItemKept, accepted-kept}
+use Rattle.decoded.proofs.Kept.{ItemKept, accepted-kept}
 use Rattle.grammar.specs.Tree.{size, align}
 use Rattle.agreement.specs.Agreement.{Demand3}
 use Rattle.spelling.specs.DeclarationTree.{declarationOf, layoutDeclarationOf, layoutDefinitionOf}
-use Rattle.spelling.specs.ShimTree.{shimOf}
+use Rattle.spelling.specs.ShimTree.{shimTree}
 use Rattle.spelling.proofs.Pieces.{declaration-laid, declaration-keeps, layoutDeclaration-laid, layoutDeclaration-keeps}
 use Rattle.spelling.proofs.Pieces.{layoutDefinition-laid, layoutDefinition-keeps, shim-laid, shim-keeps}
 use Rattle.spelling.proofs.Matching.{function-matches}
 use Rattle.pieces.proofs.ForwardTree.{itemNamed}
-use Rattle.pieces.proofs.SheetEntries.{Each, Trees, Spelled, RulesKept}
+use Rattle.pieces.proofs.SheetEntries.{Trees, Spelled, RulesKept}
 use Rattle.pieces.proofs.SheetAgreement.{Matched, demand-3}
 
 -- the trees of a sheet's items
@@ -27,15 +28,15 @@ treesOf s =
       layoutDeclared = layoutDeclarationOf;
       functionDeclared = declarationOf (s .items);
       layoutDefined = layoutDefinitionOf;
-      functionDefined = shimOf s;
+      functionDefined = shimTree s;
     }
 
-each-of : {A : Type 0} (P Q : A → Type 0) → ((x : A) → P x → Q x) → (xs : List A) → All P xs → Each Q xs
+each-of : {A : Type 0} (P Q : A → Type 0) → ((x : A) → P x → Q x) → (xs : List A) → Each P xs → Each Q xs
 each-of P Q f [] h = tt
 each-of P Q f (x ∷ xs) h = (f x (h .0), each-of P Q f xs (h .1))
 
 every-of : {A : Type 0} (P : A → Type 0) (test : A → Bool) → ((x : A) → P x → test x ≡ true) → (xs : List A) →
-    All P xs → every test xs ≡ true
+    Each P xs → every test xs ≡ true
 unfolding every
 every-of P test f [] h = refl
 every-of P test f (x ∷ xs) h = rw (f x (h .0)) (every-of P test f xs (h .1))
@@ -44,7 +45,7 @@ named : {items : List Item} (x : Item) → ItemKept items x → itemNamed x ≡ 
 unfolding itemNamed
 named x k = rw (k .shallow, k .namespaceNames, k .cxxName, k .unreserved)
 
-module _ (s : Sheet) (noHeader : s .header ≡ false) (kept : All (ItemKept (s .items)) (s .items)) where
+module _ (s : Sheet) (noHeader : s .header ≡ false) (kept : Each (ItemKept (s .items)) (s .items)) where
   module _ (x : Item) (k : ItemKept (s .items) x) where
     spelled : (b : Body) → x .body ≡ b → Spelled (treesOf s) s x b
     spelled (struct p ts) e = tt

@@ -11,7 +11,7 @@ use Rattle.format.specs.Bits.{widthOf}
 use Rattle.rules.specs.Judge.{judge, check, checkedNumber}
 use Rattle.bridge.specs.WriteType.{writeType}
 use Rattle.services.specs.declared.Written.the-variants.{Length}
-use Rattle.services.specs.Services.{answerOf, bufferOf}
+use Rattle.services.specs.Services.{answerOf}
 use Rattle.bridge.specs.Write.{text}
 use Rattle.examples.proofs.Computing.{computes}
 

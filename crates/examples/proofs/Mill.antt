@@ -1,14 +1,14 @@
 -- Document 01's example: an opaque Rust type `Job` and a function `count(job: &Job) -> u32`, both in `mill`.
 use mathlib.Core.Path.{_≡_, refl}
 use mathlib.Core.List.{List, [], _∷_}
-use mathlib.Core.Bool.{Bool, true, false}
+use mathlib.Core.Bool.{false}
 use Prim.Native.Nat.{ℕ}
 use Rattle.lexical.specs.Bytes.{bytes}
 use Rattle.format.specs.declared.Atom.the-variants.{U32}
 use Rattle.format.specs.declared.Pointer.the-variants.{Ref}
-use Rattle.format.specs.Types.{Ty, atom, named, pointer, Ret, gives}
-use Rattle.format.specs.Sheet.{free, rustType, function, Sheet}
-use Rattle.rules.specs.Judge.{Judged, accepted, judge}
+use Rattle.format.specs.Types.{atom, named, pointer, gives}
+use Rattle.format.specs.Sheet.{free, Argument, rustType, function, Item, Sheet}
+use Rattle.rules.specs.Judge.{accepted, judge}
 use Rattle.bridge.specs.Write.{text}
 use Rattle.examples.proofs.Computing.{computes}
 
@@ -16,27 +16,26 @@ abbrev mill : List ℕ
 mill =
     0x10 ∷ 0x04 ∷ 0x13 ∷ 0x6e ∷ 0x9d ∷ 0x9b ∷ 0x03 ∷ 0x95 ∷ 0xbf ∷ 0x10 ∷ 0xb8 ∷ 0xf7 ∷ 0xf5 ∷ 0xdd ∷ 0xd0 ∷ 0x3d ∷ 0x5b ∷ 0xf1 ∷ 0x01 ∷ 0x32 ∷ 0x28 ∷ 0x4a ∷ 0x10 ∷ 0x40 ∷ 0xee ∷ 0x10 ∷ 0x00 ∷ []
 
-abbrev pub value : Sheet
-value =
-    record {
-      header = false;
-      doxygen = false;
-      items =
-          record { namespace = bytes "mill" ∷ []; cxx = bytes "Job"; body = rustType false }
-          ∷ record {
-            namespace = bytes "mill" ∷ [];
-            cxx = bytes "count";
-            body = function (record {
-              rust = bytes "count";
-              form = free;
-              throws = false;
-              return = gives (atom U32);
-              arguments = record { name = bytes "job"; type = pointer Ref false (named 0) } ∷ [];
-              comment = [];
-            });
-          }
-          ∷ [];
+-- the items, with more arguments of the function
+abbrev pub millItems : List Argument → List Item
+millItems more =
+    record { namespace = bytes "mill" ∷ []; cxx = bytes "Job"; body = rustType false }
+    ∷ record {
+      namespace = bytes "mill" ∷ [];
+      cxx = bytes "count";
+      body = function (record {
+        rust = bytes "count";
+        form = free;
+        throws = false;
+        return = gives (atom U32);
+        arguments = record { name = bytes "job"; type = pointer Ref false (named 0) } ∷ more;
+        comment = [];
+      });
     }
+    ∷ []
+
+abbrev pub value : Sheet
+value = record { header = false; doxygen = false; items = millItems [] }
 
 pub mill-decodes : judge mill ≡ accepted value
 unfolding computes

@@ -2,21 +2,19 @@
 -- is still read, and no longer fits.
 use mathlib.Core.Path.{_≡_, refl, sym, subst}
 use mathlib.Core.List.{List, [], _∷_}
-use mathlib.Core.Bool.{true, false}
 use Prim.Native.Nat.{ℕ}
 use native.Mathlib.Omega.{arith}
 use Rattle.lexical.specs.Bytes.{bytes}
 use Rattle.format.specs.declared.Atom.the-variants.{U32}
-use Rattle.format.specs.declared.Pointer.the-variants.{Ref}
-use Rattle.format.specs.Types.{atom, named, pointer, gives}
-use Rattle.format.specs.Sheet.{free, rustType, function, Item}
-use Rattle.grammar.specs.Tree.{Text, Operand, direct}
-use Rattle.grammar.specs.Reading.{Reads, OneReading}
+use Rattle.format.specs.Types.{atom}
+use Rattle.format.specs.Sheet.{Item}
+use Rattle.grammar.specs.Tree.{Operand, direct}
+use Rattle.grammar.specs.Reading.{Reading}
 use Rattle.grammar.proofs.Examples.{worked, workedTree, worked-reads, worked-once, swapped, swappedTree, swapped-reads}
 use Rattle.bridge.specs.Write.{text}
 use Rattle.agreement.specs.Agreement.{Agrees, Demand3}
 use Rattle.examples.proofs.Computing.{computes}
-use Rattle.examples.proofs.Mill.{value}
+use Rattle.examples.proofs.Mill.{millItems, value}
 
 mill-is-worked : text value ≡ worked
 unfolding computes
@@ -42,35 +40,19 @@ pub mill-demand3 : Demand3 value
 mill-demand3 = record {
   reading = record {
     tree = workedTree;
-    reads = subst (λ (s : List ℕ). Reads workedTree s) (sym mill-is-worked) worked-reads;
-    equal = λ a b p q. worked-once .equal a b (subst (λ (s : List ℕ). Reads a s) mill-is-worked p)
-        (subst (λ (s : List ℕ). Reads b s) mill-is-worked q);
+    reads = subst (λ (s : List ℕ). Reading workedTree s) (sym mill-is-worked) worked-reads;
+    equal = λ a b p q. worked-once .equal a b (subst (λ (s : List ℕ). Reading a s) mill-is-worked p)
+        (subst (λ (s : List ℕ). Reading b s) mill-is-worked q);
   };
   agrees = mill-agrees;
 }
 
 -- the same function with one more argument
 abbrev twoArguments : List Item
-twoArguments =
-    record { namespace = bytes "mill" ∷ []; cxx = bytes "Job"; body = rustType false }
-    ∷ record {
-      namespace = bytes "mill" ∷ [];
-      cxx = bytes "count";
-      body = function (record {
-        rust = bytes "count";
-        form = free;
-        throws = false;
-        return = gives (atom U32);
-        arguments =
-            record { name = bytes "job"; type = pointer Ref false (named 0) }
-            ∷ record { name = bytes "more"; type = atom U32 } ∷ [];
-        comment = [];
-      });
-    }
-    ∷ []
+twoArguments = millItems (record { name = bytes "more"; type = atom U32 } ∷ [])
 
 -- a text with swapped operands is read, and its reading does not fit
-pub swapped-does-not-fit : Reads swappedTree swapped × (Agrees twoArguments swappedTree → ⊥)
+pub swapped-does-not-fit : Reading swappedTree swapped × (Agrees twoArguments swappedTree → ⊥)
 unfolding computes
 swapped-does-not-fit = (swapped-reads, λ a. different (a .0 .operands))
   where

@@ -18,15 +18,16 @@ use Rattle.grammar.specs.Tree.{inNewUnchecked, inSlice, Call, Ending, no
 use Rattle.grammar.specs.Tree.{declares, defines, shim, Block, namespace, externC, Body, bodyEnd, item, block}
 use Rattle.grammar.specs.Tree.{Line, structLine, enumLine, usingLine, Forward, forwardEnd, line, bareNamespace}
 use Rattle.grammar.specs.Tree.{Text, text}
-use Rattle.grammar.specs.Tokens.{eachTokens, commaTokens, listTokens, optional, pathTokens, atomTokens}
+use Rattle.grammar.specs.Tokens.{eachTokens, commaTokens, listTokens, optionalTokens, pathTokens, atomTokens}
 use Rattle.grammar.specs.Tokens.{templateTokens, constTokens, suffixTokens, typeTokens, baseTokens, typesTokens}
 use Rattle.grammar.specs.Tokens.{moreTypesTokens, resultTokens, parameterTokens, headTokens, signatureTokens}
 use Rattle.grammar.specs.Tokens.{measureTokens, operandTokens, localTokens}
 use Rattle.grammar.specs.Tokens.{formTokens, closeTokens, callTokens, errorTestTokens, endingTokens, commentTokens}
-use Rattle.grammar.specs.Tokens.{itemTokens, blockTokens, closingComment, bodyTokens, lineTokens}
-use Rattle.grammar.specs.Tokens.{forwardTokens, textTokens}
+use Rattle.grammar.specs.Tokens.{itemTokens, blockTokens, BodyClosings, bodyTokens, lineTokens}
+use Rattle.grammar.specs.Tokens.{forwardTokens, Closings, textTokens}
 use Rattle.grammar.specs.Rules.{itemOk, bodyOk, forwardOk, textOk}
-use Rattle.grammar.proofs.Parser.{sameToken, begins}
+use Rattle.grammar.proofs.SameTokens.{sameToken}
+use Rattle.grammar.proofs.Parser.{begins}
 use Rattle.grammar.proofs.ItemBack.{item-first}
 use Rattle.grammar.proofs.TextBack.{block-rules, hasLines, forwardFilled}
 
@@ -142,7 +143,7 @@ unfolding same
 head-braceless (free f) r = refl
 head-braceless (method t f) r = refl
 
-noexcept-braceless : (e : Bool) (r : List Token) → noEmptyBraces (optional e (quoted "noexcept" []) r) ≡ noEmptyBraces r
+noexcept-braceless : (e : Bool) (r : List Token) → noEmptyBraces (optionalTokens e (quoted "noexcept" []) r) ≡ noEmptyBraces r
 unfolding same
 noexcept-braceless true r = refl
 noexcept-braceless false r = refl
@@ -254,7 +255,7 @@ line-braceless (usingLine x p) r = path-braceless p (quoted ";" r)
 
 -- blocks with content
 
-abbrev hasContent : Body → Bool
+abbrev pub hasContent : Body → Bool
 hasContent bodyEnd = false
 hasContent (item i next) = true
 hasContent (block b inside next) = true
@@ -272,13 +273,13 @@ unfolding same
 item-content =
     item-first (λ r. begins "}" r ≡ false) (λ r. refl) (λ r. (refl, refl, refl, refl)) (λ r. (refl, refl)) (λ s r. refl)
 
-body-content : (b : Body) (depth : ℕ) (c : Bool) → bodyOk depth c b ≡ true → hasContent b ≡ true → (r : List Token) →
-    begins "}" (bodyTokens b r) ≡ false
+body-content : (b : Body) (cs : BodyClosings b) (depth : ℕ) (c : Bool) → bodyOk depth c b ≡ true → hasContent b ≡ true →
+    (r : List Token) → begins "}" (bodyTokens b cs r) ≡ false
 unfolding same bodyOk
-body-content bodyEnd depth c o h r = absurd (false≢true h)
-body-content (item i next) depth c o h r = item-content i depth c (both (itemOk depth c i) (bodyOk depth c next) o .0) _
-body-content (block (namespace x) inside next) depth c o h r = refl
-body-content (block externC inside next) depth c o h r = refl
+body-content bodyEnd cs depth c o h r = absurd (false≢true h)
+body-content (item i next) cs depth c o h r = item-content i depth c (both (itemOk depth c i) (bodyOk depth c next) o .0) _
+body-content (block (namespace x) inside next) cs depth c o h r = refl
+body-content (block externC inside next) cs depth c o h r = refl
 
 forward-content : (f : Forward) → hasLines f ≡ true → (r : List Token) → begins "}" (forwardTokens f r) ≡ false
 unfolding same
@@ -293,19 +294,20 @@ unfolding same
 block-braces (namespace x) r e = rw e
 block-braces externC r e = rw e
 
-body-braces : (b : Body) (depth : ℕ) (c : Bool) → bodyOk depth c b ≡ true → bodyFilled b ≡ true → (r : List Token) →
-    noEmptyBraces r ≡ true → noEmptyBraces (bodyTokens b r) ≡ true
+body-braces : (b : Body) (cs : BodyClosings b) (depth : ℕ) (c : Bool) → bodyOk depth c b ≡ true → bodyFilled b ≡ true →
+    (r : List Token) → noEmptyBraces r ≡ true → noEmptyBraces (bodyTokens b cs r) ≡ true
 unfolding same bodyOk
-body-braces bodyEnd depth c o f r h = h
-body-braces (item i next) depth c o f r h =
-    item-braceless i (bodyTokens next r) ∙ body-braces next depth c (both (itemOk depth c i) (bodyOk depth c next) o .1) f r h
-body-braces (block b inside next) depth c o f r h =
+body-braces bodyEnd cs depth c o f r h = h
+body-braces (item i next) cs depth c o f r h =
+    item-braceless i (bodyTokens next cs r) ∙
+    body-braces next cs depth c (both (itemOk depth c i) (bodyOk depth c next) o .1) f r h
+body-braces (block b inside next) cs depth c o f r h =
     let q = block-rules b inside next depth c o in
     let p = both (hasContent inside) (bodyFilled inside && bodyFilled next) f in
     let s = both (bodyFilled inside) (bodyFilled next) (p .1) in
-    let rest : List Token = quoted "}" (comment (closingComment b) ∷ bodyTokens next r) in
-    block-braces b (bodyTokens inside rest) (body-content inside (q .0) (q .1) (q .2) (p .0) rest)
-    ∙ body-braces inside (q .0) (q .1) (q .2) (s .0) rest (body-braces next depth c (q .3) (s .1) r h)
+    let rest : List Token = quoted "}" (comment (cs .0 .characters) ∷ bodyTokens next (cs .2) r) in
+    block-braces b (bodyTokens inside (cs .1) rest) (body-content inside (cs .1) (q .0) (q .1) (q .2) (p .0) rest)
+    ∙ body-braces inside (cs .1) (q .0) (q .1) (q .2) (s .0) rest (body-braces next (cs .2) depth c (q .3) (s .1) r h)
 
 forward-braces : (f : Forward) → forwardFilled f ≡ true → (r : List Token) → noEmptyBraces r ≡ true →
     noEmptyBraces (forwardTokens f r) ≡ true
@@ -318,9 +320,10 @@ forward-braces (bareNamespace x inside next) f r h =
     let rest : List Token = quoted "}" (forwardTokens next r) in
     rw (forward-content inside (p .0) rest) (forward-braces inside (s .0) rest (forward-braces next (s .1) r h))
 
-pub filled-braces : (t : Text) → textOk t ≡ true → textFilled t ≡ true → noEmptyBraces (textTokens t) ≡ true
+pub filled-braces : (t : Text) (cs : Closings t) → textOk t ≡ true → textFilled t ≡ true →
+    noEmptyBraces (textTokens t cs) ≡ true
 unfolding textOk
-filled-braces (text f b) o h =
+filled-braces (text f b) cs o h =
     let p = both (forwardFilled f) (bodyFilled b) h in
-    forward-braces f (p .0) (bodyTokens b [])
-    (body-braces b 0 false (both (forwardOk 0 f) (bodyOk 0 false b) o .1) (p .1) [] refl)
+    forward-braces f (p .0) (bodyTokens b cs [])
+    (body-braces b cs 0 false (both (forwardOk 0 f) (bodyOk 0 false b) o .1) (p .1) [] refl)

@@ -1,69 +1,44 @@
--- A test whether a tree is a reading of a text: it holds exactly of the readings.
-use mathlib.Core.Path.{_≡_, refl, ap, ap₂, _∙_, sym}
-use mathlib.Core.List.{List, [], _∷_}
-use mathlib.Core.Bool.{Bool, true, false, _&&_, false≢true}
-use Prim.Native.Nat.{ℕ, zero, suc}
+-- A test whether a tree is a reading of a text, with its closing comments: it holds exactly of the readings.
+use mathlib.Core.Path.{_≡_, refl}
+use mathlib.Core.List.{List, []}
+use mathlib.Core.Bool.{Bool, true, _&&_}
+use Prim.Native.Nat.{ℕ}
+use Prim.Native.String.{String}
+use Rattle.lexical.specs.Bytes.{bytes}
 use Rattle.lexical.proofs.BoolLaws.{both, and-of}
-use Rattle.lexical.proofs.ByteLaws.{same-eq, same-refl}
-use Rattle.grammar.specs.Token.{Token, word, mark, scope, colon, linkage, comment}
-use Rattle.grammar.specs.Tree.{Text}
-use Rattle.grammar.specs.Tokens.{textTokens}
+use Rattle.grammar.specs.Tree.{Block, namespace, externC, Text}
+use Rattle.grammar.specs.Tokens.{blockTokens, Closing, Closings, textTokens}
 use Rattle.grammar.specs.Rules.{textOk}
-use Rattle.grammar.specs.Reading.{Reads}
+use Rattle.grammar.specs.Reading.{Reading}
 use Rattle.grammar.proofs.Lexer.{lex, lexed}
 use Rattle.grammar.proofs.LexedLayout.{allSound, laid}
 use Rattle.grammar.proofs.Literal.{laid-sound}
-use Rattle.grammar.proofs.Parser.{code, sameToken}
+use Rattle.grammar.proofs.SameTokens.{sameTokens, tokens-eq, tokens-refl}
 
--- a token comes back from its code
-abbrev decode : List ℕ → Token
-decode [] = colon
-decode (zero ∷ s) = word s
-decode (suc zero ∷ []) = colon
-decode (suc zero ∷ (c ∷ s)) = mark c
-decode (suc (suc zero) ∷ s) = scope
-decode (suc (suc (suc zero)) ∷ s) = colon
-decode (suc (suc (suc (suc zero))) ∷ s) = linkage
-decode (suc (suc (suc (suc (suc n)))) ∷ s) = comment s
+pub block-sound : (b : Block) → allSound (blockTokens b []) ≡ true
+block-sound (namespace x) = refl
+block-sound externC = refl
 
-decode-code : (t : Token) → decode (code t) ≡ t
-decode-code (word s) = refl
-decode-code (mark c) = refl
-decode-code scope = refl
-decode-code colon = refl
-decode-code linkage = refl
-decode-code (comment s) = refl
+-- `closing b "..." refl` where the quoted comment repeats the head
+abbrev pub closing : (b : Block) (s : String) → sameTokens (lex (bytes s)) (blockTokens b []) ≡ true → Closing b
+closing b s h =
+    record {
+      characters = bytes s;
+      repeats = laid (bytes s) (blockTokens b []) (block-sound b) (tokens-eq (lex (bytes s)) (blockTokens b []) h);
+    }
 
-abbrev pub sameTokens : List Token → List Token → Bool
-sameTokens [] [] = true
-sameTokens [] (u ∷ us) = false
-sameTokens (t ∷ ts) [] = false
-sameTokens (t ∷ ts) (u ∷ us) = sameToken t u && sameTokens ts us
+abbrev pub readsTest : (t : Text) → Closings t → List ℕ → Bool
+readsTest t cs s = textOk t && (allSound (textTokens t cs) && sameTokens (lex s) (textTokens t cs))
 
-same-tokens-eq : (ts us : List Token) → sameTokens ts us ≡ true → ts ≡ us
-same-tokens-eq [] [] e = refl
-same-tokens-eq [] (u ∷ us) e = absurd (false≢true e)
-same-tokens-eq (t ∷ ts) [] e = absurd (false≢true e)
-same-tokens-eq (t ∷ ts) (u ∷ us) e =
-    let q = both (sameToken t u) (sameTokens ts us) e in
-    ap₂ (λ (x : Token) (y : List Token). x ∷ y) (sym (decode-code t) ∙ ap decode (same-eq (code t) (code u) (q .0)) ∙ decode-code u)
-    (same-tokens-eq ts us (q .1))
+pub checked : (t : Text) (cs : Closings t) (s : List ℕ) → readsTest t cs s ≡ true → Reading t s
+checked t cs s h =
+    let ts = textTokens t cs in
+    let p = both (textOk t) (allSound ts && sameTokens (lex s) ts) h in
+    let q = both (allSound ts) (sameTokens (lex s) ts) (p .1) in
+    record { keepsRules = p .0; closings = cs; laidOut = laid s ts (q .0) (tokens-eq (lex s) ts (q .1)) }
 
-same-tokens-refl : (ts : List Token) → sameTokens ts ts ≡ true
-same-tokens-refl [] = refl
-same-tokens-refl (t ∷ ts) = rw (same-refl (code t)) (same-tokens-refl ts)
-
-abbrev pub readsTest : Text → List ℕ → Bool
-readsTest t s = textOk t && (allSound (textTokens t) && sameTokens (lex s) (textTokens t))
-
-pub checked : (t : Text) (s : List ℕ) → readsTest t s ≡ true → Reads t s
-checked t s h =
-    let p = both (textOk t) (allSound (textTokens t) && sameTokens (lex s) (textTokens t)) h in
-    let q = both (allSound (textTokens t)) (sameTokens (lex s) (textTokens t)) (p .1) in
-    record { keepsRules = p .0; laidOut = laid s (textTokens t) (q .0) (same-tokens-eq (lex s) (textTokens t) (q .1)) }
-
-pub passes : (t : Text) (s : List ℕ) → Reads t s → readsTest t s ≡ true
+pub passes : (t : Text) (s : List ℕ) (a : Reading t s) → readsTest t (a .closings) s ≡ true
 passes t s a =
-    and-of (textOk t) (allSound (textTokens t) && sameTokens (lex s) (textTokens t)) (a .keepsRules)
-    (and-of (allSound (textTokens t)) (sameTokens (lex s) (textTokens t)) (laid-sound (a .laidOut))
-    (rw (lexed (a .laidOut)) (same-tokens-refl (textTokens t))))
+    let ts = textTokens t (a .closings) in
+    and-of (textOk t) (allSound ts && sameTokens (lex s) ts) (a .keepsRules)
+    (and-of (allSound ts) (sameTokens (lex s) ts) (laid-sound (a .laidOut)) (rw (lexed (a .laidOut)) (tokens-refl ts)))

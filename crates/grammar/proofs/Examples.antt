@@ -3,9 +3,7 @@ use mathlib.Core.Path.{_≡_, refl, subst}
 use mathlib.Core.List.{List, [], _∷_, _++_}
 use mathlib.Core.Bool.{Bool, true, false}
 use Prim.Native.Nat.{ℕ, zero, suc}
-use Rattle.lexical.specs.Bytes.{bytes, every, same, member}
-use Rattle.lexical.specs.Decimal.{digits, decimal}
-use Rattle.lexical.specs.Names.{nameShape, nameOk, keywords, alternativeTokens, reserved}
+use Rattle.lexical.specs.Bytes.{bytes, same}
 use Rattle.grammar.specs.Types.{Name, bool, usize, u32, box, reference, CxxType, suffixed, atom, full, template}
 use Rattle.grammar.specs.Types.{array, voidFn, CxxTypes, nil, cons}
 use Rattle.grammar.specs.Tree.{void, int, value, Parameter, named, slot, size, align, free, Operand, receiver, direct}
@@ -14,9 +12,11 @@ use Rattle.grammar.specs.Tree.{inFromRaw, noReturn, Item, declares, defi
 use Rattle.grammar.specs.Tree.{item, block, Forward}
 use Rattle.grammar.specs.Tree.{structLine, forwardEnd, line, bareNamespace, Text, text}
 use Rattle.grammar.specs.Rules
-use Rattle.grammar.specs.Reading.{Reads, OneReading}
-use Rattle.grammar.proofs.Checked.{checked}
-use Rattle.grammar.proofs.Forms.{plainShim, formsTree, forms}
+use Rattle.grammar.specs.Reading.{Reading, OneReading}
+use Rattle.grammar.specs.Tokens.{Closings}
+use Rattle.grammar.proofs.Checked.{closing, checked}
+use Rattle.grammar.proofs.Computing.{computes}
+use Rattle.grammar.proofs.Forms.{plainShim, formsTree, formsClosings, forms}
 use Rattle.grammar.proofs.Unique.{one-reading}
 
 -- document 01's worked text, over the parameters and operands of its function
@@ -95,6 +95,11 @@ worked = lines (bytes "::mill::Job const &job") (bytes "job")
 abbrev pub workedTree : Text
 workedTree = tree (job ∷ []) (direct (bytes "job") ∷ [])
 
+-- of both texts
+abbrev millClosings : Closings workedTree
+unfolding same
+millClosings = (closing (namespace mill) " namespace mill" refl, (closing externC " extern \"C\"" refl, tt, tt), tt)
+
 -- with one more argument, and the two operands swapped
 
 abbrev pub swapped : List ℕ
@@ -149,26 +154,35 @@ nestedForward (suc n) = bareNamespace (bytes "a") (nestedForward n) forwardEnd
 abbrev declares-main : Item
 declares-main = declares (record { result = int; symbol = bytes "main"; parameters = []; noexcept = true })
 
--- so many arguments, with a receiver and a slot
+abbrev declares-with : List Parameter → Item
+declares-with parameters = declares (record { result = void; symbol = bytes "g"; parameters = parameters; noexcept = true })
 
-abbrev declares-with : ℕ → Item
-declares-with n =
-    declares (record {
-      result = void;
-      symbol = bytes "g";
-      parameters = named (boxes 0) (bytes "self") ∷ slot (boxes 0) ∷ copies n (named (boxes 0) (bytes "x"));
-      noexcept = true;
-    })
+abbrev call-with : List Operand → Call
+call-with operands = record { form = bare; symbol = bytes "g"; operands = operands }
 
-abbrev call-with : ℕ → Call
-call-with n = record { form = bare; symbol = bytes "g"; operands = receiver ∷ slotAddress ∷ copies n (direct (bytes "x")) }
+-- n arguments
+
+abbrev x-parameters : ℕ → List Parameter
+x-parameters n = copies n (named (boxes 0) (bytes "x"))
+
+abbrev x-operands : ℕ → List Operand
+x-operands n = copies n (direct (bytes "x"))
+
+abbrev self : Parameter
+self = named (boxes 0) (bytes "self")
 
 abbrev shim-with : ℕ → Item
-shim-with n = plainShim [] (copies n (named (boxes 0) (bytes "x"))) (call-with 0)
+shim-with n = plainShim [] (x-parameters n) (call-with [])
 
 -- the first passes and the second does not
 abbrev Limit : Bool → Bool → Type 0
 Limit within over = (within ≡ true) × (over ≡ false)
+
+abbrev DeclaredLimit : List Parameter → List Parameter → Type 0
+DeclaredLimit within over = Limit (Rules.itemOk 0 true (declares-with within)) (Rules.itemOk 0 true (declares-with over))
+
+abbrev CallLimit : List Operand → List Operand → Type 0
+CallLimit within over = Limit (Rules.callOk (call-with within)) (Rules.callOk (call-with over))
 
 pub record Limits : Type 0 where
   pub levels : Limit (Rules.typeOk 8 (boxes 7)) (Rules.typeOk 8 (boxes 8))
@@ -180,23 +194,33 @@ pub record Limits : Type 0 where
   pub stdName : Limit (Rules.fullNameOk (bytes "std" ∷ [])) (Rules.fullNameOk (bytes "std" ∷ bytes "a" ∷ []))
   pub namespaces : Limit (Rules.bodyOk 0 false (nested 7)) (Rules.bodyOk 0 false (nested 8))
   pub forwardNamespaces : Limit (Rules.forwardOk 0 (nestedForward 7)) (Rules.forwardOk 0 (nestedForward 8))
-  pub declaredArguments : Limit (Rules.itemOk 0 true (declares-with 31)) (Rules.itemOk 0 true (declares-with 32))
-  pub callArguments : Limit (Rules.callOk (call-with 31)) (Rules.callOk (call-with 32))
+  pub declaredArguments : DeclaredLimit (x-parameters 31) (x-parameters 32)
+  pub declaredWithSelf : DeclaredLimit (self ∷ x-parameters 31) (self ∷ x-parameters 32)
+  pub declaredWithSlot : DeclaredLimit (x-parameters 31 ++ (slot (boxes 0) ∷ [])) (x-parameters 32 ++ (slot (boxes 0) ∷ []))
+  pub declaredWithBoth : DeclaredLimit (self ∷ slot (boxes 0) ∷ x-parameters 31) (self ∷ slot (boxes 0) ∷ x-parameters 32)
+  pub declaredSelfs : DeclaredLimit (copies 32 self) (copies 33 self)
+  pub declaredSlots : DeclaredLimit (copies 32 (slot (boxes 0))) (copies 33 (slot (boxes 0)))
+  pub callArguments : CallLimit (x-operands 31) (x-operands 32)
+  pub callWithReceiver : CallLimit (receiver ∷ x-operands 31) (receiver ∷ x-operands 32)
+  pub callWithSlot : CallLimit (x-operands 31 ++ (slotAddress ∷ [])) (x-operands 32 ++ (slotAddress ∷ []))
+  pub callWithBoth : CallLimit (receiver ∷ slotAddress ∷ x-operands 31) (receiver ∷ slotAddress ∷ x-operands 32)
+  pub callReceivers : CallLimit (copies 32 receiver) (copies 33 receiver)
+  pub callSlots : CallLimit (copies 32 slotAddress) (copies 33 slotAddress)
   pub shimArguments : Limit (Rules.itemOk 0 false (shim-with 31)) (Rules.itemOk 0 false (shim-with 32))
   pub comments : Limit (Rules.commentsOk (copies 31 [])) (Rules.commentsOk (copies 32 []))
   pub commentLength : Limit (Rules.commentsOk (copies 128 32 ∷ [])) (Rules.commentsOk (copies 129 32 ∷ []))
   pub mainInRoot : Limit (Rules.itemOk 0 true declares-main) (Rules.itemOk 1 true declares-main)
   pub inExternC : Limit (Rules.itemOk 0 true declares-main) (Rules.itemOk 0 false declares-main)
 
-computed : Reads workedTree worked × Reads swappedTree swapped × Reads inForward twofold × Reads inBody twofold × Reads formsTree forms
+computed : Reading workedTree worked × Reading swappedTree swapped × Reading inForward twofold × Reading inBody twofold × Reading formsTree forms
     × Limits
-unfolding every same member digits decimal nameShape nameOk keywords alternativeTokens reserved Rules.isSymbol Rules.fullNameOk Rules.levels Rules.baseLevels Rules.deepest Rules.count Rules.partsOk Rules.baseOk Rules.allPartsOk Rules.resultOk Rules.declaredOk Rules.declaredArguments Rules.declarationOk Rules.layoutOk Rules.headOk Rules.argumentOk Rules.localOk Rules.operandOk Rules.callArguments Rules.formOk Rules.callOk Rules.commentsOk Rules.shimOk Rules.itemOk Rules.bodyOk Rules.lineOk Rules.forwardOk Rules.textOk
+unfolding computes
 computed = (
-  checked workedTree worked refl,
-  checked swappedTree swapped refl,
-  checked inForward twofold refl,
-  checked inBody twofold refl,
-  checked formsTree forms refl,
+  checked workedTree millClosings worked refl,
+  checked swappedTree millClosings swapped refl,
+  checked inForward tt twofold refl,
+  checked inBody (closing (namespace (bytes "a")) " namespace a" refl, tt, tt) twofold refl,
+  checked formsTree formsClosings forms refl,
   record {
     levels = (refl, refl);
     declaredLevels = (refl, refl);
@@ -208,7 +232,17 @@ computed = (
     namespaces = (refl, refl);
     forwardNamespaces = (refl, refl);
     declaredArguments = (refl, refl);
+    declaredWithSelf = (refl, refl);
+    declaredWithSlot = (refl, refl);
+    declaredWithBoth = (refl, refl);
+    declaredSelfs = (refl, refl);
+    declaredSlots = (refl, refl);
     callArguments = (refl, refl);
+    callWithReceiver = (refl, refl);
+    callWithSlot = (refl, refl);
+    callWithBoth = (refl, refl);
+    callReceivers = (refl, refl);
+    callSlots = (refl, refl);
     shimArguments = (refl, refl);
     comments = (refl, refl);
     commentLength = (refl, refl);
@@ -218,25 +252,25 @@ computed = (
 )
 
 -- document 01's text has this reading and no other
-pub worked-reads : Reads workedTree worked
+pub worked-reads : Reading workedTree worked
 worked-reads = computed .0
 
 pub worked-once : OneReading worked
 worked-once = one-reading workedTree worked worked-reads refl
 
 -- a text in which a call hands its operands on in another order is read too, and also has no other reading
-pub swapped-reads : Reads swappedTree swapped
+pub swapped-reads : Reading swappedTree swapped
 swapped-reads = computed .1
 
 pub swapped-once : OneReading swapped
 swapped-once = one-reading swappedTree swapped swapped-reads refl
 
-pub ambiguous : Reads inForward twofold × Reads inBody twofold × (inForward ≡ inBody → ⊥)
+pub ambiguous : Reading inForward twofold × Reading inBody twofold × (inForward ≡ inBody → ⊥)
 unfolding HasForward
 ambiguous = (computed .2, computed .3, λ e. subst HasForward e tt)
 
 -- every form of the grammar is read
-pub forms-read : Reads formsTree forms
+pub forms-read : Reading formsTree forms
 forms-read = computed .4
 
 pub forms-once : OneReading forms

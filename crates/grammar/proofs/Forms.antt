@@ -1,9 +1,10 @@
 -- A text with every form of the grammar, and its tree.
+use mathlib.Core.Path.{refl}
 use mathlib.Core.List.{List, [], _∷_, _++_}
 use mathlib.Core.Bool.{Bool, true, false}
 use Prim.Native.Nat.{ℕ}
 use Prim.Native.String.{String}
-use Rattle.lexical.specs.Bytes.{bytes}
+use Rattle.lexical.specs.Bytes.{bytes, same}
 use Rattle.grammar.specs.Types.{bool, char, u8, u16, u32, u64, usize, i8, i16, i32, i64, isize}
 use Rattle.grammar.specs.Types.{f32, f64, cxxString, rustString, box, vec, uniquePtr, sharedPtr}
 use Rattle.grammar.specs.Types.{weakPtr, vector, reference, pointer, CxxType, suffixed, Base, atom, str, full}
@@ -14,6 +15,8 @@ use Rattle.grammar.specs.Tree.{slotAddress, CallForm, Call, bare, error,
 use Rattle.grammar.specs.Tree.{inNewUnchecked, inSlice, noReturn, returnSlot, moveSlot, Item, declares}
 use Rattle.grammar.specs.Tree.{defines, shim, namespace, externC, bodyEnd, item, block, structLine, enumLine}
 use Rattle.grammar.specs.Tree.{usingLine, forwardEnd, line, bareNamespace, Text, text}
+use Rattle.grammar.specs.Tokens.{Closings}
+use Rattle.grammar.proofs.Checked.{closing}
 
 abbrev plain : Base → CxxType
 plain b = suffixed b []
@@ -129,12 +132,21 @@ formsTree =
     (item (calls (inUniquePtr (plain str))) (item (calls (inNewUnchecked (plain str))) (item (calls (inSlice (plain str)))
     bodyEnd))))))))))
 
+-- in other spacing than the crate's
+abbrev pub formsClosings : Closings formsTree
+unfolding same
+formsClosings = (
+  closing externC "  extern  \"C\" " refl,
+  (closing (namespace (bytes "a")) "namespace a" refl, (closing externC "extern\"C\"" refl, tt, tt), tt),
+  (closing (namespace (bytes "a")) " namespace a" refl, tt, tt),
+)
+
 abbrev pub forms : List ℕ
 forms =
     bytes "using A = ::a::b;\nnamespace a { namespace b { enum class E : ::std::uint8_t; } struct S; } enum class E:char;\n" ++
     bytes "extern \"C\" {\nvoid f$(" ++ each ++ bytes ") noexcept;\n" ++
-    bytes "namespace a {\n::rust::repr::PtrLen $();\nextern \"C\"{::rust::repr::Fat _()noexcept;}// extern \"C\"\n}" ++
-    bytes "// namespace a\nint main();\n} // extern \"C\"\n" ++
+    bytes "namespace a {\n::rust::repr::PtrLen $();\nextern \"C\"{::rust::repr::Fat _()noexcept;}//extern\"C\"\n}" ++
+    bytes "//namespace a\nint main();\n} //  extern  \"C\" \n" ++
     bytes "int main() noexcept { main(); return *return$.value; }\n" ++
     bytes "namespace a {\n::std::size_t S::layout::align() noexcept {\n  return $();\n}\n" ++
     bytes "// one\n//\n// extern \"C\"\n::S S::m(bool &&x) const {\n  ::rust::MaybeUninit<::std::uint8_t> return$;\n" ++

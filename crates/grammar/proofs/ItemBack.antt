@@ -1,8 +1,8 @@
 -- The parser gives back each declaration, layout definition and shim from its tokens.
-use mathlib.Core.Path.{_≡_, refl, _∙_}
+use mathlib.Core.Path.{_≡_, refl, ap, _∙_}
 use mathlib.Core.List.{List, [], _∷_, _++_}
-use mathlib.Core.Bool.{Bool, true, false, _&&_, not, false≢true}
-use mathlib.Core.Option.{Option}
+use mathlib.Core.Bool.{Bool, true, false, _&&_, not, cond, false≢true}
+use mathlib.Core.Option.{Option, none}
 use Prim.Native.Nat.{ℕ, suc, _≤_, _+_}
 use native.Mathlib.Omega.{arith}
 use lib.Dec.{leb}
@@ -10,7 +10,7 @@ use lib.ListN.{length}
 use Rattle.lexical.specs.Bytes.{bytes, every, same}
 use Rattle.lexical.specs.Names.{isName}
 use Rattle.lexical.proofs.BoolLaws.{both, not-true}
-use Rattle.lexical.proofs.ByteLaws.{every-weaken}
+use Rattle.lexical.proofs.ByteLaws.{every-weaken, same-refl}
 use Rattle.grammar.specs.Token.{Token, word, scope, comment, quoted}
 use Rattle.grammar.specs.Types.{Name, usize, CxxType, suffixed, atom, box, uniquePtr, template}
 use Rattle.grammar.specs.Tree.{Result, void, ptrLen, fat, int, value, Parameter, named, slot, Declaration}
@@ -19,13 +19,13 @@ use Rattle.grammar.specs.Tree.{Operand, receiver, direct, intoRaw, relea
 use Rattle.grammar.specs.Tree.{CallForm, bare, error, returned, dereferenced, inFromRaw, inUniquePtr}
 use Rattle.grammar.specs.Tree.{inNewUnchecked, inSlice, Call, Ending, noReturn, returnSlot, moveSlot, Shim, Item}
 use Rattle.grammar.specs.Tree.{declares, defines, shim}
-use Rattle.grammar.specs.Tokens.{eachTokens, listTokens, optional, constTokens, suffixTokens, typeTokens}
+use Rattle.grammar.specs.Tokens.{eachTokens, listTokens, optionalTokens, constTokens, suffixTokens, typeTokens}
 use Rattle.grammar.specs.Tokens.{resultTokens, parameterTokens, headTokens, signatureTokens, declarationTokens}
 use Rattle.grammar.specs.Tokens.{measureTokens, layoutTokens, operandTokens, localTokens, formTokens, closeTokens}
 use Rattle.grammar.specs.Tokens.{callTokens, errorTestTokens, endingTokens, commentTokens, shimTokens, itemTokens}
 use Rattle.grammar.specs.Rules.{maxLevels, maxDeclaredLevels, maxArguments, isSymbol, levels, partsOk, baseOk, typeOk}
-use Rattle.grammar.specs.Rules.{resultOk, isMain, declaredOk, declaredArguments, declarationOk, headOk}
-use Rattle.grammar.specs.Rules.{argumentOk, localOk, operandOk, callArguments, formOk, callOk, commentsOk, shimOk}
+use Rattle.grammar.specs.Rules.{resultOk, fewArguments, isRootMain, declaredOk, isSelf, isSlot, declarationOk, headOk}
+use Rattle.grammar.specs.Rules.{argumentOk, localOk, operandOk, isReceiver, isSlotAddress, formOk, callOk, commentsOk, shimOk}
 use Rattle.grammar.specs.Rules.{itemOk}
 use Rattle.grammar.proofs.Parser.{begins, fork, flagP, wordP, commentP, pathP, manyP, listP, typeP}
 use Rattle.grammar.proofs.Parser.{typesP, isComment, isLocal, onResult, resultP, parameterP, operandP}
@@ -186,6 +186,7 @@ module _ {A : Type 0} where
   local-back (held x s) n l o r k =
       type-back x n l (both (leb (levels x) maxLevels) (partsOk x) (both (typeOk maxLevels x) (isName s) o .0) .1)
       (quoted ">" (word (s ++ bytes "$") ∷ quoted "( :: std :: move (" (word s ∷ quoted ") ) ;" r))) refl _
+      ∙ ap (λ (b : Bool). cond b (k (held x s) r) none) (same-refl (s ++ bytes "$"))
   local-back (room x) n l o r k =
       type-back x n l (both (leb (levels x) maxLevels) (partsOk x) o .1) (quoted "> return$ ;" r) refl _
 
@@ -256,10 +257,10 @@ module _ {A : Type 0} where
   unfolding same callP callOk
   call-back c n l o r k =
       let a = both (formOk (c .form))
-      (isSymbol (c .symbol) && (every operandOk (c .operands) && leb (callArguments (c .operands)) maxArguments)) o in
+      (isSymbol (c .symbol) && (every operandOk (c .operands) && fewArguments isReceiver isSlotAddress (c .operands))) o in
       let b = both (isSymbol (c .symbol))
-      (every operandOk (c .operands) && leb (callArguments (c .operands)) maxArguments) (a .1) in
-      let d = both (every operandOk (c .operands)) (leb (callArguments (c .operands)) maxArguments) (b .1) in
+      (every operandOk (c .operands) && fewArguments isReceiver isSlotAddress (c .operands)) (a .1) in
+      let d = both (every operandOk (c .operands)) (fewArguments isReceiver isSlotAddress (c .operands)) (b .1) in
       form-back (c .form) n (omega arith) (a .0) (c .symbol) (symbol-no-return (c .symbol) (b .0)) _ _
       ∙ operands-back (c .operands) n (omega arith) (d .0) _ _
       ∙ close-back (c .form) _ _
@@ -319,7 +320,7 @@ module _ {A : Type 0} where
   -- const and noexcept, each there or not
   flags-back : (c e : Bool) (r : List Token) → begins "const" r ≡ false → begins "noexcept" r ≡ false →
       (k : Bool → Bool → List Token → Option A) →
-      flagP "const" (constTokens c (optional e (quoted "noexcept" []) r)) (λ c r. flagP "noexcept" r (k c)) ≡ k c e r
+      flagP "const" (constTokens c (optionalTokens e (quoted "noexcept" []) r)) (λ c r. flagP "noexcept" r (k c)) ≡ k c e r
   unfolding same
   flags-back true true r p q k = refl
   flags-back true false r p q k = rw (q, fork)
@@ -344,13 +345,13 @@ module _ {A : Type 0} where
       (r : List Token) (k : Item → List Token → Option A) → itemP n (declarationTokens d r) k ≡ k (declares d) r
   unfolding same tailP declarationOk
   declaration-back d n depth l o r k =
-      let a = both (isSymbol (d .symbol)) (resultOk (isMain depth (free (d .symbol))) (d .result) &&
-      (every declaredOk (d .parameters) && leb (declaredArguments (d .parameters)) maxArguments)) o in
-      let b = both (resultOk (isMain depth (free (d .symbol))) (d .result))
-      (every declaredOk (d .parameters) && leb (declaredArguments (d .parameters)) maxArguments) (a .1) in
-      let c = both (every declaredOk (d .parameters)) (leb (declaredArguments (d .parameters)) maxArguments) (b .1) in
+      let a = both (isSymbol (d .symbol)) (resultOk (isRootMain depth (free (d .symbol))) (d .result) &&
+      (every declaredOk (d .parameters) && fewArguments isSelf isSlot (d .parameters))) o in
+      let b = both (resultOk (isRootMain depth (free (d .symbol))) (d .result))
+      (every declaredOk (d .parameters) && fewArguments isSelf isSlot (d .parameters)) (a .1) in
+      let c = both (every declaredOk (d .parameters)) (fewArguments isSelf isSlot (d .parameters)) (b .1) in
       signature-back [] (d .result) (free (d .symbol)) (d .parameters) false (d .noexcept) n (omega arith) (omega arith)
-      (omega arith) (result-readable (isMain depth (free (d .symbol))) (d .result) (b .0))
+      (omega arith) (result-readable (isRootMain depth (free (d .symbol))) (d .result) (b .0))
       (every-weaken declaredOk parameterReadable declared-readable (d .parameters) (c .0)) (quoted ";" r) refl refl k
 
   shim-back : (s : Shim) (n depth : ℕ) → itemSize (shim s) ≤ n → shimOk depth s ≡ true → (r : List Token)
@@ -361,14 +362,14 @@ module _ {A : Type 0} where
       let rest₂ : Bool = leb (length (s .parameters)) maxArguments && rest₁ in
       let rest₃ : Bool = every argumentOk (s .parameters) && rest₂ in
       let rest₄ : Bool = headOk (s .head) && rest₃ in
-      let a = both (commentsOk (s .comments)) (resultOk (isMain depth (s .head)) (s .result) && rest₄) o in
-      let b = both (resultOk (isMain depth (s .head)) (s .result)) rest₄ (a .1) in
+      let a = both (commentsOk (s .comments)) (resultOk (isRootMain depth (s .head)) (s .result) && rest₄) o in
+      let b = both (resultOk (isRootMain depth (s .head)) (s .result)) rest₄ (a .1) in
       let c = both (headOk (s .head)) rest₃ (b .1) in
       let d = both (every argumentOk (s .parameters)) rest₂ (c .1) in
       let e = both (leb (length (s .parameters)) maxArguments) rest₁ (d .1) in
       let f = both (every localOk (s .locals)) (callOk (s .call)) (e .1) in
       signature-back (s .comments) (s .result) (s .head) (s .parameters) (s .isConst) (s .noexcept) n (omega arith)
-      (omega arith) (omega arith) (result-readable (isMain depth (s .head)) (s .result) (b .0))
+      (omega arith) (omega arith) (result-readable (isRootMain depth (s .head)) (s .result) (b .0))
       (every-weaken argumentOk parameterReadable argument-readable (s .parameters) (d .0)) _ refl refl k
       ∙ locals-back (s .locals) n (omega arith) (f .0) _ (no-local (s .call .form) (s .call .symbol) _) _
       ∙ call-back (s .call) n (omega arith) (f .1) _ _
@@ -413,10 +414,10 @@ module _ (P : List Token → Type 0) (path : (r : List Token) → P (scope ∷ r
   unfolding itemOk declarationOk shimOk
   item-first (declares d) depth c o r =
       let a = both (isSymbol (d .symbol)) _ (both c (declarationOk depth d) o .1) in
-      let b = both (resultOk (isMain depth (free (d .symbol))) (d .result)) _ (a .1) in
-      head-first [] (d .result) (result-readable (isMain depth (free (d .symbol))) (d .result) (b .0)) _
+      let b = both (resultOk (isRootMain depth (free (d .symbol))) (d .result)) _ (a .1) in
+      head-first [] (d .result) (result-readable (isRootMain depth (free (d .symbol))) (d .result) (b .0)) _
   item-first (defines d) depth c o r = path _
   item-first (shim s) depth c o r =
       let a = both (commentsOk (s .comments)) _ (both (not c) (shimOk depth s) o .1) in
-      let b = both (resultOk (isMain depth (s .head)) (s .result)) _ (a .1) in
-      head-first (s .comments) (s .result) (result-readable (isMain depth (s .head)) (s .result) (b .0)) _
+      let b = both (resultOk (isRootMain depth (s .head)) (s .result)) _ (a .1) in
+      head-first (s .comments) (s .result) (result-readable (isRootMain depth (s .head)) (s .result) (b .0)) _

@@ -2,6 +2,7 @@
 pub mod Lexer
 pub mod LexedLayout
 -- and tokens have one tree:
+pub mod SameTokens
 pub mod Parser
 pub mod Decimal
 pub mod TypeBack
@@ -14,7 +15,9 @@ pub mod Unique
 -- Readings by computation:
 pub mod Literal
 pub mod Checked
+pub mod Computing
 pub mod Forms
 pub mod Examples
+pub mod Choices
 -- Readings by composition:
 pub mod Pieces

@@ -18,20 +18,12 @@ use Rattle.grammar.specs.Tree.{inNewUnchecked, inSlice, Call, Ending, no
 use Rattle.grammar.specs.Tree.{declares, defines, shim, Block, namespace, externC, Body, bodyEnd, item, block}
 use Rattle.grammar.specs.Tree.{Line, structLine, enumLine, usingLine, Forward, forwardEnd, line, bareNamespace}
 use Rattle.grammar.specs.Tree.{Text, text}
+use Rattle.grammar.specs.Tokens.{blockTokens}
 use Rattle.grammar.specs.Rules.{ofStdOrRust}
+use Rattle.grammar.proofs.Lexer.{lex}
+use Rattle.grammar.proofs.SameTokens.{sameToken, sameTokens}
 
 -- tests on tokens
-
-abbrev pub code : Token → List ℕ
-code (word s) = 0 ∷ s
-code (mark c) = 1 ∷ c ∷ []
-code scope = 2 ∷ []
-code colon = 3 ∷ []
-code linkage = 4 ∷ []
-code (comment s) = 5 ∷ s
-
-abbrev pub sameToken : Token → Token → Bool
-sameToken t u = same (code t) (code u)
 
 abbrev pub beginsWith : List Token → List Token → Bool
 beginsWith [] r = true
@@ -303,7 +295,7 @@ module _ {A : Type 0} where
   localP n r k =
       fork ":: rust :: ManuallyDrop <" r
       (λ r. typeP n r (λ x r. need ">" r (λ r. wordP r (λ y r. need "( :: std :: move (" r (λ r. wordP r (λ s r.
-      need ") ) ;" r (k (held x s))))))))
+      need ") ) ;" r (λ r. cond (same y (s ++ bytes "$")) (k (held x s) r) none)))))))
       (λ r. need ":: rust :: MaybeUninit <" r (λ r. typeP n r (λ x r. need "> return$ ;" r (k (room x)))))
 
   abbrev pub implP : CxxType → Parser A CallForm
@@ -407,11 +399,16 @@ module _ {A : Type 0} where
   abbrev pub blockP : Parser A Block
   blockP r k = fork "namespace" r (λ r. wordP r (λ x r. k (namespace x) r)) (λ r. need "extern \"C\"" r (k externC))
 
+  -- a comment that repeats the block's head
+  unfoldable pub closingP : Block → List Token → (List Token → Option A) → Option A
+  closingP b r k =
+      commentP r (λ s r. cond (sameTokens (lex s) (blockTokens b [])) (k r) none)
+
   abbrev pub bodyP : ℕ → Parser A Body
   bodyP zero r k = none
   bodyP (suc n) r k =
       onNext (next r) r (k bodyEnd)
-      (λ r. blockP r (λ b r. need "{" r (λ r. bodyP n r (λ inside r. need "}" r (λ r. commentP r (λ s r.
+      (λ r. blockP r (λ b r. need "{" r (λ r. bodyP n r (λ inside r. need "}" r (λ r. closingP b r (λ r.
       bodyP n r (λ after r. k (block b inside after) r)))))))
       (λ r. itemP n r (λ i r. bodyP n r (λ after r. k (item i after) r)))
 

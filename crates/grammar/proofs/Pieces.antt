@@ -1,31 +1,28 @@
 -- Pieces of a text in front of a rest that is laid out: `Layout ts r` gives `Layout (tokens x ts) (bytes of x, then r)`.
 -- A piece that is spelled out whole is one use of `literal`.
-use mathlib.Core.Path.{_≡_, refl, ap, _∙_, sym}
-use mathlib.Core.List.{List, [], _∷_, _++_, append-assoc, map}
+use mathlib.Core.Path.{_≡_, refl, ap, _∙_, sym, subst}
+use mathlib.Core.List.{List, [], _∷_, _++_, append-assoc, append-nil}
 use mathlib.Core.Bool.{Bool, true, false, _&&_, not, false≢true}
 use Prim.Native.Nat.{ℕ}
 use lib.Dec.{eqb}
 use Rattle.lexical.specs.Bytes.{bytes, every, member}
-use Rattle.lexical.specs.Decimal.{decimal}
 use Rattle.lexical.specs.Names.{nameStart, nameChar, starts, reserved, isName}
 use Rattle.lexical.proofs.BoolLaws.{both, and-of, by-cases}
 use Rattle.lexical.proofs.ByteLaws.{byte-eq, every-cons, every-snoc, every-weaken}
 use Rattle.lexical.proofs.NameLaws.{name-starts, name-chars}
 use Rattle.grammar.specs.Token.{Token, word, comment, wordChar, quoted}
-use Rattle.grammar.specs.Layout.{nonempty, endsIn, inLine, wellFormed, noWordChar, Layout, blank, token}
+use Rattle.grammar.specs.Layout.{nonempty, endsIn, inLine, wellFormed, noWordChar, Layout, finished, blank, token}
 use Rattle.grammar.specs.Types.{Name, Atom, bool, char, u8, u16, u32, u64, usize, i8, i16, i32, i64, isize}
-use Rattle.grammar.specs.Types.{f32, f64, cxxString, rustString, Template, box, vec, uniquePtr, sharedPtr}
-use Rattle.grammar.specs.Types.{weakPtr, vector, Suffix, reference, pointer, CxxType, suffixed}
-use Rattle.grammar.specs.Tree.{Operand, receiver, direct, intoRaw, release, address, heldAddress, slotAddress}
-use Rattle.grammar.specs.Tree.{Block, namespace, externC}
-use Rattle.grammar.specs.Tokens.{eachTokens, commaTokens, listTokens, pathTokens, atomTokens, templateTokens}
-use Rattle.grammar.specs.Tokens.{constTokens, suffixTokens, typeTokens, operandTokens, blockTokens}
-use Rattle.grammar.specs.Tokens.{closingComment}
-use Rattle.grammar.specs.Rules.{symbolStart, isSymbol, operandOk}
+use Rattle.grammar.specs.Types.{f32, f64, cxxString, rustString}
+use Rattle.grammar.specs.Tree.{Block, namespace, externC, Body, bodyEnd, item, block}
+use Rattle.grammar.specs.Tokens.{pathTokens, atomTokens}
+use Rattle.grammar.specs.Tokens.{blockTokens}
+use Rattle.grammar.specs.Tokens.{BodyClosings}
+use Rattle.grammar.specs.Rules.{symbolStart, isSymbol, itemOk, bodyOk}
 use Rattle.grammar.proofs.LexedLayout.{some-snoc}
 use Rattle.grammar.proofs.Literal.{literal}
-use Rattle.grammar.proofs.Decimal.{decimal-word}
-use Rattle.grammar.proofs.RuleFacts.{name-to-word, withSuffix}
+use Rattle.grammar.proofs.RuleFacts.{name-to-word}
+use Rattle.grammar.proofs.TextBack.{blockOk, block-rules}
 
 -- words
 
@@ -53,10 +50,6 @@ pub name-laid : (s : List ℕ) {ts : List Token} {r : List ℕ} → isName s ≡
     Layout (word s ∷ ts) (s ++ r)
 name-laid s h e d = word-laid s (name-word s h) e d
 
-pub symbol-laid : (s : List ℕ) {ts : List Token} {r : List ℕ} → isSymbol s ≡ true → noWordChar r ≡ true → Layout ts r →
-    Layout (word s ∷ ts) (s ++ r)
-symbol-laid s h e d = word-laid s (symbol-word s h) e d
-
 dollar-word : (s : List ℕ) → isName s ≡ true → wellFormed (word (s ++ bytes "$")) ≡ true
 dollar-word s h =
     and-of (nonempty (s ++ bytes "$")) (every wordChar (s ++ bytes "$")) (some-snoc s 36)
@@ -67,11 +60,7 @@ pub dollar-laid : (s : List ℕ) {ts : List Token} {r : List ℕ} → isName s �
     Layout (word (s ++ bytes "$") ∷ ts) (s ++ (bytes "$" ++ r))
 dollar-laid s {ts} {r} h e d = rw (← append-assoc s (bytes "$") r) (word-laid (s ++ bytes "$") (dollar-word s h) e d)
 
-pub decimal-laid : (n : ℕ) {ts : List Token} {r : List ℕ} → noWordChar r ≡ true → Layout ts r →
-    Layout (word (decimal n) ∷ ts) (decimal n ++ r)
-decimal-laid n e d = word-laid (decimal n) (decimal-word n) e d
-
--- full names, atoms, templates and suffixes
+-- full names and atoms
 
 abbrev pub pathBytes : List Name → List ℕ → List ℕ
 pathBytes [] r = r
@@ -125,110 +114,6 @@ atom-laid f64 e d = literal (atomBytes f64) refl e d
 atom-laid cxxString e d = literal (atomBytes cxxString) refl e d
 atom-laid rustString e d = literal (atomBytes rustString) refl e d
 
-abbrev pub templateBytes : Template → List ℕ
-templateBytes box = bytes "::rust::Box<"
-templateBytes vec = bytes "::rust::Vec<"
-templateBytes uniquePtr = bytes "::std::unique_ptr<"
-templateBytes sharedPtr = bytes "::std::shared_ptr<"
-templateBytes weakPtr = bytes "::std::weak_ptr<"
-templateBytes vector = bytes "::std::vector<"
-
-pub template-laid : (t : Template) {ts : List Token} {r : List ℕ} → Layout ts r →
-    Layout (templateTokens t ts) (templateBytes t ++ r)
-template-laid box d = literal (templateBytes box) refl refl d
-template-laid vec d = literal (templateBytes vec) refl refl d
-template-laid uniquePtr d = literal (templateBytes uniquePtr) refl refl d
-template-laid sharedPtr d = literal (templateBytes sharedPtr) refl refl d
-template-laid weakPtr d = literal (templateBytes weakPtr) refl refl d
-template-laid vector d = literal (templateBytes vector) refl refl d
-
-abbrev pub constBytes : Bool → List ℕ
-constBytes true = bytes "const "
-constBytes false = []
-
-pub const-laid : (c : Bool) {ts : List Token} {r : List ℕ} → Layout ts r → Layout (constTokens c ts) (constBytes c ++ r)
-const-laid true d = literal (bytes "const ") refl refl d
-const-laid false d = d
-
-abbrev pub suffixBytes : Suffix → List ℕ → List ℕ
-suffixBytes (reference c) r = constBytes c ++ (bytes "&" ++ r)
-suffixBytes (pointer c) r = constBytes c ++ (bytes "*" ++ r)
-
-pub suffix-laid : (s : Suffix) {ts : List Token} {r : List ℕ} → Layout ts r → Layout (suffixTokens s ts) (suffixBytes s r)
-suffix-laid (reference c) d = const-laid c (literal (bytes "&") refl refl d)
-suffix-laid (pointer c) d = const-laid c (literal (bytes "*") refl refl d)
-
-pub suffix-tokens : (s : Suffix) (x : CxxType) (ts : List Token) → typeTokens (withSuffix s x) ts ≡ typeTokens x (suffixTokens s ts)
-suffix-tokens s (suffixed base suffixes) ts = ap (λ (q : List Token). typeTokens (suffixed base []) q) (go suffixes)
-  where
-    go : (xs : List Suffix) → eachTokens suffixTokens (xs ++ (s ∷ [])) ts ≡ eachTokens suffixTokens xs (suffixTokens s ts)
-    go [] = refl
-    go (x ∷ xs) = ap (suffixTokens x) (go xs)
-
--- lists: each in front of a rest, or with a comma and a space between
-
-module _ {X : Type 0} (spell : X → List ℕ → List ℕ) where
-  abbrev pub eachBytes : List X → List ℕ → List ℕ
-  eachBytes [] r = r
-  eachBytes (x ∷ xs) r = spell x (eachBytes xs r)
-
-  abbrev pub commaBytes : List X → List ℕ → List ℕ
-  commaBytes [] r = r
-  commaBytes (x ∷ xs) r = bytes ", " ++ spell x (commaBytes xs r)
-
-  abbrev pub listBytes : List X → List ℕ → List ℕ
-  listBytes [] r = r
-  listBytes (x ∷ xs) r = spell x (commaBytes xs r)
-
-  comma-free : (xs : List X) (r : List ℕ) → noWordChar r ≡ true → noWordChar (commaBytes xs r) ≡ true
-  comma-free [] r e = e
-  comma-free (x ∷ xs) r e = refl
-
-module _ {X Y : Type 0} (spell : X → List ℕ → List ℕ) (read : X → Y) (tokens : Y → List Token → List Token) (ok : X → Bool)
-  where
-    pub each-laid : ((x : X) (ts : List Token) (r : List ℕ) → ok x ≡ true → Layout ts r → Layout (tokens (read x) ts) (spell x r)) →
-        (xs : List X) {ts : List Token} {r : List ℕ} → every ok xs ≡ true → Layout ts r →
-        Layout (eachTokens tokens (map read xs) ts) (eachBytes spell xs r)
-    each-laid step [] h d = d
-    each-laid step (x ∷ xs) h d = let q = every-cons ok x xs h in step x _ _ (q .0) (each-laid step xs (q .1) d)
-
-    module _ (step : (x : X) (ts : List Token) (r : List ℕ) → ok x ≡ true → noWordChar r ≡ true → Layout ts r →
-        Layout (tokens (read x) ts) (spell x r)) where
-      comma-laid : (xs : List X) {ts : List Token} {r : List ℕ} → every ok xs ≡ true → noWordChar r ≡ true → Layout ts r →
-          Layout (commaTokens tokens (map read xs) ts) (commaBytes spell xs r)
-      comma-laid [] h e d = d
-      comma-laid (x ∷ xs) {ts} {r} h e d =
-          let q = every-cons ok x xs h in
-          literal (bytes ", ") refl refl (step x _ _ (q .0) (comma-free spell xs r e) (comma-laid xs (q .1) e d))
-
-      pub list-laid : (xs : List X) {ts : List Token} {r : List ℕ} → every ok xs ≡ true → noWordChar r ≡ true → Layout ts r →
-          Layout (listTokens tokens (map read xs) ts) (listBytes spell xs r)
-      list-laid [] h e d = d
-      list-laid (x ∷ xs) {ts} {r} h e d =
-          let q = every-cons ok x xs h in step x _ _ (q .0) (comma-free spell xs r e) (comma-laid xs (q .1) e d)
-
--- operands
-
-abbrev pub operandBytes : Operand → List ℕ → List ℕ
-operandBytes receiver r = bytes "*this" ++ r
-operandBytes (direct x) r = x ++ r
-operandBytes (intoRaw x) r = x ++ (bytes ".into_raw()" ++ r)
-operandBytes (release x) r = x ++ (bytes ".release()" ++ r)
-operandBytes (address x) r = bytes "&" ++ (x ++ r)
-operandBytes (heldAddress x) r = bytes "&" ++ (x ++ (bytes "$" ++ (bytes ".value" ++ r)))
-operandBytes slotAddress r = bytes "&return$.value" ++ r
-
-pub operand-laid : (x : Operand) {ts : List Token} {r : List ℕ} → operandOk x ≡ true → noWordChar r ≡ true → Layout ts r →
-    Layout (operandTokens x ts) (operandBytes x r)
-unfolding operandOk
-operand-laid receiver h e d = literal (bytes "*this") refl e d
-operand-laid (direct x) h e d = name-laid x h e d
-operand-laid (intoRaw x) h e d = name-laid x h refl (literal (bytes ".into_raw()") refl refl d)
-operand-laid (release x) h e d = name-laid x h refl (literal (bytes ".release()") refl refl d)
-operand-laid (address x) h e d = literal (bytes "&") refl refl (name-laid x h e d)
-operand-laid (heldAddress x) h e d = literal (bytes "&") refl refl (dollar-laid x h refl (literal (bytes ".value") refl e d))
-operand-laid slotAddress h e d = literal (bytes "&return$.value") refl e d
-
 -- comments and blocks
 
 pub comment-laid : (s : List ℕ) {ts : List Token} {r : List ℕ} → every inLine s ≡ true → endsIn 92 s ≡ false → Layout ts r →
@@ -248,10 +133,6 @@ no-splice : (a : ℕ) (x : List ℕ) → every nameChar x ≡ true → eqb a 92 
 no-splice a [] h e = e
 no-splice a (c ∷ x) h e = let q = every-cons nameChar c x h in no-splice c x (q .1) (other nameChar 92 refl c (q .0))
 
-abbrev pub blockOk : Block → Bool
-blockOk (namespace x) = isName x
-blockOk externC = true
-
 abbrev pub blockBytes : Block → List ℕ → List ℕ
 blockBytes (namespace x) r = bytes "namespace " ++ (x ++ r)
 blockBytes externC r = bytes "extern \"C\"" ++ r
@@ -261,15 +142,38 @@ pub open-laid : (b : Block) {ts : List Token} {r : List ℕ} → blockOk b ≡ t
 open-laid (namespace x) h d = literal (bytes "namespace ") refl refl (name-laid x h refl (literal (bytes " {\n") refl refl d))
 open-laid externC h d = literal (bytes "extern \"C\" {\n") refl refl d
 
-closing-in-line : (b : Block) → blockOk b ≡ true → every inLine (closingComment b) ≡ true
-unfolding every
-closing-in-line (namespace x) h = every-weaken nameChar inLine name-in-line x (name-chars reserved x h)
-closing-in-line externC h = refl
+-- the crate's closing comments
 
-closing-unspliced : (b : Block) → blockOk b ≡ true → endsIn 92 (closingComment b) ≡ false
-closing-unspliced (namespace x) h = no-splice 32 x (name-chars reserved x h) refl
-closing-unspliced externC h = refl
+abbrev pub usualComment : Block → List ℕ
+usualComment (namespace x) = bytes " namespace " ++ x
+usualComment externC = bytes " extern \"C\""
+
+usual-in-line : (b : Block) → blockOk b ≡ true → every inLine (usualComment b) ≡ true
+unfolding every
+usual-in-line (namespace x) h = every-weaken nameChar inLine name-in-line x (name-chars reserved x h)
+usual-in-line externC h = refl
+
+usual-unspliced : (b : Block) → blockOk b ≡ true → endsIn 92 (usualComment b) ≡ false
+usual-unspliced (namespace x) h = no-splice 32 x (name-chars reserved x h) refl
+usual-unspliced externC h = refl
 
 pub close-laid : (b : Block) {ts : List Token} {r : List ℕ} → blockOk b ≡ true → Layout ts r →
-    Layout (quoted "}" (comment (closingComment b) ∷ ts)) (bytes "} //" ++ (closingComment b ++ (bytes "\n" ++ r)))
-close-laid b h d = literal (bytes "} ") refl refl (comment-laid (closingComment b) (closing-in-line b h) (closing-unspliced b h) d)
+    Layout (quoted "}" (comment (usualComment b) ∷ ts)) (bytes "} //" ++ (usualComment b ++ (bytes "\n" ++ r)))
+close-laid b h d = literal (bytes "} ") refl refl (comment-laid (usualComment b) (usual-in-line b h) (usual-unspliced b h) d)
+
+pub usual-repeats : (b : Block) → blockOk b ≡ true → Layout (blockTokens b []) (usualComment b)
+usual-repeats (namespace x) h =
+    literal (bytes " namespace ") refl refl
+    (subst (λ (s : List ℕ). Layout (word x ∷ []) s) (append-nil x) (name-laid x h refl finished))
+usual-repeats externC h = literal (bytes " extern \"C\"") refl refl finished
+
+unfoldable pub usualClosings : (b : Body) (depth : ℕ) (c : Bool) → bodyOk depth c b ≡ true → BodyClosings b
+unfolding bodyOk
+usualClosings bodyEnd depth c o = tt
+usualClosings (item i next) depth c o = usualClosings next depth c (both (itemOk depth c i) (bodyOk depth c next) o .1)
+usualClosings (block b inside next) depth c o =
+    let q = block-rules b inside next depth c o in (
+      record { characters = usualComment b; repeats = usual-repeats b (q .4) },
+      usualClosings inside (q .0) (q .1) (q .2),
+      usualClosings next depth c (q .3),
+    )

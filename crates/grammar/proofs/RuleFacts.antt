@@ -1,11 +1,9 @@
--- What the rules say of words: which differ, and which are symbols; and of types with one more suffix.
+-- What the rules say of words: which differ, and which are symbols.
 use mathlib.Core.Path.{_≡_, refl, ap, _∙_, sym}
 use mathlib.Core.List.{List, [], _∷_, _++_}
 use mathlib.Core.Bool.{Bool, true, false, _&&_, not, false≢true}
-use Prim.Native.Nat.{ℕ, suc}
-use native.Mathlib.Omega.{arith}
+use Prim.Native.Nat.{ℕ}
 use lib.Dec.{eqb}
-use lib.ListN.{length-append}
 use Rattle.lexical.specs.Bytes.{bytes, every, same, member}
 use Rattle.lexical.specs.Names.{nameStart, nameChar, starts, nameShape, nameOk, keywords, alternativeTokens, reserved}
 use Rattle.lexical.specs.Names.{isName}
@@ -13,8 +11,8 @@ use Rattle.lexical.proofs.BoolLaws.{and-of, by-cases, or-left}
 use Rattle.lexical.proofs.ByteLaws.{same-eq, every-append, every-weaken}
 use Rattle.lexical.proofs.NameLaws.{name-starts, name-chars, reserved-chars, unlike-table}
 use Rattle.grammar.specs.Token.{wordChar}
-use Rattle.grammar.specs.Types.{Name, Suffix, CxxType, suffixed}
-use Rattle.grammar.specs.Rules.{symbolStart, isSymbol, levels, partsOk}
+use Rattle.grammar.specs.Types.{Name}
+use Rattle.grammar.specs.Rules.{symbolStart, isSymbol}
 use Rattle.grammar.proofs.Parser.{front}
 
 -- a word that fails a test is no word that passes it
@@ -74,16 +72,3 @@ joined-symbol a b h e =
     let free : member s reserved ≡ false = unlike-table nameChar reserved s reserved-chars (dollar-inside a b) in
     and-of (starts symbolStart s) (every wordChar s && not (member s reserved)) (starts-too a (36 ∷ b) (name-starts reserved a h))
     (and-of (every wordChar s) (not (member s reserved)) chars (rw free))
-
--- a type with one more suffix
-
-abbrev pub withSuffix : Suffix → CxxType → CxxType
-withSuffix s (suffixed base suffixes) = suffixed base (suffixes ++ (s ∷ []))
-
-pub suffix-levels : (s : Suffix) (x : CxxType) → levels (withSuffix s x) ≡ suc (levels x)
-unfolding levels
-suffix-levels s (suffixed base suffixes) = rw (length-append suffixes (s ∷ [])) (omega arith)
-
-pub suffix-parts : (s : Suffix) (x : CxxType) → partsOk (withSuffix s x) ≡ partsOk x
-unfolding partsOk
-suffix-parts s (suffixed base suffixes) = refl

@@ -12,11 +12,13 @@ use Rattle.lexical.proofs.BoolLaws.{both}
 use Rattle.grammar.specs.Token.{Token, comment, quoted}
 use Rattle.grammar.specs.Tree.{Item, Block, namespace, externC, Body, bodyEnd, item, block, Line, structLine}
 use Rattle.grammar.specs.Tree.{enumLine, usingLine, Forward, forwardEnd, line, bareNamespace, Text, text}
-use Rattle.grammar.specs.Tokens.{itemTokens, blockTokens, closingComment, bodyTokens}
-use Rattle.grammar.specs.Tokens.{lineTokens, forwardTokens, textTokens}
+use Rattle.grammar.specs.Tokens.{itemTokens, blockTokens, Closing, BodyClosings, bodyTokens}
+use Rattle.grammar.specs.Tokens.{lineTokens, forwardTokens, Closings, textTokens}
 use Rattle.grammar.specs.Rules.{maxNamespaces, itemOk, bodyOk, forwardOk, textOk}
-use Rattle.grammar.proofs.Parser.{need, commentP}
-use Rattle.grammar.proofs.Parser.{nextEnd, nextItem, next, bodyP, atHead, isForward}
+use Rattle.grammar.proofs.Lexer.{lex, lexed}
+use Rattle.grammar.proofs.SameTokens.{sameTokens, tokens-refl}
+use Rattle.grammar.proofs.Parser.{need}
+use Rattle.grammar.proofs.Parser.{nextEnd, nextItem, next, closingP, bodyP, atHead, isForward}
 use Rattle.grammar.proofs.Parser.{lineP, forwardP, textP}
 use Rattle.grammar.proofs.TypeBack.{path-back, atom-back}
 use Rattle.grammar.proofs.ItemBack.{itemSize, item-back, item-first}
@@ -33,44 +35,59 @@ unfolding same
 item-next =
     item-first (λ r. next r ≡ nextItem) (λ r. refl) (λ r. (refl, refl, refl, refl)) (λ r. (refl, refl)) (λ s r. refl)
 
--- the rules of the two bodies of a block
+abbrev pub blockOk : Block → Bool
+blockOk (namespace x) = isName x
+blockOk externC = true
+
+-- the rules of a block and of its two bodies
 pub block-rules : (b : Block) (inside after : Body) (depth : ℕ) (c : Bool) → bodyOk depth c (block b inside after) ≡ true →
-    (d : ℕ) × (e : Bool) × (bodyOk d e inside ≡ true) × (bodyOk depth c after ≡ true)
+    (d : ℕ) × (e : Bool) × (bodyOk d e inside ≡ true) × (bodyOk depth c after ≡ true) × (blockOk b ≡ true)
 unfolding bodyOk
 block-rules (namespace x) inside after depth c o =
     let p = both (isName x) (ltb depth maxNamespaces && (bodyOk (suc depth) c inside && bodyOk depth c after)) o in
     let q = both (ltb depth maxNamespaces) (bodyOk (suc depth) c inside && bodyOk depth c after) (p .1) in
     let s = both (bodyOk (suc depth) c inside) (bodyOk depth c after) (q .1) in
-    (suc depth, c, s .0, s .1)
+    (suc depth, c, s .0, s .1, p .0)
 block-rules externC inside after depth c o =
-    let s = both (bodyOk depth true inside) (bodyOk depth c after) o in (depth, true, s .0, s .1)
+    let s = both (bodyOk depth true inside) (bodyOk depth c after) o in (depth, true, s .0, s .1, refl)
+
+repeats-head : (b : Block) (c : Closing b) → sameTokens (lex (c .characters)) (blockTokens b []) ≡ true
+repeats-head b c = rw (lexed (c .repeats)) (tokens-refl (blockTokens b []))
 
 module _ {A : Type 0} where
   -- the parser reads a block's head and goes on inside
   block-back : (b : Block) (n : ℕ) (r : List Token) (k : Body → List Token → Option A) →
       bodyP (suc n) (blockTokens b (quoted "{" r)) k
-      ≡ bodyP n r (λ inside r. need "}" r (λ r. commentP r (λ s r.
+      ≡ bodyP n r (λ inside r. need "}" r (λ r. closingP b r (λ r.
       bodyP n r (λ after r. k (block b inside after) r))))
   unfolding same
   block-back (namespace x) n r k = refl
   block-back externC n r k = refl
 
-  body-back : (b : Body) (n depth : ℕ) (c : Bool) → bodySize b ≤ n → bodyOk depth c b ≡ true → (r : List Token) →
-      next r ≡ nextEnd → (k : Body → List Token → Option A) → bodyP n (bodyTokens b r) k ≡ k b r
+  closing-back : (b : Block) (c : Closing b) (r : List Token) (k : List Token → Option A) →
+      closingP b (comment (c .characters) ∷ r) k ≡ k r
+  unfolding closingP
+  closing-back b c r k = rw (repeats-head b c)
+
+  body-back : (b : Body) (cs : BodyClosings b) (n depth : ℕ) (c : Bool) → bodySize b ≤ n → bodyOk depth c b ≡ true →
+      (r : List Token) → next r ≡ nextEnd → (k : Body → List Token → Option A) → bodyP n (bodyTokens b cs r) k ≡ k b r
   unfolding same bodyOk
-  body-back bodyEnd zero depth c l o r h k = absurd (omega arith)
-  body-back bodyEnd (suc n) depth c l o r h k = rw h
-  body-back (item i after) zero depth c l o r h k = absurd (omega arith)
-  body-back (item i after) (suc n) depth c l o r h k =
+  body-back bodyEnd cs zero depth c l o r h k = absurd (omega arith)
+  body-back bodyEnd cs (suc n) depth c l o r h k = rw h
+  body-back (item i after) cs zero depth c l o r h k = absurd (omega arith)
+  body-back (item i after) cs (suc n) depth c l o r h k =
       let q = both (itemOk depth c i) (bodyOk depth c after) o in
-      rw (item-next i depth c (q .0) (bodyTokens after r))
-      (item-back i n depth c (omega arith) (q .0) (bodyTokens after r) _ ∙ body-back after n depth c (omega arith) (q .1) r h _)
-  body-back (block b inside after) zero depth c l o r h k = absurd (omega arith)
-  body-back (block b inside after) (suc n) depth c l o r h k =
+      rw (item-next i depth c (q .0) (bodyTokens after cs r))
+      (item-back i n depth c (omega arith) (q .0) (bodyTokens after cs r) _ ∙
+      body-back after cs n depth c (omega arith) (q .1) r h _)
+  body-back (block b inside after) cs zero depth c l o r h k = absurd (omega arith)
+  body-back (block b inside after) cs (suc n) depth c l o r h k =
       let q = block-rules b inside after depth c o in
+      let rest : List Token = comment (cs .0 .characters) ∷ bodyTokens after (cs .2) r in
       block-back b n _ k
-      ∙ body-back inside n (q .0) (q .1) (omega arith) (q .2) (quoted "}" (comment (closingComment b) ∷ bodyTokens after r)) refl _
-      ∙ body-back after n depth c (omega arith) (q .3) r h _
+      ∙ body-back inside (cs .1) n (q .0) (q .1) (omega arith) (q .2) (quoted "}" rest) refl _
+      ∙ closing-back b (cs .0) (bodyTokens after (cs .2) r) _
+      ∙ body-back after (cs .2) n depth c (omega arith) (q .3) r h _
 
 -- no body is taken for a forward part
 item-not-forward : (i : Item) (depth : ℕ) (c : Bool) → itemOk depth c i ≡ true → (r : List Token) →
@@ -79,16 +96,17 @@ unfolding same
 item-not-forward =
     item-first (λ r. isForward atHead r ≡ false) (λ r. refl) (λ r. (refl, refl, refl, refl)) (λ r. (refl, refl)) (λ s r. refl)
 
-body-not-forward : (b : Body) (depth : ℕ) (c : Bool) → bodyOk depth c b ≡ true → (r : List Token) →
-    isForward atHead r ≡ false → isForward atHead (bodyTokens b r) ≡ false
+body-not-forward : (b : Body) (cs : BodyClosings b) (depth : ℕ) (c : Bool) → bodyOk depth c b ≡ true → (r : List Token) →
+    isForward atHead r ≡ false → isForward atHead (bodyTokens b cs r) ≡ false
 unfolding same bodyOk
-body-not-forward bodyEnd depth c o r h = h
-body-not-forward (item i after) depth c o r h =
-    item-not-forward i depth c (both (itemOk depth c i) (bodyOk depth c after) o .0) (bodyTokens after r)
-body-not-forward (block (namespace x) inside after) depth c o r h =
+body-not-forward bodyEnd cs depth c o r h = h
+body-not-forward (item i after) cs depth c o r h =
+    item-not-forward i depth c (both (itemOk depth c i) (bodyOk depth c after) o .0) (bodyTokens after cs r)
+body-not-forward (block (namespace x) inside after) cs depth c o r h =
     let q = block-rules (namespace x) inside after depth c o in
-    body-not-forward inside (q .0) (q .1) (q .2) (quoted "}" (comment (closingComment (namespace x)) ∷ bodyTokens after r)) refl
-body-not-forward (block externC inside after) depth c o r h = refl
+    body-not-forward inside (cs .1) (q .0) (q .1) (q .2)
+    (quoted "}" (comment (cs .0 .characters) ∷ bodyTokens after (cs .2) r)) refl
+body-not-forward (block externC inside after) cs depth c o r h = refl
 
 -- forward parts
 
@@ -163,18 +181,19 @@ textSize (text f b) = forwardSize f + bodySize b
 abbrev pub forwardOf : Text → Forward
 forwardOf (text f b) = f
 
-text-back : (t : Text) (n : ℕ) → textSize t ≤ n → textOk t ≡ true → forwardFilled (forwardOf t) ≡ true → textP n (textTokens t) ≡ some t
+pub text-back : (t : Text) (cs : Closings t) (n : ℕ) → textSize t ≤ n → textOk t ≡ true →
+    forwardFilled (forwardOf t) ≡ true → textP n (textTokens t cs) ≡ some t
 unfolding same textP textOk
-text-back (text f b) n l o h =
+text-back (text f b) cs n l o h =
     let q : bodyOk 0 false b ≡ true = both (forwardOk 0 f) (bodyOk 0 false b) o .1 in
-    forward-back f n (omega arith) h (bodyTokens b []) (body-not-forward b 0 false q [] refl) _
-    ∙ body-back b n 0 false (omega arith) q [] refl _
+    forward-back f n (omega arith) h (bodyTokens b cs []) (body-not-forward b cs 0 false q [] refl) _
+    ∙ body-back b cs n 0 false (omega arith) q [] refl _
 
-pub told-by-tokens : (t u : Text) → textOk t ≡ true → textOk u ≡ true → forwardFilled (forwardOf t) ≡ true →
-    forwardFilled (forwardOf u) ≡ true → textTokens t ≡ textTokens u → t ≡ u
-told-by-tokens t u o p h i e =
+pub told-by-tokens : (t u : Text) (cs : Closings t) (ds : Closings u) → textOk t ≡ true → textOk u ≡ true →
+    forwardFilled (forwardOf t) ≡ true → forwardFilled (forwardOf u) ≡ true → textTokens t cs ≡ textTokens u ds → t ≡ u
+told-by-tokens t u cs ds o p h i e =
     let n : ℕ = textSize t + textSize u in
-    let f = text-back t n (omega arith) o h in
-    let g = text-back u n (omega arith) p i in
+    let f = text-back t cs n (omega arith) o h in
+    let g = text-back u ds n (omega arith) p i in
     let q : some t ≡ some u = sym f ∙ ap (textP n) e ∙ g in
     cc

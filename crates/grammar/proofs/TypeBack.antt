@@ -18,9 +18,10 @@ use Rattle.grammar.specs.Types.{weakPtr, vector, Suffix, reference, poin
 use Rattle.grammar.specs.Types.{full, template, slice, array, voidFn, fn, CxxTypes, nil, cons}
 use Rattle.grammar.specs.Tokens.{eachTokens, pathTokens, atomTokens, templateTokens, suffixTokens}
 use Rattle.grammar.specs.Tokens.{typeTokens, baseTokens, typesTokens, moreTypesTokens}
-use Rattle.grammar.specs.Rules.{maxNamespaces, maxFnArguments, arrayLengths, ofStdOrRust, fullNameOk, count, partsOk}
+use Rattle.grammar.specs.Rules.{maxNamespaces, maxFnArguments, arrayLengths, ofStdOrRust, fullNameOk, typeCount, partsOk}
 use Rattle.grammar.specs.Rules.{baseOk, allPartsOk}
-use Rattle.grammar.proofs.Parser.{sameToken, begins, Parser, fork, need, pathP, isSuffix, suffixesP, opening}
+use Rattle.grammar.proofs.SameTokens.{sameToken}
+use Rattle.grammar.proofs.Parser.{begins, Parser, fork, need, pathP, isSuffix, suffixesP, opening}
 use Rattle.grammar.proofs.Parser.{Start, based, insideP, startP, suffixedP, typeP, typesP}
 use Rattle.grammar.proofs.Parser.{moreTypesP}
 use Rattle.grammar.proofs.Decimal.{number-decimal}
@@ -244,9 +245,9 @@ module _ {A : Type 0} where
         let q = both (ltb d arrayLengths) (partsOk x) o in
         type-back x n l (q .1) (mark 44 ∷ word (decimal d) ∷ mark 62 ∷ r) refl _ ∙ rw (number-decimal d (q .0))
     base-back (voidFn xs) n l o r h k =
-        types-back xs n l (both (leb (count xs) maxFnArguments) (allPartsOk xs) o .1) (mark 62 ∷ r) _
+        types-back xs n l (both (leb (typeCount xs) maxFnArguments) (allPartsOk xs) o .1) (mark 62 ∷ r) _
     base-back (fn x xs) n l o r h k =
-        let q = both (partsOk x) (allPartsOk xs) (both (leb (count xs) maxFnArguments) (partsOk x && allPartsOk xs) o .1) in
+        let q = both (partsOk x) (allPartsOk xs) (both (leb (typeCount xs) maxFnArguments) (partsOk x && allPartsOk xs) o .1) in
         rw (no-void x (q .0) (mark 40 ∷ typesTokens xs (mark 41 ∷ mark 62 ∷ r)), fork)
         (type-back x n (omega arith) (q .0) (mark 40 ∷ typesTokens xs (mark 41 ∷ mark 62 ∷ r)) refl _
         ∙ types-back xs n (omega arith) (q .1) (mark 62 ∷ r) _)

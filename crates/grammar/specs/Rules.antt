@@ -1,6 +1,6 @@
 -- What a tree must keep: the name rule and the limits of document 01's grammar.
 use mathlib.Core.List.{List, [], _∷_}
-use mathlib.Core.Bool.{Bool, true, false, _&&_, _||_, not}
+use mathlib.Core.Bool.{Bool, true, false, _&&_, _||_, not, cond}
 use Prim.Native.Nat.{ℕ, suc, _+_, max}
 use lib.Dec.{leb, ltb, eqb}
 use lib.ListN.{length}
@@ -82,9 +82,9 @@ unfoldable mutual
   deepest nil = 0
   deepest (cons x xs) = max (levels x) (deepest xs)
 
-unfoldable pub count : CxxTypes → ℕ
-count nil = 0
-count (cons x xs) = suc (count xs)
+unfoldable pub typeCount : CxxTypes → ℕ
+typeCount nil = 0
+typeCount (cons x xs) = suc (typeCount xs)
 
 unfoldable mutual
   pub partsOk : CxxType → Bool
@@ -97,8 +97,8 @@ unfoldable mutual
   baseOk (template t x) = partsOk x
   baseOk (slice x isConst) = partsOk x
   baseOk (array x n) = ltb n arrayLengths && partsOk x
-  baseOk (voidFn xs) = leb (count xs) maxFnArguments && allPartsOk xs
-  baseOk (fn x xs) = leb (count xs) maxFnArguments && (partsOk x && allPartsOk xs)
+  baseOk (voidFn xs) = leb (typeCount xs) maxFnArguments && allPartsOk xs
+  baseOk (fn x xs) = leb (typeCount xs) maxFnArguments && (partsOk x && allPartsOk xs)
 
   pub allPartsOk : CxxTypes → Bool
   allPartsOk nil = true
@@ -106,6 +106,17 @@ unfoldable mutual
 
 abbrev pub typeOk : ℕ → CxxType → Bool
 typeOk limit x = leb (levels x) limit && partsOk x
+
+-- arguments
+
+-- how many pass the test, but at most one
+unfoldable pub atMostOne : {A : Type 0} → (A → Bool) → List A → ℕ
+atMostOne test [] = 0
+atMostOne test (x ∷ xs) = cond (test x) 1 (atMostOne test xs)
+
+-- "31 arguments", and besides them one receiver and one slot
+unfoldable pub fewArguments : {A : Type 0} → (A → Bool) → (A → Bool) → List A → Bool
+fewArguments isReceiver isSlot xs = leb (length xs) (maxArguments + atMostOne isReceiver xs + atMostOne isSlot xs)
 
 -- heads
 
@@ -117,25 +128,26 @@ resultOk main fat = true
 resultOk main int = main
 resultOk main (value x) = typeOk maxLevels x
 
-abbrev pub isMain : ℕ → Head → Bool
-isMain depth (free f) = eqb depth 0 && same f (bytes "main")
-isMain depth (method t f) = false
+abbrev pub isRootMain : ℕ → Head → Bool
+isRootMain depth (free f) = eqb depth 0 && same f (bytes "main")
+isRootMain depth (method t f) = false
 
 unfoldable pub declaredOk : Parameter → Bool
 declaredOk (named x name) = typeOk maxDeclaredLevels x && isName name
 declaredOk (slot x) = typeOk maxDeclaredLevels x
 
--- the parameters but the slot and `self`, which may be the receiver
-unfoldable pub declaredArguments : List Parameter → ℕ
-declaredArguments [] = 0
-declaredArguments (named x name ∷ parameters) =
-    elim (same name (bytes "self")) [ true ↦ declaredArguments parameters | false ↦ suc (declaredArguments parameters) ]
-declaredArguments (slot x ∷ parameters) = declaredArguments parameters
+unfoldable pub isSelf : Parameter → Bool
+isSelf (named x name) = same name (bytes "self")
+isSelf (slot x) = false
+
+unfoldable pub isSlot : Parameter → Bool
+isSlot (named x name) = false
+isSlot (slot x) = true
 
 unfoldable pub declarationOk : ℕ → Declaration → Bool
 declarationOk depth d =
-    isSymbol (d .symbol) && (resultOk (isMain depth (free (d .symbol))) (d .result) &&
-    (every declaredOk (d .parameters) && leb (declaredArguments (d .parameters)) maxArguments))
+    isSymbol (d .symbol) && (resultOk (isRootMain depth (free (d .symbol))) (d .result) &&
+    (every declaredOk (d .parameters) && fewArguments isSelf isSlot (d .parameters)))
 
 unfoldable pub layoutOk : LayoutDefinition → Bool
 layoutOk d = isName (d .owner) && isSymbol (d .symbol)
@@ -163,16 +175,23 @@ operandOk (address x) = isName x
 operandOk (heldAddress x) = isName x
 operandOk slotAddress = true
 
--- the operands but the receiver and the slot
-unfoldable pub callArguments : List Operand → ℕ
-callArguments [] = 0
-callArguments (receiver ∷ operands) = callArguments operands
-callArguments (direct x ∷ operands) = suc (callArguments operands)
-callArguments (intoRaw x ∷ operands) = suc (callArguments operands)
-callArguments (release x ∷ operands) = suc (callArguments operands)
-callArguments (address x ∷ operands) = suc (callArguments operands)
-callArguments (heldAddress x ∷ operands) = suc (callArguments operands)
-callArguments (slotAddress ∷ operands) = callArguments operands
+unfoldable pub isReceiver : Operand → Bool
+isReceiver receiver = true
+isReceiver (direct x) = false
+isReceiver (intoRaw x) = false
+isReceiver (release x) = false
+isReceiver (address x) = false
+isReceiver (heldAddress x) = false
+isReceiver slotAddress = false
+
+unfoldable pub isSlotAddress : Operand → Bool
+isSlotAddress receiver = false
+isSlotAddress (direct x) = false
+isSlotAddress (intoRaw x) = false
+isSlotAddress (release x) = false
+isSlotAddress (address x) = false
+isSlotAddress (heldAddress x) = false
+isSlotAddress slotAddress = true
 
 -- `::rust::Box<T>` and `::std::unique_ptr<T>` are types themselves
 unfoldable pub formOk : CallForm → Bool
@@ -188,14 +207,14 @@ formOk (inSlice x) = typeOk maxLevels x
 unfoldable pub callOk : Call → Bool
 callOk c =
     formOk (c .form) && (isSymbol (c .symbol) &&
-    (every operandOk (c .operands) && leb (callArguments (c .operands)) maxArguments))
+    (every operandOk (c .operands) && fewArguments isReceiver isSlotAddress (c .operands)))
 
 unfoldable pub commentsOk : List (List ℕ) → Bool
 commentsOk comments = leb (length comments) maxComments && every (λ s. leb (length s) maxCommentLength) comments
 
 unfoldable pub shimOk : ℕ → Shim → Bool
 shimOk depth s =
-    commentsOk (s .comments) && (resultOk (isMain depth (s .head)) (s .result) && (headOk (s .head) &&
+    commentsOk (s .comments) && (resultOk (isRootMain depth (s .head)) (s .result) && (headOk (s .head) &&
     (every argumentOk (s .parameters) && (leb (length (s .parameters)) maxArguments &&
     (every localOk (s .locals) && callOk (s .call))))))
 
@@ -216,14 +235,14 @@ bodyOk depth inExternC (block externC inside next) = bodyOk depth true inside &&
 
 -- the forward part
 
-unfoldable pub lineOk : Line → Bool
-lineOk (structLine x) = isName x
-lineOk (enumLine x a) = isName x
-lineOk (usingLine x path) = isName x && fullNameOk path
+unfoldable pub forwardLineOk : Line → Bool
+forwardLineOk (structLine x) = isName x
+forwardLineOk (enumLine x a) = isName x
+forwardLineOk (usingLine x path) = isName x && fullNameOk path
 
 unfoldable pub forwardOk : ℕ → Forward → Bool
 forwardOk depth forwardEnd = true
-forwardOk depth (line l next) = lineOk l && forwardOk depth next
+forwardOk depth (line l next) = forwardLineOk l && forwardOk depth next
 forwardOk depth (bareNamespace x inside next) =
     isName x && (ltb depth maxNamespaces && (forwardOk (suc depth) inside && forwardOk depth next))
 

@@ -5,6 +5,7 @@ use Prim.Native.Nat.{ℕ}
 use Rattle.lexical.specs.Bytes.{bytes}
 use Rattle.lexical.specs.Decimal.{decimal}
 use Rattle.grammar.specs.Token.{Token, word, scope, comment, quoted}
+use Rattle.grammar.specs.Layout.{Layout}
 use Rattle.grammar.specs.Types.{Name, Atom, bool, char, u8, u16, u32, u64, usize, i8, i16, i32, i64, isize}
 use Rattle.grammar.specs.Types.{f32, f64, cxxString, rustString, Template, box, vec, uniquePtr, sharedPtr}
 use Rattle.grammar.specs.Types.{weakPtr, vector, Suffix, reference, pointer, CxxType, suffixed, Base, atom, str}
@@ -34,9 +35,9 @@ module _ {A : Type 0} (tokens : A → List Token → List Token) where
   listTokens [] rest = rest
   listTokens (x ∷ xs) rest = tokens x (commaTokens xs rest)
 
-abbrev pub optional : Bool → List Token → List Token → List Token
-optional true ts rest = ts ++ rest
-optional false ts rest = rest
+abbrev pub optionalTokens : Bool → List Token → List Token → List Token
+optionalTokens true ts rest = ts ++ rest
+optionalTokens false ts rest = rest
 
 -- types
 
@@ -73,7 +74,7 @@ templateTokens weakPtr rest = quoted ":: std :: weak_ptr <" rest
 templateTokens vector rest = quoted ":: std :: vector <" rest
 
 abbrev pub constTokens : Bool → List Token → List Token
-constTokens isConst rest = optional isConst (quoted "const" []) rest
+constTokens isConst rest = optionalTokens isConst (quoted "const" []) rest
 
 abbrev pub suffixTokens : Suffix → List Token → List Token
 suffixTokens (reference isConst) rest = constTokens isConst (quoted "&" rest)
@@ -123,7 +124,7 @@ headTokens (method t f) rest = word t ∷ quoted "::" (word f ∷ rest)
 abbrev pub signatureTokens : Result → Head → List Parameter → Bool → Bool → List Token → List Token
 signatureTokens result head parameters isConst noexcept rest =
     resultTokens result (headTokens head (quoted "(" (listTokens parameterTokens parameters (quoted ")"
-    (constTokens isConst (optional noexcept (quoted "noexcept" []) rest))))))
+    (constTokens isConst (optionalTokens noexcept (quoted "noexcept" []) rest))))))
 
 abbrev pub declarationTokens : Declaration → List Token → List Token
 declarationTokens d rest =
@@ -214,16 +215,23 @@ abbrev pub blockTokens : Block → List Token → List Token
 blockTokens (namespace x) rest = quoted "namespace" (word x ∷ rest)
 blockTokens externC rest = quoted "extern \"C\"" rest
 
--- "a comment that repeats its head"
-abbrev pub closingComment : Block → List ℕ
-closingComment (namespace x) = bytes " namespace " ++ x
-closingComment externC = bytes " extern \"C\""
+-- "a comment that repeats its head": the head's tokens, laid out behind the two slashes
+pub record Closing (b : Block) : Type 0 where
+  pub characters : List ℕ
+  pub repeats : Layout (blockTokens b []) characters
 
-abbrev pub bodyTokens : Body → List Token → List Token
-bodyTokens bodyEnd rest = rest
-bodyTokens (item i next) rest = itemTokens i (bodyTokens next rest)
-bodyTokens (block b inside next) rest =
-    blockTokens b (quoted "{" (bodyTokens inside (quoted "}" (comment (closingComment b) ∷ bodyTokens next rest))))
+-- one for each block
+abbrev pub BodyClosings : Body → Type 0
+BodyClosings bodyEnd = Unit {0}
+BodyClosings (item i next) = BodyClosings next
+BodyClosings (block b inside next) = Closing b × BodyClosings inside × BodyClosings next
+
+abbrev pub bodyTokens : (body : Body) → BodyClosings body → List Token → List Token
+bodyTokens bodyEnd closings rest = rest
+bodyTokens (item i next) closings rest = itemTokens i (bodyTokens next closings rest)
+bodyTokens (block b inside next) closings rest =
+    blockTokens b (quoted "{" (bodyTokens inside (closings .1) (quoted "}" (comment (closings .0 .characters) ∷
+    bodyTokens next (closings .2) rest))))
 
 -- the forward part
 
@@ -238,5 +246,10 @@ forwardTokens (line l next) rest = lineTokens l (forwardTokens next rest)
 forwardTokens (bareNamespace x inside next) rest =
     quoted "namespace" (word x ∷ quoted "{" (forwardTokens inside (quoted "}" (forwardTokens next rest))))
 
-abbrev pub textTokens : Text → List Token
-textTokens (text forward body) = forwardTokens forward (bodyTokens body [])
+-- the text
+
+abbrev pub Closings : Text → Type 0
+Closings (text forward body) = BodyClosings body
+
+abbrev pub textTokens : (t : Text) → Closings t → List Token
+textTokens (text forward body) closings = forwardTokens forward (bodyTokens body closings [])

@@ -31,11 +31,12 @@ unfolding same
 same-refl [] = refl
 same-refl (c ∷ s) = rw (byte-refl c) (same-refl s)
 
--- a fact of each byte of a list holds of every byte that the list has
-abbrev pub Each : (ℕ → Type 0) → List ℕ → Type 0
+-- each element has the property
+abbrev pub Each : {A : Type 0} → (A → Type 0) → List A → Type 0
 Each P [] = Unit {0}
-Each P (c ∷ s) = P c × Each P s
+Each P (x ∷ xs) = P x × Each P xs
 
+-- what holds of each byte of a list holds of every byte that the list has
 pub each : (P : ℕ → Type 0) (s : List ℕ) → Each P s → (c : ℕ) → elem c s ≡ true → P c
 each P [] h c e = absurd (false≢true e)
 each P (d ∷ s) h c e =

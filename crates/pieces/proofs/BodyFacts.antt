@@ -16,8 +16,10 @@ use Rattle.rules.specs.Rules.{gather}
 use Rattle.grammar.specs.Token.{Token, comment, quoted}
 use Rattle.grammar.specs.Tree as Tree
 use Rattle.grammar.specs.Tree.{Body, bodyEnd, item, declares, defines, shim}
-use Rattle.grammar.specs.Tokens.{itemTokens, blockTokens, closingComment, bodyTokens}
+use Rattle.grammar.specs.Tokens.{itemTokens, blockTokens, bodyTokens}
 use Rattle.grammar.specs.Rules.{maxNamespaces, itemOk, bodyOk}
+use Rattle.grammar.proofs.TextBack.{block-rules}
+use Rattle.grammar.proofs.Pieces.{usualComment, usualClosings}
 use Rattle.agreement.specs.Agreement.{Declared, Defined, declarations, shims}
 use Rattle.bridge.specs.Block.{Block, userDefinedNamespace, externC, sameBlock}
 use Rattle.pieces.proofs.Boundaries.{block-eq}
@@ -30,7 +32,7 @@ abbrev pub openTokens : Tree.Block → List Token → List Token
 openTokens b rest = blockTokens b (quoted "{" rest)
 
 abbrev pub closeTokens : Tree.Block → List Token → List Token
-closeTokens b rest = quoted "}" (comment (closingComment b) ∷ rest)
+closeTokens b rest = quoted "}" (comment (usualComment b) ∷ rest)
 
 module _ (rest : List Token) where
   abbrev pub openingTokens : List Block → List Token
@@ -50,16 +52,22 @@ module _ (rest : List Token) where
   entriesTokens opened es =
       foldEntries {C = Unit {0}} (λ c b. c) (λ c. openTokens) (λ c. closeTokens) (λ c. itemTokens) tt opened es rest
 
-tokens-fold : (b : Body) (r : List Token) → bodyTokens b r ≡ treeTokens r b
-tokens-fold bodyEnd r = refl
-tokens-fold (item i next) r = ap (itemTokens i) (tokens-fold next r)
-tokens-fold (Tree.block b inside next) r =
+tokens-fold : (b : Body) (depth : ℕ) (c : Bool) (o : bodyOk depth c b ≡ true) (r : List Token) →
+    bodyTokens b (usualClosings b depth c o) r ≡ treeTokens r b
+unfolding bodyOk usualClosings
+tokens-fold bodyEnd depth c o r = refl
+tokens-fold (item i next) depth c o r =
+    ap (itemTokens i) (tokens-fold next depth c (both (itemOk depth c i) (bodyOk depth c next) o .1) r)
+tokens-fold (Tree.block b inside next) depth c o r =
+    let q = block-rules b inside next depth c o in
     ap (openTokens b)
-    (tokens-fold inside _ ∙ ap (λ (x : List Token). treeTokens (closeTokens b x) inside) (tokens-fold next r))
+    (tokens-fold inside (q .0) (q .1) (q .2) _ ∙
+    ap (λ (x : List Token). treeTokens (closeTokens b x) inside) (tokens-fold next depth c (q .3) r))
 
-pub body-tokens : (es : List Entry) (r : List Token) → bodyTokens (bodyOf es) r ≡ entriesTokens r [] es
-body-tokens es r =
-    tokens-fold (bodyOf es) r ∙
+pub body-tokens : (es : List Entry) (o : bodyOk 0 false (bodyOf es) ≡ true) (r : List Token) →
+    bodyTokens (bodyOf es) (usualClosings (bodyOf es) 0 false o) r ≡ entriesTokens r [] es
+body-tokens es o r =
+    tokens-fold (bodyOf es) 0 false o r ∙
     fold-body-of (λ c b. c) (λ c. openTokens) (λ c. closeTokens) (λ c. itemTokens) tt es r
 
 -- ---- what is found in the tree, with the namespaces around it

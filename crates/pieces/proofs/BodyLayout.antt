@@ -11,7 +11,8 @@ use Rattle.grammar.specs.Token.{Token}
 use Rattle.grammar.specs.Layout.{Layout, finished, blank}
 use Rattle.grammar.specs.Tree as Tree
 use Rattle.grammar.specs.Tokens.{itemTokens, bodyTokens}
-use Rattle.grammar.proofs.Pieces.{open-laid, close-laid}
+use Rattle.grammar.specs.Rules.{bodyOk}
+use Rattle.grammar.proofs.Pieces.{open-laid, close-laid, usualClosings}
 use Rattle.bridge.specs.Block.{Block, userDefinedNamespace, externC, writeBegin, writeEnd, sameBlock}
 use Rattle.pieces.specs.Pieces.{Piece, blankLine, openings, closings, change, piecesText}
 use Rattle.pieces.proofs.BodyTree.{treeBlock, Entry, bodyOf}
@@ -103,6 +104,7 @@ pieces-laid started P (p ∷ ps) (e ∷ es) all g h =
     (all .0 .spells .laid _ _ (pieces-laid true (e .0) ps es (all .1) (q .0) (q .1))))
 
 pub body-laid : (started : Bool) (ps : List Piece) (es : List Entry) → SpellAll ps es →
-    every (λ e. blocksNamed (e .0)) es ≡ true → Layout (bodyTokens (bodyOf es) []) (piecesText started [] ps)
+    every (λ e. blocksNamed (e .0)) es ≡ true → (o : bodyOk 0 false (bodyOf es) ≡ true) →
+    Layout (bodyTokens (bodyOf es) (usualClosings (bodyOf es) 0 false o) []) (piecesText started [] ps)
 unfolding every
-body-laid started ps es all h = rw (body-tokens es []) (pieces-laid started [] ps es all refl h)
+body-laid started ps es all h o = rw (body-tokens es o []) (pieces-laid started [] ps es all refl h)

@@ -6,7 +6,7 @@ use mathlib.Core.Bool.{Bool, true, false, cond, _&&_}
 use Rattle.lexical.proofs.BoolLaws.{both, by-cases}
 use Rattle.grammar.specs.Tree as Tree
 use Rattle.grammar.specs.Tree.{Body, bodyEnd, item}
-use Rattle.grammar.proofs.Braces.{bodyFilled}
+use Rattle.grammar.proofs.Braces.{hasContent, bodyFilled}
 use Rattle.bridge.specs.Block.{Block, userDefinedNamespace, externC, sameBlock}
 use Rattle.pieces.proofs.Boundaries.{block-eq}
 
@@ -137,11 +137,6 @@ module _ {C : Type 0} (into : C → Tree.Block → C) where
       fold-body-of c es r = fold-grow c es [] r
 
 -- ---- each block has content
-
-abbrev hasContent : Body → Bool
-hasContent bodyEnd = false
-hasContent (item i next) = true
-hasContent (Tree.block b inside next) = true
 
 abbrev levelsFilled : (P : List Block) → Levels P → Bool
 levelsFilled [] l = bodyFilled l

@@ -18,7 +18,7 @@ use Rattle.bridge.specs.Nested as Nested
 use Rattle.bridge.specs.Nested.{filter, first, nth, directContent, inner, distinct, names, nestedNames}
 use Rattle.bridge.specs.Write.{needsForwardDeclaration}
 use Rattle.grammar.specs.Tree.{Forward, forwardEnd}
-use Rattle.grammar.specs.Rules.{ofStdOrRust, fullNameOk, lineOk, forwardOk}
+use Rattle.grammar.specs.Rules.{ofStdOrRust, fullNameOk, forwardLineOk, forwardOk}
 use Rattle.grammar.proofs.TextBack.{hasLines, forwardFilled}
 use Rattle.pieces.proofs.ForwardTree.{lineTree, linesTree, namespacesTree, entriesTree, forwardOf, itemNamed, Named}
 use Rattle.pieces.proofs.ForwardTree.{named-item, every-filter, distinct-every, direct-named, inner-named}
@@ -47,7 +47,7 @@ full-name-ok x n =
 
 line-ok : (x : Item) (b : Body) (depth : ℕ) (next : Forward) → Named x → forwardOk depth next ≡ true →
     forwardOk depth (lineTree x b next) ≡ true
-unfolding forwardOk lineOk
+unfolding forwardOk forwardLineOk
 line-ok x (struct p ts) depth next n h = rw (n .cxx) h
 line-ok x (enum p a cxx) depth next n h = rw (n .cxx) h
 line-ok x (cxxType p) depth next n h = rw (n .cxx, full-name-ok x n) h

@@ -26,31 +26,14 @@ use Rattle.grammar.specs.Tree.{Forward, forwardEnd, line, bareNamespace}
 use Rattle.grammar.specs.Tokens.{atomTokens, lineTokens, forwardTokens}
 use Rattle.grammar.proofs.Literal.{literal}
 use Rattle.grammar.proofs.Pieces.{name-laid, pathBytes, path-laid, atom-laid}
+use Rattle.agreement.specs.Atoms.{atomTree}
 
 -- ---- the tree
-
-abbrev pub treeAtom : Atom → Cxx.Atom
-treeAtom Atom.Bool = Cxx.bool
-treeAtom Atom.Char = Cxx.char
-treeAtom Atom.U8 = Cxx.u8
-treeAtom Atom.U16 = Cxx.u16
-treeAtom Atom.U32 = Cxx.u32
-treeAtom Atom.U64 = Cxx.u64
-treeAtom Atom.Usize = Cxx.usize
-treeAtom Atom.I8 = Cxx.i8
-treeAtom Atom.I16 = Cxx.i16
-treeAtom Atom.I32 = Cxx.i32
-treeAtom Atom.I64 = Cxx.i64
-treeAtom Atom.Isize = Cxx.isize
-treeAtom Atom.F32 = Cxx.f32
-treeAtom Atom.F64 = Cxx.f64
-treeAtom Atom.CxxString = Cxx.cxxString
-treeAtom Atom.RustString = Cxx.rustString
 
 -- an item's line, in front of others; a function has none
 abbrev pub lineTree : Item → Body → Forward → Forward
 lineTree x (struct p ts) next = line (Tree.structLine (x .cxx)) next
-lineTree x (enum p a cxx) next = line (Tree.enumLine (x .cxx) (treeAtom a)) next
+lineTree x (enum p a cxx) next = line (Tree.enumLine (x .cxx) (atomTree a)) next
 lineTree x (cxxType p) next = line (Tree.usingLine (x .cxx) (x .namespace ++ (x .cxx ∷ []))) next
 lineTree x (rustType p) next = line (Tree.structLine (x .cxx)) next
 lineTree x (function f) next = next
@@ -119,7 +102,7 @@ indent-laid zero d = d
 indent-laid (suc n) d = blank refl (indent-laid n d)
 
 written-atom : (a : Atom) {ts : List Token} {r : List ℕ} → noWordChar r ≡ true → Layout ts r →
-    Layout (atomTokens (treeAtom a) ts) (writeAtom a ++ r)
+    Layout (atomTokens (atomTree a) ts) (writeAtom a ++ r)
 written-atom Atom.Bool e d = atom-laid Cxx.bool e d
 written-atom Atom.Char e d = atom-laid Cxx.char e d
 written-atom Atom.U8 e d = atom-laid Cxx.u8 e d

@@ -1,25 +1,24 @@
 -- Demand 3 of a sheet, if the trees of its items are spelled by its text, keep the rules and match its functions.
 use mathlib.Core.Path.{_≡_, refl, sym, ap, _∙_}
 use mathlib.Core.List.{List, [], _∷_, _++_, map, append-assoc, append-nil}
-use mathlib.Core.Bool.{Bool, true, false, cond, _||_, false≢true}
+use mathlib.Core.Bool.{true, false, cond, false≢true}
 use Prim.Native.Nat.{ℕ}
 use lib.Dec.{eqb}
 use Rattle.lexical.specs.Bytes.{bytes, every, same, member}
 use Rattle.lexical.specs.Names.{nameChar, nameShape, nameOk, keywords, alternativeTokens, reserved, isName}
 use Rattle.lexical.proofs.BoolLaws.{by-cases, or-left, or-right}
-use Rattle.lexical.proofs.ByteLaws.{byte-eq, same-eq, same-refl, every-cons}
+use Rattle.lexical.proofs.ByteLaws.{Each, byte-eq, same-eq, same-refl, every-cons}
 use Rattle.lexical.proofs.NameLaws.{name-chars}
-use Rattle.format.specs.Decode.{pick}
 use Rattle.format.specs.Sheet.{Name, Function, Body, struct, enum, cxxType, rustType, function, Item, Sheet}
 use Rattle.syntax.specs.Items.{itemAt, selfType}
 use Rattle.syntax.specs.Symbol.{pushAll, join}
 use Rattle.syntax.specs.Mangle.{version, externFn, operator}
 use Rattle.rules.specs.Rules.{gather}
 use Rattle.grammar.specs.Tree.{size, align}
-use Rattle.agreement.specs.Agreement.{RustFunction, rustFunction, rustFunctions, symbolOf, Declared, Defined, ofFunctions}
+use Rattle.agreement.specs.Agreement.{RustFunction, rustFunction, rustFunctions, functionSymbol, ofFunctions}
 use Rattle.agreement.specs.Agreement.{Matches, MatchAll, Agrees, Demand3}
 use Rattle.pieces.proofs.ForwardTree.{itemNamed}
-use Rattle.pieces.proofs.SheetEntries.{Each, Trees, entriesOf, Spelled, RulesKept, entries-spelled, entries-ok}
+use Rattle.pieces.proofs.SheetEntries.{Trees, entriesOf, Spelled, RulesKept, entries-spelled, entries-ok}
 use Rattle.pieces.proofs.SheetEntries.{declaredOf, definedOf, sheet-declarations, sheet-shims}
 use Rattle.pieces.proofs.SheetReading.{treeOf, sheet-reading}
 
@@ -120,7 +119,7 @@ Matched trees items x (function f) =
 
 module _ (trees : Trees) (items : List Item) where
   abbrev symbols : List Item → List (List ℕ)
-  symbols xs = map (symbolOf items) (rustFunctions xs)
+  symbols xs = map (functionSymbol items) (rustFunctions xs)
 
   layout-undeclared : (x : Item) (name : List ℕ) → Keyword name → (xs : List Item) →
       Each (λ y. Matched trees items y (y .body)) xs → member (operator x name) (symbols xs) ≡ false
@@ -129,7 +128,7 @@ module _ (trees : Trees) (items : List Item) where
   layout-undeclared x name k (y ∷ ys) h = go (y .body) (h .0) (layout-undeclared x name k ys (h .1))
     where
       go : (b : Body) → Matched trees items y b → member (operator x name) (symbols ys) ≡ false →
-          member (operator x name) (map (symbolOf items) (rustFunction y b ++ rustFunctions ys)) ≡ false
+          member (operator x name) (map (functionSymbol items) (rustFunction y b ++ rustFunctions ys)) ≡ false
       go (struct p ts) m e = e
       go (enum p a cxx) m e = e
       go (cxxType p) m e = e
@@ -154,7 +153,7 @@ module _ (trees : Trees) (items : List Item) where
           (gather (λ x. definedOf trees x (x .body)) xs)
 
       go : (b : Body) → Matched trees items x b →
-          ((s : List ℕ) → member s (map (symbolOf items) (rustFunction x b ++ rustFunctions xs)) ≡ true →
+          ((s : List ℕ) → member s (map (functionSymbol items) (rustFunction x b ++ rustFunctions xs)) ≡ true →
           member s (symbols all) ≡ true) →
           (((s : List ℕ) → member s (symbols xs) ≡ true → member s (symbols all) ≡ true) → Rest) →
           MatchAll items (rustFunction x b ++ rustFunctions xs)
@@ -170,7 +169,7 @@ module _ (trees : Trees) (items : List Item) where
           rw (m .1) (layout-undeclared x (bytes "alignof") alignof-keyword all k) in
           rw (a, b) (rest among)
       go (function f) m among rest =
-          let symbol = symbolOf items (functionOf x f) in
+          let symbol = functionSymbol items (functionOf x f) in
           let a : member (trees .functionDeclared x f .symbol) (symbols all) ≡ true =
           rw (m .1 .declares)
           (among symbol (or-left (same symbol symbol) (member symbol (symbols xs)) (same-refl symbol))) in

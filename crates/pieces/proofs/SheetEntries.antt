@@ -5,7 +5,7 @@ use mathlib.Core.List.{List, [], _∷_, _++_, map, append-assoc, append-nil}
 use mathlib.Core.Bool.{Bool, true, false, not, _&&_, false≢true}
 use lib.ListN.{length}
 use Rattle.lexical.specs.Bytes.{bytes, every}
-use Rattle.lexical.proofs.ByteLaws.{every-cons, every-append}
+use Rattle.lexical.proofs.ByteLaws.{Each, every-cons, every-append}
 use Rattle.format.specs.Decode.{pick}
 use Rattle.format.specs.Sheet.{Name, Function, Body, struct, enum, cxxType, rustType, function, Item, Sheet}
 use Rattle.rules.specs.Rules.{gather}
@@ -53,11 +53,6 @@ spell-append [] qs [] fs a b = b
 spell-append [] qs (e ∷ es) fs a b = absurd a
 spell-append (p ∷ ps) qs [] fs a b = absurd a
 spell-append (p ∷ ps) qs (e ∷ es) fs a b = (a .0, spell-append ps qs es fs (a .1) b)
-
--- each element has the property
-abbrev pub Each : {A : Type 0} → (A → Type 0) → List A → Type 0
-Each P [] = Unit {0}
-Each P (x ∷ xs) = P x × Each P xs
 
 module _ {A : Type 0} (P : A → Type 0) where
   spell-gather : (f : A → List Piece) (g : A → List Entry) → ((x : A) → P x → SpellAll (f x) (g x)) → (xs : List A) →

@@ -8,12 +8,13 @@ use Rattle.lexical.proofs.ByteLaws.{every-weaken}
 use Rattle.format.specs.Sheet.{Sheet}
 use Rattle.grammar.specs.Tree as Tree
 use Rattle.grammar.specs.Tree.{Text}
-use Rattle.grammar.specs.Tokens.{bodyTokens}
+use Rattle.grammar.specs.Tokens.{BodyClosings, bodyTokens}
 use Rattle.grammar.specs.Rules.{forwardOk, bodyOk, textOk}
-use Rattle.grammar.specs.Reading.{Reads, OneReading}
+use Rattle.grammar.specs.Reading.{Reading, OneReading}
 use Rattle.grammar.proofs.TextBack.{forwardFilled}
 use Rattle.grammar.proofs.Braces.{bodyFilled, textFilled}
 use Rattle.grammar.proofs.Unique.{one-reading}
+use Rattle.grammar.proofs.Pieces.{usualClosings}
 use Rattle.bridge.specs.Out.{some}
 use Rattle.bridge.specs.Write.{forwardDeclarations, text}
 use Rattle.pieces.specs.Pieces.{pieces, bodyText}
@@ -29,18 +30,22 @@ treeOf s es = Tree.text (forwardOf (s .items)) (bodyOf es)
 
 module _ (s : Sheet) (es : List Entry) (spelled : SpellAll (pieces s) es) (kept : every entryOk es ≡ true)
     (named : every itemNamed (s .items) ≡ true) where
-  pub sheet-reads : Reads (treeOf s es) (text s)
+  abbrev closings : BodyClosings (bodyOf es)
+  closings = usualClosings (bodyOf es) 0 false (body-ok es kept)
+
+  pub sheet-reads : Reading (treeOf s es) (text s)
   unfolding textOk bodyText
   sheet-reads =
       record {
         keepsRules =
             and-of (forwardOk 0 (forwardOf (s .items))) (bodyOk 0 false (bodyOf es)) (forward-ok (s .items) named)
             (body-ok es kept);
+        closings = closings;
         laidOut =
             rw (text-pieces s)
-            (forward-laid (s .items) (bodyTokens (bodyOf es) []) (bodyText s) named
+            (forward-laid (s .items) (bodyTokens (bodyOf es) closings []) (bodyText s) named
             (body-laid (some (forwardDeclarations (s .items))) (pieces s) es spelled
-            (every-weaken entryOk (λ e. blocksNamed (e .0)) entry-named es kept)));
+            (every-weaken entryOk (λ e. blocksNamed (e .0)) entry-named es kept) (body-ok es kept)));
       }
 
   pub sheet-filled : textFilled (treeOf s es) ≡ true

@@ -5,12 +5,11 @@ use mathlib.Core.Bool.{Bool, true, false, not}
 use Prim.Native.Nat.{ℕ, suc, _+_, _≤_}
 use native.Mathlib.Omega.{arith}
 use borrow.Author.Tests.{leb-true}
-use lib.Dec.{leb}
-use lib.ListN.{length}
+use lib.ListN.{length, length-map}
 use Rattle.lexical.specs.Bytes.{bytes, every, same, member}
 use Rattle.lexical.specs.Names.{nameShape, nameOk, keywords, alternativeTokens, reserved, isName}
-use Rattle.lexical.proofs.BoolLaws.{both, by-cases}
-use Rattle.lexical.proofs.ByteLaws.{every-append}
+use Rattle.lexical.proofs.BoolLaws.{both}
+use Rattle.lexical.proofs.ByteLaws.{Each, every-append}
 use Rattle.format.specs.Decode.{pick}
 use Rattle.format.specs.declared.Template.{Template}
 use Rattle.format.specs.declared.Template.the-variants.{RustBox, UniquePtr}
@@ -23,20 +22,20 @@ use Rattle.syntax.specs.Mangle.{externFn}
 use Rattle.syntax.specs.Types.{needsIndirectAbi}
 use Rattle.decoded.specs.Fits.{depth, partsFit, typeFits, returnFits, argumentFits, formFits}
 use Rattle.decoded.proofs.Decoded.{fits-depth, fits-parts, fits}
-use Rattle.decoded.proofs.Kept.{All, argument-name, argument-type, ItemKept, FunctionKept}
-use Rattle.bridge.specs.Write.{indirectReturn, Shape, shape, slot}
+use Rattle.decoded.proofs.Kept.{argument-name, argument-type, ItemKept, FunctionKept}
+use Rattle.bridge.specs.Write.{indirectReturn, Shape, shape, slotOf, slot}
 use Rattle.grammar.specs.Types as Cxx
 use Rattle.grammar.specs.Types.{CxxType}
 use Rattle.grammar.specs.Tree as Tree
-use Rattle.grammar.specs.Tree.{Parameter, Measure}
-use Rattle.grammar.specs.Rules.{levels, partsOk, typeOk, resultOk, isMain, declaredOk, declaredArguments, declarationOk}
-use Rattle.grammar.specs.Rules.{layoutOk}
+use Rattle.grammar.specs.Tree.{Measure}
+use Rattle.grammar.specs.Rules.{levels, partsOk, typeOk, resultOk, isRootMain, declaredOk, isSelf, isSlot, declarationOk}
+use Rattle.grammar.specs.Rules.{atMostOne, fewArguments, layoutOk}
 use Rattle.spelling.specs.TypeTree.{pointerTo, cxxType}
 use Rattle.spelling.specs.DeclarationTree.{directResult, directResultOf, declaredResult, declaredReceiver}
 use Rattle.spelling.specs.DeclarationTree.{declaredType, declaredArgument, slotTree, declaredSlot}
 use Rattle.spelling.specs.DeclarationTree.{declaredParameters, declarationOf, layoutDeclarationOf}
 use Rattle.spelling.specs.DeclarationTree.{layoutDefinitionOf}
-use Rattle.spelling.proofs.Lists.{count-within}
+use Rattle.spelling.proofs.Lists.{few-between, none-or-one}
 use Rattle.spelling.proofs.TypeSpelling.{item-kept}
 use Rattle.spelling.proofs.TypeRules.{itemPath-ok, type-ok, suffix-ok, higher-ok}
 use Rattle.spelling.proofs.Shapes.{Shaped, isBox, isUniquePtr, isRef, isStr, isSlice, isOther, shaped}
@@ -56,38 +55,29 @@ below limit items outer t d p h =
 
 -- ---- how many arguments are declared
 
-arguments-append : (ps qs : List Parameter) →
-    declaredArguments (ps ++ qs) ≡ declaredArguments ps + declaredArguments qs
-unfolding declaredArguments
-arguments-append [] qs = omega arith
-arguments-append (Tree.named x name ∷ ps) qs =
-    by-cases (same name (bytes "self"))
-    (λ e. rw (e, declaredArguments) (arguments-append ps qs))
-    (λ e. rw (e, declaredArguments) (omega (arith, arguments-append ps qs)))
-arguments-append (Tree.slot x ∷ ps) qs = arguments-append ps qs
+-- the arguments of a function, as parameters or operands
+pub mapped-few : {A : Type 0} (g : Argument → A) {items : List Item} (f : Function) → FunctionKept items f →
+    length (map g (f .arguments)) ≤ 31
+mapped-few g f k = rw (length-map (f .arguments) g) (leb-true (length (f .arguments)) 31 (k .fewArguments))
 
-few-arguments : (items : List Item) (xs : List Argument) →
-    declaredArguments (map (declaredArgument items) xs) ≤ length xs
-unfolding declaredArguments declaredArgument
-few-arguments items [] = omega arith
-few-arguments items (a ∷ xs) =
-    by-cases (same (a .name) (bytes "self"))
-    (λ e. rw (e, declaredArguments) (omega (arith, few-arguments items xs)))
-    (λ e. rw (e, declaredArguments) (omega (arith, few-arguments items xs)))
+pub slot-few : (items : List Item) (f : Function) → length (slot items f) ≤ 1
+unfolding slot
+slot-few items f = go (indirectReturn items f (f .return)) (f .return)
+  where
+    go : (indirect : Bool) (r : Ret) → length (slotOf indirect r) ≤ 1
+    go indirect none = omega arith
+    go true (gives t) = omega arith
+    go false (gives t) = omega arith
 
-no-arguments : (items : List Item) (ts : List Ty) → declaredArguments (map (declaredSlot items) ts) ≡ 0
-unfolding declaredArguments
-no-arguments items [] = refl
-no-arguments items (t ∷ ts) = no-arguments items ts
+receiver-self : (items : List Item) (form : Form) →
+    length (declaredReceiver items form) ≤ atMostOne isSelf (declaredReceiver items form)
+unfolding atMostOne isSelf same
+receiver-self items free = omega arith
+receiver-self items (constMethod i) = omega arith
+receiver-self items (mutMethod i) = omega arith
+receiver-self items (associated i) = omega arith
 
-no-argument : (items : List Item) (form : Form) → declaredArguments (declaredReceiver items form) ≡ 0
-unfolding declaredArguments same
-no-argument items free = refl
-no-argument items (constMethod i) = refl
-no-argument items (mutMethod i) = refl
-no-argument items (associated i) = refl
-
-module _ (items : List Item) (kept : All (ItemKept items) items) where
+module _ (items : List Item) (kept : Each (ItemKept items) items) where
   -- ---- types
 
   pub pointer-ok : (m : Bool) (limit : ℕ) (t : Ty) → typeFits limit (length items) t ≡ true →
@@ -190,14 +180,12 @@ module _ (items : List Item) (kept : All (ItemKept items) items) where
       (slot-fits (length items) (indirectReturn items f (f .return)) (f .return) (g .returnFits)))
 
   few-parameters : (f : Function) → FunctionKept items f →
-      leb (declaredArguments (declaredParameters items f)) 31 ≡ true
-  unfolding declaredParameters
+      fewArguments isSelf isSlot (declaredParameters items f) ≡ true
+  unfolding declaredParameters isSlot
   few-parameters f g =
-      let few : length (f .arguments) ≤ 31 = leb-true (length (f .arguments)) 31 (g .fewArguments) in
-      count-within declaredArguments arguments-append (declaredReceiver items (f .form))
-      (map (declaredArgument items) (f .arguments)) (map (declaredSlot items) (slot items f)) 31
-      (no-argument items (f .form)) (omega (arith, few-arguments items (f .arguments)))
-      (no-arguments items (slot items f))
+      few-between isSelf isSlot (declaredReceiver items (f .form)) (map (declaredArgument items) (f .arguments))
+      (map (declaredSlot items) (slot items f)) (receiver-self items (f .form)) (mapped-few (declaredArgument items) f g)
+      (none-or-one isSlot (declaredSlot items) (λ t. refl) (slot items f) (slot-few items f))
 
   -- ---- declarations
 
@@ -205,14 +193,14 @@ module _ (items : List Item) (kept : All (ItemKept items) items) where
       declarationOk depth (declarationOf items x f) ≡ true
   unfolding declarationOk
   declaration-ok x k f g depth =
-      let main = isMain depth (Tree.free (externFn items (x .namespace) f)) in
+      let main = isRootMain depth (Tree.free (externFn items (x .namespace) f)) in
       rw (externFn-symbol items kept x k f g, declaredResult-ok main f g, parameters-ok f g, few-parameters f g)
 
 -- ---- layouts
 
 module _ {items : List Item} (x : Item) (k : ItemKept items x) (m : Measure) where
   pub layoutDeclaration-ok : (depth : ℕ) → declarationOk depth (layoutDeclarationOf x m) ≡ true
-  unfolding every declarationOk resultOk levels partsOk declaredArguments
+  unfolding every declarationOk resultOk levels partsOk atMostOne fewArguments
   layoutDeclaration-ok depth = rw (operator-symbol x k m)
 
   pub layoutDefinition-ok : layoutOk (layoutDefinitionOf x m) ≡ true

@@ -6,6 +6,7 @@ use Prim.Native.Nat.{ℕ}
 use lib.ListN.{length}
 use Rattle.lexical.specs.Bytes.{bytes, every}
 use Rattle.lexical.specs.Decimal.{pickText}
+use Rattle.lexical.proofs.ByteLaws.{Each}
 use Rattle.format.specs.Decode.{pick}
 use Rattle.format.specs.declared.Template.the-variants.{RustBox, UniquePtr}
 use Rattle.format.specs.declared.Pointer.the-variants.{Ref, SliceRef}
@@ -15,7 +16,7 @@ use Rattle.syntax.specs.Items.{itemAt}
 use Rattle.syntax.specs.Types.{needsIndirectAbi}
 use Rattle.decoded.specs.Fits.{partsFit, typeFits, returnFits, argumentFits, formFits}
 use Rattle.decoded.proofs.Decoded.{fits-parts}
-use Rattle.decoded.proofs.Kept.{All, argument-name, argument-type, ItemKept, FunctionKept}
+use Rattle.decoded.proofs.Kept.{argument-name, argument-type, ItemKept, FunctionKept}
 use Rattle.bridge.specs.WriteType.{constUnless, spaceAfterType, writeTypeSpace}
 use Rattle.bridge.specs.Write.{indirectReturn, writePointer, Shape, shape, directReturn, directReturnOf, externReturn}
 use Rattle.bridge.specs.Write.{externArgType, externArg, receiver, slotType, slotOf, slot, externParameters}
@@ -27,7 +28,7 @@ use Rattle.grammar.specs.Tree as Tree
 use Rattle.grammar.specs.Tree.{Measure}
 use Rattle.grammar.specs.Tokens.{measureTokens, typeTokens, resultTokens, parameterTokens, declarationTokens}
 use Rattle.grammar.specs.Tokens.{layoutTokens}
-use Rattle.grammar.proofs.Pieces.{suffix-tokens}
+use Rattle.spelling.proofs.Suffixes.{suffix-tokens}
 use Rattle.spelling.specs.TypeTree.{pointerTo, cxxType}
 use Rattle.spelling.specs.DeclarationTree.{directResult, directResultOf, declaredResult, declaredReceiver}
 use Rattle.spelling.specs.DeclarationTree.{declaredType, declaredArgument, slotTree, declaredSlot}
@@ -54,7 +55,7 @@ star-spells : (b : Bool) {s : List ℕ} (x : CxxType) → Spells closed s (typeT
 star-spells true x p = suffix-spells (Cxx.pointer false) x p (lit "*" refl)
 star-spells false x p = p ▷ empty
 
-module _ (items : List Item) (kept : All (ItemKept items) items) where
+module _ (items : List Item) (kept : Each (ItemKept items) items) where
   pub pointer-spells : (mutable : Bool) (t : Ty) → partsFit (length items) t ≡ true →
       Spells closed (writePointer items mutable t) (typeTokens (pointerTo mutable (cxxType items t)))
   pointer-spells mutable t h =

@@ -1,5 +1,6 @@
 pub mod Spells
 pub mod Lists
+pub mod Suffixes
 pub mod TypeSpelling
 pub mod TypeRules
 pub mod Symbols

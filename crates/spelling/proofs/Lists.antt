@@ -5,13 +5,15 @@ use mathlib.Core.Bool.{Bool, true, false}
 use Prim.Native.Nat.{ℕ, _+_, _≤_}
 use native.Mathlib.Omega.{arith}
 use borrow.Author.Tests.{le-leb}
-use lib.Dec.{leb}
+use lib.ListN.{length, length-append}
 use Rattle.lexical.specs.Bytes.{every}
+use Rattle.lexical.proofs.BoolLaws.{by-cases}
 use Rattle.lexical.proofs.ByteLaws.{every-cons}
 use Rattle.rules.specs.Rules.{gather}
 use Rattle.bridge.specs.Write.{commas}
 use Rattle.grammar.specs.Token.{Token}
 use Rattle.grammar.specs.Tokens.{eachTokens, commaTokens, listTokens}
+use Rattle.grammar.specs.Rules.{atMostOne, fewArguments}
 use Rattle.spelling.proofs.Spells.{closed, inside, Spells, meets, _▷_, _▷⟨_⟩_, as-tokens, empty, lit}
 
 -- each text spells the element at its place
@@ -75,10 +77,44 @@ module _ {B : Type 0} (tokens : B → List Token → List Token) where
     gather-map-spells text tree each (x ∷ xs) h =
         let q = every-cons test x xs h in each x (q .0) ▷ gather-map-spells text tree each xs (q .1)
 
--- only the middle part counts
-pub count-within : {A : Type 0} (count : List A → ℕ) → ((xs ys : List A) → count (xs ++ ys) ≡ count xs + count ys) →
-    (front middle back : List A) (limit : ℕ) → count front ≡ 0 → count middle ≤ limit → count back ≡ 0 →
-    leb (count (front ++ middle ++ back)) limit ≡ true
-count-within count append front middle back limit e l f =
-    le-leb (count (front ++ middle ++ back)) limit
-    (omega (arith, append (front ++ middle) back, append front middle))
+-- arguments between a receiver or none and a slot or none
+
+module _ {A : Type 0} (test : A → Bool) where
+  one-of-front : (xs ys : List A) → atMostOne test xs ≤ atMostOne test (xs ++ ys)
+  unfolding atMostOne
+  one-of-front [] ys = omega arith
+  one-of-front (x ∷ xs) ys = by-cases (test x) (λ e. rw e (omega arith)) (λ e. rw e (one-of-front xs ys))
+
+  one-at-most : (xs : List A) → atMostOne test xs ≤ 1
+  unfolding atMostOne
+  one-at-most [] = omega arith
+  one-at-most (x ∷ xs) = by-cases (test x) (λ e. rw e (omega arith)) (λ e. rw e (one-at-most xs))
+
+  one-of-back : (xs ys : List A) → atMostOne test ys ≤ atMostOne test (xs ++ ys)
+  unfolding atMostOne
+  one-of-back [] ys = omega arith
+  one-of-back (x ∷ xs) ys = by-cases (test x) (λ e. rw e (one-at-most ys)) (λ e. rw e (one-of-back xs ys))
+
+pub few-between : {A : Type 0} (isReceiver isSlot : A → Bool) (front middle back : List A) →
+    length front ≤ atMostOne isReceiver front → length middle ≤ 31 → length back ≤ atMostOne isSlot back →
+    fewArguments isReceiver isSlot (front ++ middle ++ back) ≡ true
+unfolding fewArguments
+few-between isReceiver isSlot front middle back f m b =
+    let all = front ++ middle ++ back in
+    le-leb (length all) (31 + atMostOne isReceiver all + atMostOne isSlot all)
+    (omega (
+      arith,
+      length-append (front ++ middle) back,
+      length-append front middle,
+      one-of-front isReceiver front middle,
+      one-of-front isReceiver (front ++ middle) back,
+      one-of-back isSlot (front ++ middle) back,
+    ))
+
+-- a list of none or one that passes the test
+pub none-or-one : {A B : Type 0} (test : A → Bool) (f : B → A) → ((x : B) → test (f x) ≡ true) → (xs : List B) →
+    length xs ≤ 1 → length (map f xs) ≤ atMostOne test (map f xs)
+unfolding atMostOne
+none-or-one test f h [] l = omega arith
+none-or-one test f h (x ∷ []) l = rw (h x) (omega arith)
+none-or-one test f h (x ∷ (y ∷ xs)) l = absurd (omega arith)

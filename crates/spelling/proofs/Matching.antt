@@ -17,11 +17,11 @@ use Rattle.bridge.specs.Write as Write
 use Rattle.bridge.specs.Write.{indirectReturn, slot}
 use Rattle.grammar.specs.Tree as Tree
 use Rattle.grammar.specs.Tree.{Operand}
-use Rattle.agreement.specs.Agreement.{slotNames, slotOf, argumentNames, parameterNames, headNames, parameterName}
+use Rattle.agreement.specs.Agreement.{slotNames, slotNamesOf, argumentNames, parameterNames, headNames, parameterName}
 use Rattle.agreement.specs.Agreement.{headParts, argumentOperands, fitting, only, Matches}
 use Rattle.spelling.specs.DeclarationTree.{declaredReceiver, declaredArgument, declaredSlot, declaredParameters}
 use Rattle.spelling.specs.DeclarationTree.{declarationOf}
-use Rattle.spelling.specs.ShimTree.{headOf, argumentOf, operandOf, slotAddressOf, operandsOf, shimOf}
+use Rattle.spelling.specs.ShimTree.{headOf, argumentOf, operandOf, slotAddressOf, operandsOf, shimTree}
 
 map-parts : {A B : Type 0} (f : A → B) (a b c : List A) {x y z : List B} → map f a ≡ x → map f b ≡ y → map f c ≡ z →
     map f (a ++ b ++ c) ≡ x ++ y ++ z
@@ -148,7 +148,7 @@ module _ (items : List Item) where
   head-names (a ∷ xs) = ap (λ (ns : List Name). a .name ∷ ns) (head-names xs)
 
   slot-name : (f : Function) →
-      map parameterName (map (declaredSlot items) (slot items f)) ≡ slotOf items (f .throws) (f .return)
+      map parameterName (map (declaredSlot items) (slot items f)) ≡ slotNamesOf items (f .throws) (f .return)
   unfolding slot indirectReturn
   slot-name f = go (f .return)
     where
@@ -161,7 +161,7 @@ module _ (items : List Item) where
 
       go : (r : Ret) →
           map parameterName (map (declaredSlot items) (Write.slotOf (indirectReturn items f r) r)) ≡
-          slotOf items (f .throws) r
+          slotNamesOf items (f .throws) r
       go none = refl
       go (gives t) = one (f .throws) (needsIndirectAbi items t) t
 
@@ -188,7 +188,7 @@ module _ (items : List Item) where
 pub function-matches : (s : Sheet) (x : Item) (f : Function) → FunctionKept (s .items) f →
     Matches (s .items) (record { namespace = x .namespace; cxx = x .cxx; function = f })
     (record { namespace = x .namespace; declaration = declarationOf (s .items) x f })
-    (record { namespace = x .namespace; shim = shimOf s x f })
+    (record { namespace = x .namespace; shim = shimTree s x f })
 function-matches s x f g =
     record {
       declaredIn = refl;

@@ -4,8 +4,9 @@ use mathlib.Core.List.{List, _++_}
 use mathlib.Core.Bool.{true, false}
 use Prim.Native.Nat.{ℕ}
 use lib.ListN.{length}
+use Rattle.lexical.proofs.ByteLaws.{Each}
 use Rattle.format.specs.Sheet.{Function, Item, Sheet}
-use Rattle.decoded.proofs.Kept.{All, ItemKept, FunctionKept}
+use Rattle.decoded.proofs.Kept.{ItemKept, FunctionKept}
 use Rattle.bridge.specs.Write.{functionDecl, layoutDecl, layoutDefinition, functionShim}
 use Rattle.grammar.specs.Token.{Token}
 use Rattle.grammar.specs.Layout.{Layout}
@@ -14,14 +15,14 @@ use Rattle.grammar.specs.Tokens.{itemTokens}
 use Rattle.grammar.specs.Rules.{itemOk}
 use Rattle.spelling.specs.DeclarationTree.{declarationOf, layoutDeclarationOf, measureName, operatorName}
 use Rattle.spelling.specs.DeclarationTree.{layoutDefinitionOf}
-use Rattle.spelling.specs.ShimTree.{shimOf}
+use Rattle.spelling.specs.ShimTree.{shimTree}
 use Rattle.spelling.proofs.DeclarationSpelling.{declaration-spells, layoutDeclaration-spells}
 use Rattle.spelling.proofs.DeclarationSpelling.{layoutDefinition-spells}
 use Rattle.spelling.proofs.DeclarationRules.{declaration-ok, layoutDeclaration-ok, layoutDefinition-ok}
 use Rattle.spelling.proofs.ShimSpelling.{shim-spells}
 use Rattle.spelling.proofs.ShimRules.{shim-ok}
 
-module _ (s : Sheet) (kept : All (ItemKept (s .items)) (s .items)) (x : Item) (k : ItemKept (s .items) x) where
+module _ (s : Sheet) (kept : Each (ItemKept (s .items)) (s .items)) (x : Item) (k : ItemKept (s .items) x) where
   -- ---- declarations
 
   pub declaration-laid : (f : Function) → FunctionKept (s .items) f → (ts : List Token) (r : List ℕ) → Layout ts r →
@@ -57,10 +58,10 @@ module _ (s : Sheet) (kept : All (ItemKept (s .items)) (s .items)) (x : Item) (k
 
   module _ (f : Function) (g : FunctionKept (s .items) f) where
     pub shim-laid : s .header ≡ false → (ts : List Token) (r : List ℕ) → Layout ts r →
-        Layout (itemTokens (shim (shimOf s x f)) ts) (functionShim s x f ++ r)
+        Layout (itemTokens (shim (shimTree s x f)) ts) (functionShim s x f ++ r)
     shim-laid e ts r d = shim-spells s e kept x k f g .laid ts r refl d
 
     -- at the depth of its namespace
-    pub shim-keeps : itemOk (length (x .namespace)) false (shim (shimOf s x f)) ≡ true
+    pub shim-keeps : itemOk (length (x .namespace)) false (shim (shimTree s x f)) ≡ true
     unfolding itemOk
     shim-keeps = shim-ok s kept x k f g

@@ -1,16 +1,15 @@
 -- The trees of shims keep the grammar's rules.
-use mathlib.Core.Path.{_≡_, refl, ap, _∙_}
+use mathlib.Core.Path.{_≡_, refl}
 use mathlib.Core.List.{List, [], _∷_, _++_, map}
 use mathlib.Core.Bool.{Bool, true, false, not, false≢true}
-use Prim.Native.Nat.{suc, _+_, _≤_}
+use Prim.Native.Nat.{_+_, _≤_}
 use native.Mathlib.Omega.{arith}
-use borrow.Author.Tests.{leb-true}
 use lib.Dec.{leb}
 use lib.ListN.{length, length-map}
 use Rattle.lexical.specs.Bytes.{bytes, every, same}
 use Rattle.lexical.specs.Names.{isName}
 use Rattle.lexical.proofs.BoolLaws.{both, and-of}
-use Rattle.lexical.proofs.ByteLaws.{every-cons, every-append}
+use Rattle.lexical.proofs.ByteLaws.{Each, every-cons, every-append}
 use Rattle.format.specs.Decode.{pick}
 use Rattle.format.specs.declared.Template.the-variants.{RustBox, UniquePtr}
 use Rattle.format.specs.declared.Pointer.the-variants.{SliceRef}
@@ -18,26 +17,25 @@ use Rattle.format.specs.Types.{Ty, template, pointer, Ret, none, gives}
 use Rattle.format.specs.Sheet.{Name, Form, free, constMethod, mutMethod, associated, Argument, Function, Item, Sheet}
 use Rattle.rules.specs.Rules.{gather, isMethod}
 use Rattle.decoded.specs.Fits.{typeFits, returnFits, argumentFits, formFits}
-use Rattle.decoded.proofs.Kept.{All, argument-name, argument-type, ItemKept, FunctionKept}
+use Rattle.decoded.proofs.Kept.{argument-name, argument-type, ItemKept, FunctionKept}
 use Rattle.bridge.specs.Write.{indirectReturn, Shape, slot, isRoot, isFree, isMain, isHeld, direct}
 use Rattle.grammar.specs.Types.{CxxType}
 use Rattle.grammar.specs.Tree as Tree
-use Rattle.grammar.specs.Tree.{Operand}
 use Rattle.grammar.specs.Rules
 use Rattle.grammar.specs.Rules.{levels, partsOk, typeOk, resultOk, headOk, argumentOk, localOk, operandOk}
-use Rattle.grammar.specs.Rules.{callArguments, formOk, callOk, commentsOk, shimOk}
+use Rattle.grammar.specs.Rules.{atMostOne, fewArguments, isReceiver, isSlotAddress, formOk, callOk, commentsOk, shimOk}
 use Rattle.agreement.specs.Agreement as Agreement
 use Rattle.agreement.specs.Agreement.{Passing, passing, argumentOperand}
 use Rattle.spelling.specs.TypeTree.{cxxType}
 use Rattle.spelling.specs.ShimTree.{commentsOf, resultOf, headOf, argumentOf, heldOf, roomOf, directForm}
-use Rattle.spelling.specs.ShimTree.{returnForm, operandOf, slotAddressOf, operandsOf, shimOf}
-use Rattle.spelling.proofs.Lists.{count-within}
+use Rattle.spelling.specs.ShimTree.{returnForm, operandOf, slotAddressOf, operandsOf, shimTree}
+use Rattle.spelling.proofs.Lists.{few-between, none-or-one}
 use Rattle.spelling.proofs.TypeSpelling.{item-kept}
 use Rattle.spelling.proofs.TypeRules.{type-ok}
 use Rattle.spelling.proofs.Shapes.{Shaped, isBox, isUniquePtr, isRef, isStr, isSlice, isOther, shaped}
 use Rattle.spelling.proofs.Symbols.{externFn-symbol}
 use Rattle.spelling.proofs.DeclarationSpelling.{slot-fits}
-use Rattle.spelling.proofs.DeclarationRules.{slotTree-ok}
+use Rattle.spelling.proofs.DeclarationRules.{mapped-few, slot-few, slotTree-ok}
 use Rattle.spelling.proofs.Comments.{comments-ok}
 
 -- ---- operands
@@ -50,35 +48,10 @@ operand-ok Agreement.uniquePtr x h = h
 operand-ok Agreement.rustString x h = h
 operand-ok Agreement.otherIndirect x h = h
 
-one-argument : (p : Passing) (x : Name) (os : List Operand) →
-    callArguments (argumentOperand p x ∷ os) ≡ suc (callArguments os)
-unfolding callArguments
-one-argument Agreement.direct x os = refl
-one-argument Agreement.box x os = refl
-one-argument Agreement.uniquePtr x os = refl
-one-argument Agreement.rustString x os = refl
-one-argument Agreement.otherIndirect x os = refl
-
 slots-ok : (ts : List Ty) → every operandOk (map slotAddressOf ts) ≡ true
 unfolding every operandOk
 slots-ok [] = refl
 slots-ok (t ∷ ts) = slots-ok ts
-
-no-arguments : (ts : List Ty) → callArguments (map slotAddressOf ts) ≡ 0
-unfolding callArguments
-no-arguments [] = refl
-no-arguments (t ∷ ts) = no-arguments ts
-
-call-append : (os ps : List Operand) → callArguments (os ++ ps) ≡ callArguments os + callArguments ps
-unfolding callArguments
-call-append [] ps = omega arith
-call-append (Tree.receiver ∷ os) ps = call-append os ps
-call-append (Tree.direct x ∷ os) ps = omega (arith, call-append os ps)
-call-append (Tree.intoRaw x ∷ os) ps = omega (arith, call-append os ps)
-call-append (Tree.release x ∷ os) ps = omega (arith, call-append os ps)
-call-append (Tree.address x ∷ os) ps = omega (arith, call-append os ps)
-call-append (Tree.heldAddress x ∷ os) ps = omega (arith, call-append os ps)
-call-append (Tree.slotAddress ∷ os) ps = call-append os ps
 
 module _ (items : List Item) where
   operands-ok : (f : Function) → FunctionKept items f → every operandOk (operandsOf items f) ≡ true
@@ -102,23 +75,20 @@ module _ (items : List Item) where
           and-of (operandOk (operandOf items a)) _
           (operand-ok (passing items (a .type)) (a .name) (argument-name (length items) a (q .0))) (go xs (q .1))
 
-  few-operands : (f : Function) → FunctionKept items f → leb (callArguments (operandsOf items f)) 31 ≡ true
-  unfolding callArguments operandsOf
+  few-operands : (f : Function) → FunctionKept items f →
+      fewArguments isReceiver isSlotAddress (operandsOf items f) ≡ true
+  unfolding operandsOf atMostOne isReceiver isSlotAddress
   few-operands f g =
-      let few : length (f .arguments) ≤ 31 = leb-true (length (f .arguments)) 31 (g .fewArguments) in
-      count-within callArguments call-append (pick (isMethod (f .form)) (Tree.receiver ∷ []) [])
-      (map (operandOf items) (f .arguments)) (map slotAddressOf (slot items f)) 31 (none (isMethod (f .form)))
-      (omega (arith, all (f .arguments))) (no-arguments (slot items f))
+      few-between isReceiver isSlotAddress (pick (isMethod (f .form)) (Tree.receiver ∷ []) [])
+      (map (operandOf items) (f .arguments)) (map slotAddressOf (slot items f)) (one (isMethod (f .form)))
+      (mapped-few (operandOf items) f g)
+      (none-or-one isSlotAddress slotAddressOf (λ t. refl) (slot items f) (slot-few items f))
     where
-      none : (b : Bool) → callArguments (pick b (Tree.receiver ∷ []) []) ≡ 0
-      none true = refl
-      none false = refl
+      one : (b : Bool) → length (pick b (Tree.receiver ∷ []) []) ≤ atMostOne isReceiver (pick b (Tree.receiver ∷ []) [])
+      one true = omega arith
+      one false = omega arith
 
-      all : (xs : List Argument) → callArguments (map (operandOf items) xs) ≡ length xs
-      all [] = refl
-      all (a ∷ xs) = one-argument (passing items (a .type)) (a .name) (map (operandOf items) xs) ∙ ap suc (all xs)
-
-module _ (items : List Item) (kept : All (ItemKept items) items) where
+module _ (items : List Item) (kept : Each (ItemKept items) items) where
   -- ---- the call
 
   directForm-ok : {t : Ty} {k : Shape} → Shaped t k → typeFits 8 (length items) t ≡ true →
@@ -190,7 +160,7 @@ module _ (items : List Item) (kept : All (ItemKept items) items) where
 
   -- `int` is for `main` in the root
   main-root : (x : Item) (f : Function) → isMain x f ≡ true →
-      Rules.isMain (length (x .namespace)) (headOf items x (f .form)) ≡ true
+      Rules.isRootMain (length (x .namespace)) (headOf items x (f .form)) ≡ true
   unfolding isMain
   main-root x f h =
       let a = both _ _ h in
@@ -202,7 +172,7 @@ module _ (items : List Item) (kept : All (ItemKept items) items) where
     where
       go : (ns : List Name) (form : Form) → isRoot ns ≡ true → isFree form ≡ true →
           same (x .cxx) (bytes "main") ≡ true →
-          Rules.isMain (length ns) (headOf items x form) ≡ true
+          Rules.isRootMain (length ns) (headOf items x form) ≡ true
       go [] free r e h = h
       go [] (constMethod i) r e h = absurd (false≢true e)
       go [] (mutMethod i) r e h = absurd (false≢true e)
@@ -210,13 +180,13 @@ module _ (items : List Item) (kept : All (ItemKept items) items) where
       go (n ∷ ns) form r e h = absurd (false≢true r)
 
   result-ok : (x : Item) (f : Function) → FunctionKept items f →
-      resultOk (Rules.isMain (length (x .namespace)) (headOf items x (f .form)))
+      resultOk (Rules.isRootMain (length (x .namespace)) (headOf items x (f .form)))
       (pick (isMain x f) Tree.int (resultOf items (f .return))) ≡ true
   unfolding resultOk returnFits
   result-ok x f g = go (isMain x f) (main-root x f) (f .return) (g .returnFits)
     where
       main : Bool
-      main = Rules.isMain (length (x .namespace)) (headOf items x (f .form))
+      main = Rules.isRootMain (length (x .namespace)) (headOf items x (f .form))
 
       go : (b : Bool) → (b ≡ true → main ≡ true) → (r : Ret) → returnFits (length items) r ≡ true →
           resultOk main (pick b Tree.int (resultOf items r)) ≡ true
@@ -230,8 +200,8 @@ unfolding every commentsOk
 comments-kept true doxygen items f g = comments-ok doxygen (f .comment) (g .fewLines) (g .linesFit)
 comments-kept false doxygen items f g = refl
 
-pub shim-ok : (s : Sheet) → All (ItemKept (s .items)) (s .items) → (x : Item) → ItemKept (s .items) x → (f : Function) →
-    FunctionKept (s .items) f → shimOk (length (x .namespace)) (shimOf s x f) ≡ true
+pub shim-ok : (s : Sheet) → Each (ItemKept (s .items)) (s .items) → (x : Item) → ItemKept (s .items) x → (f : Function) →
+    FunctionKept (s .items) f → shimOk (length (x .namespace)) (shimTree s x f) ≡ true
 unfolding shimOk callOk slot
 shim-ok s kept x k f g =
     let items = s .items in

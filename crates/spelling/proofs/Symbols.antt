@@ -7,7 +7,7 @@ use lib.ListN.{length}
 use Rattle.lexical.specs.Bytes.{bytes, every, same, member}
 use Rattle.lexical.specs.Names.{nameChar, nameShape, nameOk, keywords, alternativeTokens, reserved, isName}
 use Rattle.lexical.proofs.BoolLaws.{both}
-use Rattle.lexical.proofs.ByteLaws.{every-append, every-weaken}
+use Rattle.lexical.proofs.ByteLaws.{Each, every-append, every-weaken}
 use Rattle.lexical.proofs.NameLaws.{name-chars}
 use Rattle.format.specs.Sheet.{Name, Form, free, constMethod, mutMethod, associated, Function, Item}
 use Rattle.syntax.specs.Items.{itemAt, selfType}
@@ -20,7 +20,7 @@ use Rattle.grammar.proofs.Pieces.{symbol-word}
 use Rattle.grammar.specs.Tree as Tree
 use Rattle.grammar.specs.Tree.{Measure}
 use Rattle.decoded.specs.Fits.{formFits}
-use Rattle.decoded.proofs.Kept.{All, ItemKept, FunctionKept}
+use Rattle.decoded.proofs.Kept.{ItemKept, FunctionKept}
 use Rattle.spelling.specs.DeclarationTree.{operatorName}
 use Rattle.spelling.proofs.Spells.{inside, Spells, word-spells}
 use Rattle.spelling.proofs.TypeSpelling.{item-kept}
@@ -69,7 +69,7 @@ symbol-spells s h = word-spells s (symbol-word s h)
 
 -- ---- the symbols of a sheet
 
-module _ (items : List Item) (kept : All (ItemKept items) items) where
+module _ (items : List Item) (kept : Each (ItemKept items) items) where
   self-names : (form : Form) → formFits (length items) form ≡ true →
       every segmentOk (map (λ i. itemAt items i .cxx) (selfType form)) ≡ true
   unfolding every formFits

@@ -8,6 +8,7 @@ use borrow.Author.Tests.{leb-true, le-leb}
 use lib.Dec.{leb, ltb}
 use lib.ListN.{length, length-append}
 use Rattle.lexical.proofs.BoolLaws.{both, and-of}
+use Rattle.lexical.proofs.ByteLaws.{Each}
 use Rattle.format.specs.declared.Pointer.{Pointer}
 use Rattle.format.specs.declared.Pointer.the-variants.{Ref, Ptr, SliceRef}
 use Rattle.format.specs.Types.{Ty, atom, named, template, pointer, str, fn, array, Ret, none, gives, Tys, nil, cons}
@@ -15,13 +16,13 @@ use Rattle.format.specs.Sheet.{Name, Item}
 use Rattle.syntax.specs.Items.{itemAt}
 use Rattle.rules.specs.Rules.{reservedNamespace}
 use Rattle.decoded.specs.Fits.{depth, depthRet, depthTys, count, partsFit, partsFitRet, partsFitTys, typeFits}
-use Rattle.decoded.proofs.Kept.{All, ItemKept}
+use Rattle.decoded.proofs.Kept.{ItemKept}
 use Rattle.grammar.specs.Types as Cxx
 use Rattle.grammar.specs.Types.{CxxType, Suffix, CxxTypes}
 use Rattle.grammar.specs.Rules
 use Rattle.grammar.specs.Rules.{ofStdOrRust, fullNameOk, levels, baseLevels, deepest, partsOk, baseOk, allPartsOk}
 use Rattle.grammar.specs.Rules.{typeOk}
-use Rattle.grammar.proofs.RuleFacts.{suffix-levels, suffix-parts}
+use Rattle.spelling.proofs.Suffixes.{suffix-levels, suffix-parts}
 use Rattle.spelling.specs.TypeTree.{itemPath, withSuffix, pointerTree, cxxType, fnTree, cxxTypes}
 use Rattle.spelling.proofs.TypeSpelling.{item-kept, itemPath-names}
 
@@ -62,8 +63,8 @@ not-reserved [] x h = refl
 not-reserved (n ∷ []) x h = h
 not-reserved (n ∷ (m ∷ ns)) x h = h
 
-count-same : (items : List Item) (ts : Tys) → Rules.count (cxxTypes items ts) ≡ count ts
-unfolding Rules.count count cxxTypes
+count-same : (items : List Item) (ts : Tys) → Rules.typeCount (cxxTypes items ts) ≡ count ts
+unfolding Rules.typeCount count cxxTypes
 count-same items nil = refl
 count-same items (cons t ts) = ap suc (count-same items ts)
 
@@ -82,7 +83,7 @@ pointer-parts Ref m x = suffix-parts (Cxx.reference (not m)) x
 pointer-parts Ptr m x = suffix-parts (Cxx.pointer (not m)) x
 pointer-parts SliceRef m x = refl
 
-module _ (items : List Item) (kept : All (ItemKept items) items) where
+module _ (items : List Item) (kept : Each (ItemKept items) items) where
   mutual
     unfolding partsOk partsFit cxxType
 
@@ -100,9 +101,9 @@ module _ (items : List Item) (kept : All (ItemKept items) items) where
         let q = both (ltb n 4294967296) (partsFit (length items) t) h in
         and-of (ltb n 4294967296) (partsOk (cxxType items t)) (q .0) (parts-ok t (q .1))
 
-    fn-parts : (r : Ret) (xs : CxxTypes) → leb (Rules.count xs) 15 ≡ true → partsFitRet (length items) r ≡ true →
+    fn-parts : (r : Ret) (xs : CxxTypes) → leb (Rules.typeCount xs) 15 ≡ true → partsFitRet (length items) r ≡ true →
         allPartsOk xs ≡ true → baseOk (fnTree items r xs) ≡ true
-    fn-parts none xs l h g = and-of (leb (Rules.count xs) 15) (allPartsOk xs) l g
+    fn-parts none xs l h g = and-of (leb (Rules.typeCount xs) 15) (allPartsOk xs) l g
     fn-parts (gives t) xs l h g = rw (l, parts-ok t h, g)
 
     all-parts : (ts : Tys) → partsFitTys (length items) ts ≡ true → allPartsOk (cxxTypes items ts) ≡ true

@@ -10,7 +10,7 @@ use Rattle.lexical.specs.Bytes.{bytes, every}
 use Rattle.lexical.specs.Names.{isName}
 use Rattle.lexical.specs.Decimal.{decimal}
 use Rattle.lexical.proofs.BoolLaws.{both}
-use Rattle.lexical.proofs.ByteLaws.{every-cons, every-snoc}
+use Rattle.lexical.proofs.ByteLaws.{Each, every-cons, every-snoc}
 use Rattle.format.specs.declared.Atom.{Atom}
 use Rattle.format.specs.declared.Atom.the-variants as Atom
 use Rattle.format.specs.declared.Template.{Template}
@@ -20,7 +20,7 @@ use Rattle.format.specs.Types.{Ty, atom, named, template, pointer, str, fn, arr
 use Rattle.format.specs.Sheet.{Name, Item}
 use Rattle.syntax.specs.Items.{itemAt, path, fullName}
 use Rattle.decoded.specs.Fits.{partsFit, partsFitRet, partsFitTys, count}
-use Rattle.decoded.proofs.Kept.{All, all-at, ItemKept}
+use Rattle.decoded.proofs.Kept.{all-at, ItemKept}
 use Rattle.bridge.specs.WriteType.{writeAtom, templateName, constUnless, pointerEnd, spaceAfterType, writeType}
 use Rattle.bridge.specs.WriteType.{writeRet, writeTypes, writeTypeSpace}
 use Rattle.grammar.specs.Token.{Token, quoted}
@@ -28,11 +28,12 @@ use Rattle.grammar.specs.Types as Cxx
 use Rattle.grammar.specs.Types.{CxxType, Suffix, CxxTypes}
 use Rattle.grammar.specs.Tokens.{pathTokens, atomTokens, templateTokens, constTokens, suffixTokens, typeTokens}
 use Rattle.grammar.specs.Tokens.{baseTokens, typesTokens, moreTypesTokens}
-use Rattle.spelling.specs.TypeTree.{atomTree, templateTree, itemPath, withSuffix, cxxType, fnTree, cxxTypes}
+use Rattle.agreement.specs.Atoms.{atomTree}
+use Rattle.spelling.specs.TypeTree.{templateTree, itemPath, withSuffix, cxxType, fnTree, cxxTypes}
 use Rattle.spelling.proofs.Spells.{End, closed, inside, Spells, meets, _▷_, _▷⟨_⟩_, weaken, as-tokens, empty}
 use Rattle.spelling.proofs.Spells.{lit, word-spells, name-spells}
 use Rattle.grammar.proofs.Decimal.{decimal-word}
-use Rattle.grammar.proofs.Pieces.{suffix-tokens}
+use Rattle.spelling.proofs.Suffixes.{suffix-tokens}
 
 -- ---- full names
 
@@ -141,7 +142,7 @@ more-meets items (cons t ts) = refl
 
 -- ---- types, where every item index has its item
 
-module _ (items : List Item) (kept : All (ItemKept items) items) where
+module _ (items : List Item) (kept : Each (ItemKept items) items) where
   pub item-kept : (i : ℕ) → ltb i (length items) ≡ true → ItemKept items (itemAt items i)
   unfolding itemAt
   item-kept i h = all-at (ItemKept items) items i _ kept (ltb-true i (length items) h)

@@ -85,8 +85,8 @@ endingOf [] = Tree.noReturn
 endingOf (t ∷ ts) = slotEnding (shape t)
 
 -- "A shim is a head, comment lines before it, held locals, the call, the error test and the return."
-abbrev pub shimOf : Sheet → Item → Function → Shim
-shimOf s x f =
+abbrev pub shimTree : Sheet → Item → Function → Shim
+shimTree s x f =
     record {
       comments = pick (isFree (f .form)) (commentsOf (s .doxygen) (f .comment)) [];
       result = pick (isMain x f) Tree.int (resultOf (s .items) (f .return));

@@ -1,8 +1,6 @@
 -- The grammar's tree of each type of a sheet.
 use mathlib.Core.List.{List, [], _∷_, _++_}
 use mathlib.Core.Bool.{Bool, not}
-use Rattle.format.specs.declared.Atom.{Atom}
-use Rattle.format.specs.declared.Atom.the-variants as Atom
 use Rattle.format.specs.declared.Template.{Template}
 use Rattle.format.specs.declared.Template.the-variants.{RustBox, RustVec, UniquePtr, SharedPtr, WeakPtr, CxxVector}
 use Rattle.format.specs.declared.Pointer.{Pointer}
@@ -12,24 +10,7 @@ use Rattle.format.specs.Sheet.{Name, Item}
 use Rattle.syntax.specs.Items.{itemAt}
 use Rattle.grammar.specs.Types as Cxx
 use Rattle.grammar.specs.Types.{CxxType, suffixed, CxxTypes, Base, Suffix}
-
-abbrev pub atomTree : Atom → Cxx.Atom
-atomTree Atom.Bool = Cxx.bool
-atomTree Atom.Char = Cxx.char
-atomTree Atom.U8 = Cxx.u8
-atomTree Atom.U16 = Cxx.u16
-atomTree Atom.U32 = Cxx.u32
-atomTree Atom.U64 = Cxx.u64
-atomTree Atom.Usize = Cxx.usize
-atomTree Atom.I8 = Cxx.i8
-atomTree Atom.I16 = Cxx.i16
-atomTree Atom.I32 = Cxx.i32
-atomTree Atom.I64 = Cxx.i64
-atomTree Atom.Isize = Cxx.isize
-atomTree Atom.F32 = Cxx.f32
-atomTree Atom.F64 = Cxx.f64
-atomTree Atom.CxxString = Cxx.cxxString
-atomTree Atom.RustString = Cxx.rustString
+use Rattle.agreement.specs.Atoms.{atomTree}
 
 abbrev pub templateTree : Template → Cxx.Template
 templateTree RustBox = Cxx.box
