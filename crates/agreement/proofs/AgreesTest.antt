@@ -9,7 +9,7 @@ use Rattle.lexical.proofs.ByteLaws.{same-refl}
 use Rattle.format.specs.Sheet.{Name, Item}
 use Rattle.grammar.specs.Tree as Tree
 use Rattle.grammar.specs.Tree.{Operand}
-use Rattle.agreement.specs.Agreement.{RustFunction, rustFunctions, symbolOf, argumentNames, parameterNames}
+use Rattle.agreement.specs.Agreement.{RustFunction, rustFunctions, functionSymbol, argumentNames, parameterNames}
 use Rattle.agreement.specs.Agreement.{headNames, Declared, Defined, declarations, shims, ofFunctions, parameterName}
 use Rattle.agreement.specs.Agreement.{headParts, fitting, only, Matches, MatchAll, Agrees}
 
@@ -60,7 +60,7 @@ module _ (items : List Item) where
   abbrev matchTest : RustFunction → Declared → Defined → Bool
   matchTest f d s =
       sameNames (d .namespace) (f .namespace) && (sameNames (s .namespace) (f .namespace)
-      && (same (d .declaration .symbol) (symbolOf items f)
+      && (same (d .declaration .symbol) (functionSymbol items f)
       && (sameNames (map parameterName (d .declaration .parameters)) (parameterNames items (f .function))
       && (sameNames (headParts (s .shim .head)) (headNames items f)
       && (sameNames (map parameterName (s .shim .parameters)) (argumentNames (f .function))
@@ -101,9 +101,9 @@ module _ (items : List Item) where
   abbrev pub agreesTest : Tree.Text → Bool
   agreesTest (Tree.text forward body) =
       matchAllTest (rustFunctions items)
-      (ofFunctions (map (symbolOf items) (rustFunctions items)) (declarations [] body)) (shims [] body)
+      (ofFunctions (map (functionSymbol items) (rustFunctions items)) (declarations [] body)) (shims [] body)
 
   pub agrees-told : (t : Tree.Text) → Agrees items t → agreesTest t ≡ true
   agrees-told (Tree.text forward body) m =
       match-all-told (rustFunctions items)
-      (ofFunctions (map (symbolOf items) (rustFunctions items)) (declarations [] body)) (shims [] body) m
+      (ofFunctions (map (functionSymbol items) (rustFunctions items)) (declarations [] body)) (shims [] body) m
