@@ -1,8 +1,8 @@
--- Written by tools/proofkit from answers/put_unless.tpl (601d08f5 fbc689c8).
+-- Written by tools/proofkit from answers/put_unless.tpl (9aa803fa 0b9373ff).
 use borrow.Author.Needs.{needs}
 use Rattle.sink.proofs.SinkLaws.{wrote-nil}
-use Rattle.shape.proofs.put_unless.Statement.{statement}
-use Rattle.shape.proofs.put_unless.Tie as tie
+use Rattle.sink.proofs.put_unless.Statement.{statement}
+use Rattle.sink.proofs.put_unless.Tie as tie
 
 returns : tie.Need-returns
 returns c = rw (c .if1 .taken) (wrote-nil _)
