@@ -83,6 +83,7 @@ fn shape_kind(kind: TypeKind) -> ShapeKind
     }
 }
 
+// Whether a shape is a reference.
 pub fn is_ref(kind: ShapeKind) -> bool
     ensures { λ r. ⌜ r ≡ isRef kind ⌝ }
 {
