@@ -18,20 +18,6 @@ use Rattle.shape.specs.Shapes.{shapeWith, isRef, ShapeOf}
 use Rattle.shape.proofs.ShapeLaws.{by-shape}
 use Rattle.call.specs.Calls.{isClosed}
 
--- a text that stands where the test holds
-pub where-yes : {b : Bool} {x : List ℕ} {r t : Sink} → b ≡ true → Wrote r x t → Wrote r (pickText b x []) t
-where-yes e p = rw e p
-
-pub where-no : {b : Bool} (x : List ℕ) (r : Sink) → b ≡ false → Wrote r (pickText b x []) r
-where-no x r e = rw e (wrote-nil r)
-
--- one of two
-pub first-text : {b : Bool} {x : List ℕ} (y : List ℕ) {r t : Sink} → b ≡ true → Wrote r x t → Wrote r (pickText b x y) t
-first-text y e p = rw e p
-
-pub second-text : {b : Bool} (x : List ℕ) {y : List ℕ} {r t : Sink} → b ≡ false → Wrote r y t → Wrote r (pickText b x y) t
-second-text x e p = rw e p
-
 -- ---- by kind
 
 end-of : (k : ShapeKind) (m : Bool) (t : Ty) → callEnd (shapeWith k m t) ≡ pickText (isClosed k) (bytes ")") []

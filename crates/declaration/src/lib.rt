@@ -15,7 +15,6 @@ use view::ItemView;
 ghost use mathlib.Core.Path.{_≡_};
 ghost use Prim.Native.Nat.{_≤_};
 ghost use lib.ListN.{length};
-ghost use Rattle.lexical.specs.Bytes.{bytes};
 ghost use Rattle.format.specs.Decoding.{type};
 ghost use Rattle.syntax.specs.Items.{itemAt};
 ghost use Rattle.bridge.specs.Write.{shape as shapeOf, directReturn, externReturn};
@@ -23,26 +22,6 @@ ghost use Rattle.bridge.specs.Write.{functionDecl, layoutDecl, layoutDefinition
 ghost use Rattle.sink.specs.Sink.{sink, Wrote};
 ghost use Rattle.view.specs.Values.{Yields, itemsAt, functionAt, typeHere, Whole};
 ghost use Rattle.view.specs.Views.{ItemAt, FunctionAt, ArgumentsAt};
-
-// ---- texts
-
-fn put_void(out: &mut [u8], at: usize) -> usize
-    ensures { λ r. ⌜ Wrote (sink (now (out .entry)) at) (bytes "void ") (sink (now (out .exit)) r) ⌝ }
-{
-    put_bytes(out, at, b"void ")
-}
-
-fn put_fat(out: &mut [u8], at: usize) -> usize
-    ensures { λ r. ⌜ Wrote (sink (now (out .entry)) at) (bytes "::rust::repr::Fat ") (sink (now (out .exit)) r) ⌝ }
-{
-    put_bytes(out, at, b"::rust::repr::Fat ")
-}
-
-fn put_ptr_len(out: &mut [u8], at: usize) -> usize
-    ensures { λ r. ⌜ Wrote (sink (now (out .entry)) at) (bytes "::rust::repr::PtrLen ") (sink (now (out .exit)) r) ⌝ }
-{
-    put_bytes(out, at, b"::rust::repr::PtrLen ")
-}
 
 // ---- the return type
 
@@ -68,8 +47,8 @@ fn write_direct_return(
         ShapeKind::RustBox => write_pointer(s, names, items, v.inner, true, out, at),
         ShapeKind::UniquePtr => write_pointer(s, names, items, v.inner, true, out, at),
         ShapeKind::Ref => write_pointer(s, names, items, v.inner, v.mutable, out, at),
-        ShapeKind::Str => put_fat(out, at),
-        ShapeKind::SliceRef => put_fat(out, at),
+        ShapeKind::Str => put_bytes(out, at, b"::rust::repr::Fat "),
+        ShapeKind::SliceRef => put_bytes(out, at, b"::rust::repr::Fat "),
         ShapeKind::Other => write_outermost_space(s, names, items, c, out, at),
     }
 }
@@ -90,31 +69,19 @@ fn write_extern_return(
         (sink (now (out .exit)) r) ⌝ }
 {
     if f.throws {
-        return put_ptr_len(out, at);
+        return put_bytes(out, at, b"::rust::repr::PtrLen ");
     }
     let indirect = indirect_return(s, names, items, f);
     if indirect {
-        return put_void(out, at);
+        return put_bytes(out, at, b"void ");
     }
     if f.returns {
         return write_direct_return(s, names, items, f.result, out, at);
     }
-    put_void(out, at)
+    put_bytes(out, at, b"void ")
 }
 
 // ---- the declaration
-
-fn put_open(out: &mut [u8], at: usize) -> usize
-    ensures { λ r. ⌜ Wrote (sink (now (out .entry)) at) (bytes "(") (sink (now (out .exit)) r) ⌝ }
-{
-    put_bytes(out, at, b"(")
-}
-
-fn put_close(out: &mut [u8], at: usize) -> usize
-    ensures { λ r. ⌜ Wrote (sink (now (out .entry)) at) (bytes ") noexcept;\n") (sink (now (out .exit)) r) ⌝ }
-{
-    put_bytes(out, at, b") noexcept;\n")
-}
 
 // `write_rust_function_decl_impl`
 pub fn write_function_decl(
@@ -138,54 +105,12 @@ pub fn write_function_decl(
 {
     let returned = write_extern_return(s, names, items, f, out, at);
     let named = write_extern_fn(s, names, items, v, f, out, returned);
-    let opened = put_open(out, named);
+    let opened = put_bytes(out, named, b"(");
     let listed = write_parameters(s, names, items, f, offsets, out, opened);
-    put_close(out, listed)
+    put_bytes(out, listed, b") noexcept;\n")
 }
 
 // ---- layout functions
-
-fn put_size_type(out: &mut [u8], at: usize) -> usize
-    ensures { λ r. ⌜ Wrote (sink (now (out .entry)) at) (bytes "::std::size_t ") (sink (now (out .exit)) r) ⌝ }
-{
-    put_bytes(out, at, b"::std::size_t ")
-}
-
-fn put_noexcept(out: &mut [u8], at: usize) -> usize
-    ensures { λ r. ⌜ Wrote (sink (now (out .entry)) at) (bytes "() noexcept;\n") (sink (now (out .exit)) r) ⌝ }
-{
-    put_bytes(out, at, b"() noexcept;\n")
-}
-
-fn put_layout(out: &mut [u8], at: usize) -> usize
-    ensures { λ r. ⌜ Wrote (sink (now (out .entry)) at) (bytes "::layout::") (sink (now (out .exit)) r) ⌝ }
-{
-    put_bytes(out, at, b"::layout::")
-}
-
-fn put_begin(out: &mut [u8], at: usize) -> usize
-    ensures { λ r. ⌜ Wrote (sink (now (out .entry)) at) (bytes "() noexcept {\n") (sink (now (out .exit)) r) ⌝ }
-{
-    put_bytes(out, at, b"() noexcept {\n")
-}
-
-fn put_return(out: &mut [u8], at: usize) -> usize
-    ensures { λ r. ⌜ Wrote (sink (now (out .entry)) at) (bytes "  return ") (sink (now (out .exit)) r) ⌝ }
-{
-    put_bytes(out, at, b"  return ")
-}
-
-fn put_call(out: &mut [u8], at: usize) -> usize
-    ensures { λ r. ⌜ Wrote (sink (now (out .entry)) at) (bytes "();\n") (sink (now (out .exit)) r) ⌝ }
-{
-    put_bytes(out, at, b"();\n")
-}
-
-fn put_end(out: &mut [u8], at: usize) -> usize
-    ensures { λ r. ⌜ Wrote (sink (now (out .entry)) at) (bytes "}\n") (sink (now (out .exit)) r) ⌝ }
-{
-    put_bytes(out, at, b"}\n")
-}
 
 // The declaration of an opaque type's size or alignment.
 pub fn write_layout_decl(
@@ -202,9 +127,9 @@ pub fn write_layout_decl(
         (layoutDecl (itemAt (itemsAt (now (s .entry)) (now (names .entry)) (now (items .entry))) (v .number))
         (now (name .entry))) (sink (now (out .exit)) r) ⌝ }
 {
-    let typed = put_size_type(out, at);
+    let typed = put_bytes(out, at, b"::std::size_t ");
     let named = write_operator(s, names, items, v, name, out, typed);
-    put_noexcept(out, named)
+    put_bytes(out, named, b"() noexcept;\n")
 }
 
 // Its definition as a member of the type's layout.
@@ -223,13 +148,13 @@ pub fn write_layout_definition(
         (layoutDefinition (itemAt (itemsAt (now (s .entry)) (now (names .entry)) (now (items .entry))) (v .number))
         (now (member .entry)) (now (name .entry))) (sink (now (out .exit)) r) ⌝ }
 {
-    let typed = put_size_type(out, at);
+    let typed = put_bytes(out, at, b"::std::size_t ");
     let of = write_cxx_name(s, names, items, v.number, out, typed);
-    let inside = put_layout(out, of);
+    let inside = put_bytes(out, of, b"::layout::");
     let named = put_bytes(out, inside, member);
-    let begun = put_begin(out, named);
-    let returned = put_return(out, begun);
+    let begun = put_bytes(out, named, b"() noexcept {\n");
+    let returned = put_bytes(out, begun, b"  return ");
     let called = write_operator(s, names, items, v, name, out, returned);
-    let ended = put_call(out, called);
-    put_end(out, ended)
+    let ended = put_bytes(out, called, b"();\n");
+    put_bytes(out, ended, b"}\n")
 }

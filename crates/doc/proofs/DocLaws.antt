@@ -124,12 +124,6 @@ module _ (f : List ℕ → List ℕ) (s : List ℕ) (n at : ℕ) where
 
 -- ---- the comment
 
-pub pick-yes : {b : Bool} {x : List ℕ} (y : List ℕ) → b ≡ true → x ≡ pickText b x y
-pick-yes y e = rw e
-
-pub pick-no : {b : Bool} (x : List ℕ) {y : List ℕ} → b ≡ false → y ≡ pickText b x y
-pick-no x e = rw e
-
 module _ (s : List ℕ) (at : ℕ) {f : Found} (y : Yields (commentLines s at) (valueOr [] (commentLines s at)))
     (h : Finds (bits 5 s at) 5 f) where
   lines : many (f .value) line s (f .next .at) ≡ got (valueOr [] (commentLines s at)) (nextOf (commentLines s at))

@@ -20,7 +20,7 @@ ghost use Rattle.view.specs.Values.{valueOr, nextOf, Yields};
 ghost use Rattle.view.specs.Views.{commentLines};
 
 // Where a writer is: in the text, and behind the line that it has written.
-struct Walked {
+struct WrittenLine {
     at: usize,
     next: Cursor,
 }
@@ -37,7 +37,7 @@ fn put_slashes(doxygen: bool, out: &mut [u8], at: usize) -> usize
 }
 
 // The line at c.
-fn write_line(s: &[u8], doxygen: bool, c: Cursor, out: &mut [u8], at: usize) -> Walked
+fn write_line(s: &[u8], doxygen: bool, c: Cursor, out: &mut [u8], at: usize) -> WrittenLine
     requires { ⌜ Limited (now s) × Yields (line (now s) (c .at)) (valueOr [] (line (now s) (c .at))) ⌝ }
     ensures { λ r. ⌜ Wrote (sink (now (out .entry)) at)
         (pickText doxygen (bytes "///") (bytes "//") ++ valueOr [] (line (now (s .entry)) (c .at)) ++ bytes "\n")
@@ -48,10 +48,8 @@ fn write_line(s: &[u8], doxygen: bool, c: Cursor, out: &mut [u8], at: usize) -> 
     let b = put_chars(s, length.next, length.value, out, a);
     let here = put_bytes(out, b, b"\n");
     let end = length.next.at + length.value * 7;
-    Walked {
-        at: here,
-        next: Cursor { at: end },
-    }
+    let next = Cursor::new(end);
+    WrittenLine { at: here, next }
 }
 
 // The n lines at c.

@@ -27,12 +27,6 @@ use Rattle.shape.proofs.TypeLaws.{here-is}
 use Rattle.shape.proofs.FunctionLaws.{returned, returned-none}
 use Rattle.shape.proofs.CommaLaws.{gather-one, gather-none}
 
-pub pick-yes : {b : Bool} {x : List ℕ} (y : List ℕ) → b ≡ true → x ≡ pickText b x y
-pick-yes y e = rw e
-
-pub pick-no : {b : Bool} (x : List ℕ) {y : List ℕ} → b ≡ false → y ≡ pickText b x y
-pick-no x e = rw e
-
 -- ---- main
 
 root-is : (ns : List Name) → isRoot ns ≡ eqb (length ns) 0

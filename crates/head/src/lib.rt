@@ -1,19 +1,18 @@
 // The head of a shim.
 use mangle::write_cxx_name;
 use put_name::put_name_of;
-use shape::put_unless;
 use shape::write_outermost_space;
 use sink::put_bytes;
+use sink::put_unless;
 use sink::put_when;
 use view::FunctionView;
 use view::ItemView;
 use view::argument;
 use view::name_is;
 ghost use mathlib.Core.Path.{_≡_};
-ghost use mathlib.Core.List.{[], _++_, map};
+ghost use mathlib.Core.List.{_++_, map};
 ghost use mathlib.Core.Bool.{false, _&&_};
 ghost use Prim.Native.Nat.{_≤_, _<_};
-ghost use lib.Dec.{eqb};
 ghost use lib.ListN.{length};
 ghost use Rattle.lexical.specs.Bytes.{bytes};
 ghost use Rattle.lexical.specs.Decimal.{pickText};
@@ -193,32 +192,6 @@ fn write_parameters(
     here
 }
 
-fn put_open(out: &mut [u8], at: usize) -> usize
-    ensures { λ r. ⌜ Wrote (sink (now (out .entry)) at) (bytes "(") (sink (now (out .exit)) r) ⌝ }
-{
-    put_bytes(out, at, b"(")
-}
-
-fn put_close(out: &mut [u8], at: usize) -> usize
-    ensures { λ r. ⌜ Wrote (sink (now (out .entry)) at) (bytes ")") (sink (now (out .exit)) r) ⌝ }
-{
-    put_bytes(out, at, b")")
-}
-
-fn put_const(f: FunctionView, out: &mut [u8], at: usize) -> usize
-    ensures { λ r. ⌜ Wrote (sink (now (out .entry)) at) (pickText (eqb (f .form) 1) (bytes " const") [])
-        (sink (now (out .exit)) r) ⌝ }
-{
-    put_when(out, at, f.form == 1, b" const")
-}
-
-fn put_noexcept(f: FunctionView, out: &mut [u8], at: usize) -> usize
-    ensures { λ r. ⌜ Wrote (sink (now (out .entry)) at) (pickText (f .throws) [] (bytes " noexcept"))
-        (sink (now (out .exit)) r) ⌝ }
-{
-    put_unless(out, at, f.throws, b" noexcept")
-}
-
 // The head of the function's shim.
 pub fn write_shim_decl(
     s: &[u8],
@@ -241,9 +214,9 @@ pub fn write_shim_decl(
 {
     let a = write_shim_type(s, names, items, v, f, out, at);
     let b = write_local_name(s, names, items, v, f, out, a);
-    let c = put_open(out, b);
+    let c = put_bytes(out, b, b"(");
     let d = write_parameters(s, names, items, f, offsets, out, c);
-    let e = put_close(out, d);
-    let g = put_const(f, out, e);
-    put_noexcept(f, out, g)
+    let e = put_bytes(out, d, b")");
+    let g = put_when(out, e, f.form == 1, b" const");
+    put_unless(out, g, f.throws, b" noexcept")
 }

@@ -15,7 +15,7 @@ use Rattle.view.specs.declared.ItemView.{ItemView}
 use Rattle.view.specs.declared.FunctionView.{FunctionView}
 use Rattle.view.specs.Values.{nameAt, itemsAt, functionAt}
 use Rattle.view.specs.Views.{ItemAt, FunctionAt}
-use Rattle.mangle.specs.Segments.{between}
+use Rattle.mangle.specs.Segments.{eachBetween}
 use Rattle.mangle.proofs.SegmentLaws.{segments-turn, segments-all, path-end, join-version, push-two, push-three}
 
 -- ---- one segment more
@@ -35,18 +35,18 @@ module _ {s names items : List ℕ} {v : ItemView} (a : ItemAt s names items v) 
 
   -- the loop over its namespaces
   module _ (before behind : List ℕ) where
-    pub spaces-none : (r : Sink) → Wrote r (between before behind (take 0 spaces)) r
-    unfolding between
+    pub spaces-none : (r : Sink) → Wrote r (eachBetween before behind (take 0 spaces)) r
+    unfolding eachBetween
     spaces-none r = wrote-nil r
 
     module _ {d : ℕ} {r t : Sink} where
       pub spaces-turn : {u w z : Sink} {x : Name} → d < v .depth → x ≡ getD spaces d [] →
-          Wrote r (between before behind (take d spaces)) t → Wrote t before u → Wrote u x w → Wrote w behind z →
-          Wrote r (between before behind (take (d + 1) spaces)) z
+          Wrote r (eachBetween before behind (take d spaces)) t → Wrote t before u → Wrote u x w → Wrote w behind z →
+          Wrote r (eachBetween before behind (take (d + 1) spaces)) z
       spaces-turn h e p q x y = segments-turn before behind spaces (rw (← a .view .depth) h) e p q x y
 
-      pub spaces-all : v .depth ≤ d → Wrote r (between before behind (take d spaces)) t →
-          Wrote r (between before behind spaces) t
+      pub spaces-all : v .depth ≤ d → Wrote r (eachBetween before behind (take d spaces)) t →
+          Wrote r (eachBetween before behind spaces) t
       spaces-all h p = segments-all before behind spaces {d = d} (rw (← a .view .depth) h) p
 
   module _ {r t : Sink} where
@@ -55,14 +55,14 @@ module _ {s names items : List ℕ} {v : ItemView} (a : ItemAt s names items v) 
     cxx-name e p = wrote-as p (rw (← e) (a .view .cxx))
 
     -- its full name
-    pub full-name : {i : ℕ} {u w : Sink} → v .number ≡ i → Wrote r (between (bytes "::") [] spaces) t →
+    pub full-name : {i : ℕ} {u w : Sink} → v .number ≡ i → Wrote r (eachBetween (bytes "::") [] spaces) t →
         Wrote t (bytes "::") u → Wrote u (nameAt s (getD names (v .name) 0)) w → Wrote r (fullName (itemOf i)) w
     unfolding fullName
     full-name e p q x =
         wrote-as (p ▷ q ▷ x) (rw (← e, a .view .cxx) (sym (path-end spaces (itemOf (v .number) .cxx))))
 
     -- what its symbols begin with
-    pub begun : {u : Sink} → Wrote r (between [] (bytes "$") spaces) t → Wrote t (bytes "cxxbridge1$205") u →
+    pub begun : {u : Sink} → Wrote r (eachBetween [] (bytes "$") spaces) t → Wrote t (bytes "cxxbridge1$205") u →
         Wrote r (join (spaces ++ version)) u
     begun p q = wrote-as (p ▷ q) (sym (join-version spaces))
 

@@ -11,33 +11,34 @@ use Rattle.syntax.specs.Symbol.{pushAll, join}
 use Rattle.syntax.specs.Mangle.{version}
 use Rattle.sink.specs.Sink.{Sink, Wrote}
 use Rattle.sink.proofs.SinkLaws.{_▷_, wrote-as}
-use Rattle.mangle.specs.Segments.{between}
+use Rattle.mangle.specs.Segments.{eachBetween}
 
 -- ---- each between two texts
 
 module _ (before behind : List ℕ) where
   between-end : (xs : List (List ℕ)) (x : List ℕ) →
-      between before behind (xs ++ (x ∷ [])) ≡ between before behind xs ++ before ++ x ++ behind
-  unfolding between
+      eachBetween before behind (xs ++ (x ∷ [])) ≡ eachBetween before behind xs ++ before ++ x ++ behind
+  unfolding eachBetween
   between-end [] x = append-nil _
   between-end (y ∷ xs) x = rw (between-end xs x) (simp append-assoc)
 
   -- a loop that writes the segments xs: a turn, and the end
   module _ (xs : List (List ℕ)) {d : ℕ} {r t : Sink} where
     pub segments-turn : {u v w : Sink} {x : List ℕ} → d < length xs → x ≡ getD xs d [] →
-        Wrote r (between before behind (take d xs)) t → Wrote t before u → Wrote u x v → Wrote v behind w →
-        Wrote r (between before behind (take (d + 1) xs)) w
+        Wrote r (eachBetween before behind (take d xs)) t → Wrote t before u → Wrote u x v → Wrote v behind w →
+        Wrote r (eachBetween before behind (take (d + 1) xs)) w
     segments-turn h e p a b c =
         wrote-as (p ▷ a ▷ b ▷ c) (rw (add-one, take-suc xs d [] h, between-end, e))
 
-    pub segments-all : length xs ≤ d → Wrote r (between before behind (take d xs)) t →
-        Wrote r (between before behind xs) t
-    segments-all h p = wrote-as p (ap (between before behind) (take-all d xs h))
+    pub segments-all : length xs ≤ d → Wrote r (eachBetween before behind (take d xs)) t →
+        Wrote r (eachBetween before behind xs) t
+    segments-all h p = wrote-as p (ap (eachBetween before behind) (take-all d xs h))
 
 -- ---- full names
 
-pub path-end : (xs : List (List ℕ)) (x : List ℕ) → path (xs ++ (x ∷ [])) ≡ between (bytes "::") [] xs ++ bytes "::" ++ x
-unfolding between path
+pub path-end : (xs : List (List ℕ)) (x : List ℕ) →
+    path (xs ++ (x ∷ [])) ≡ eachBetween (bytes "::") [] xs ++ bytes "::" ++ x
+unfolding eachBetween path
 path-end [] x = append-nil _
 path-end (y ∷ xs) x = rw (path-end xs x) (simp append-assoc)
 
@@ -55,8 +56,8 @@ module _ (x : List ℕ) (ys : List (List ℕ)) where
   push-join (z ∷ xs) = refl
 
   -- the first segments with their `$` behind them
-  join-between : (xs : List (List ℕ)) → join (xs ++ (x ∷ ys)) ≡ between [] (bytes "$") xs ++ join (x ∷ ys)
-  unfolding join between
+  join-between : (xs : List (List ℕ)) → join (xs ++ (x ∷ ys)) ≡ eachBetween [] (bytes "$") xs ++ join (x ∷ ys)
+  unfolding join eachBetween
   join-between [] = refl
   join-between (z ∷ xs) = rw (push-join xs, join-between xs) (simp append-assoc)
 
@@ -67,7 +68,7 @@ module _ (x : List ℕ) (ys : List (List ℕ)) where
   join-more (w ∷ xs) zs = rw (push-more (xs ++ (x ∷ ys)) zs) (simp append-assoc)
 
 module _ (xs : List (List ℕ)) where
-  pub join-version : join (xs ++ version) ≡ between [] (bytes "$") xs ++ bytes "cxxbridge1$205"
+  pub join-version : join (xs ++ version) ≡ eachBetween [] (bytes "$") xs ++ bytes "cxxbridge1$205"
   unfolding join pushAll
   join-version = join-between (bytes "cxxbridge1") (bytes "205" ∷ []) xs
 

@@ -7,7 +7,7 @@ ghost use Rattle.sink.specs.Sink.{sink, Wrote};
 ghost use Rattle.syntax.specs.Items.{itemAt};
 ghost use Rattle.view.specs.Values.{itemsAt, Whole};
 ghost use Rattle.view.specs.Views.{ItemAt};
-ghost use Rattle.mangle.specs.Segments.{between};
+ghost use Rattle.mangle.specs.Segments.{eachBetween};
 
 // Each namespace of an item, from the outermost on, with one text before it and one behind it.
 pub fn write_namespace(
@@ -21,7 +21,7 @@ pub fn write_namespace(
     at: usize,
 ) -> usize
     requires { ⌜ Whole (now s) (now names) (now items) × ItemAt (now s) (now names) (now items) v ⌝ }
-    ensures { λ r. ⌜ Wrote (sink (now (out .entry)) at) (between (now (before .entry)) (now (behind .entry))
+    ensures { λ r. ⌜ Wrote (sink (now (out .entry)) at) (eachBetween (now (before .entry)) (now (behind .entry))
         (itemAt (itemsAt (now (s .entry)) (now (names .entry)) (now (items .entry))) (v .number) .namespace))
         (sink (now (out .exit)) r) ⌝ }
 {

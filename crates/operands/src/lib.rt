@@ -46,31 +46,6 @@ fn is_held(s: &[u8], names: &[u32], items: &[u32], c: Cursor) -> bool
 
 // ---- locals
 
-fn put_manually_drop(out: &mut [u8], at: usize) -> usize
-    ensures { λ r. ⌜ Wrote (sink (now (out .entry)) at) (bytes "  ::rust::ManuallyDrop<")
-        (sink (now (out .exit)) r) ⌝ }
-{
-    put_bytes(out, at, b"  ::rust::ManuallyDrop<")
-}
-
-fn put_angle(out: &mut [u8], at: usize) -> usize
-    ensures { λ r. ⌜ Wrote (sink (now (out .entry)) at) (bytes "> ") (sink (now (out .exit)) r) ⌝ }
-{
-    put_bytes(out, at, b"> ")
-}
-
-fn put_move(out: &mut [u8], at: usize) -> usize
-    ensures { λ r. ⌜ Wrote (sink (now (out .entry)) at) (bytes "$(::std::move(") (sink (now (out .exit)) r) ⌝ }
-{
-    put_bytes(out, at, b"$(::std::move(")
-}
-
-fn put_local_end(out: &mut [u8], at: usize) -> usize
-    ensures { λ r. ⌜ Wrote (sink (now (out .entry)) at) (bytes "));\n") (sink (now (out .exit)) r) ⌝ }
-{
-    put_bytes(out, at, b"));\n")
-}
-
 // The local that holds the argument a.
 fn write_local(
     s: &[u8],
@@ -89,13 +64,13 @@ fn write_local(
         (getD (now (names .entry)) (a .name) 0) ++ bytes "$(::std::move(" ++ nameAt (now (s .entry))
         (getD (now (names .entry)) (a .name) 0) ++ bytes "));\n") (sink (now (out .exit)) r) ⌝ }
 {
-    let b = put_manually_drop(out, at);
+    let b = put_bytes(out, at, b"  ::rust::ManuallyDrop<");
     let c = write_outermost(s, names, items, a.of, out, b);
-    let d = put_angle(out, c);
+    let d = put_bytes(out, c, b"> ");
     let e = put_name_of(s, names, a.name, out, d);
-    let g = put_move(out, e);
+    let g = put_bytes(out, e, b"$(::std::move(");
     let h = put_name_of(s, names, a.name, out, g);
-    put_local_end(out, h)
+    put_bytes(out, h, b"));\n")
 }
 
 // The local that holds argument j, where one does.
@@ -152,45 +127,19 @@ pub fn write_held_locals(
 
 // ---- operands
 
-fn put_into_raw(out: &mut [u8], at: usize) -> usize
-    ensures { λ r. ⌜ Wrote (sink (now (out .entry)) at) (bytes ".into_raw()") (sink (now (out .exit)) r) ⌝ }
-{
-    put_bytes(out, at, b".into_raw()")
-}
-
-fn put_release(out: &mut [u8], at: usize) -> usize
-    ensures { λ r. ⌜ Wrote (sink (now (out .entry)) at) (bytes ".release()") (sink (now (out .exit)) r) ⌝ }
-{
-    put_bytes(out, at, b".release()")
-}
-
-fn put_value(held: bool, out: &mut [u8], at: usize) -> usize
-    ensures { λ r. ⌜ Wrote (sink (now (out .entry)) at) (pickText held (bytes "$.value") [])
-        (sink (now (out .exit)) r) ⌝ }
-{
-    put_when(out, at, held, b"$.value")
-}
-
 // What stands behind an argument's name.
 fn put_operand_end(kind: ShapeKind, held: bool, out: &mut [u8], at: usize) -> usize
     ensures { λ r. ⌜ Wrote (sink (now (out .entry)) at) (operandEnd (shapeWith kind true str) held)
         (sink (now (out .exit)) r) ⌝ }
 {
     match kind {
-        ShapeKind::RustBox => put_into_raw(out, at),
-        ShapeKind::UniquePtr => put_release(out, at),
-        ShapeKind::Ref => put_value(held, out, at),
-        ShapeKind::Str => put_value(held, out, at),
-        ShapeKind::SliceRef => put_value(held, out, at),
-        ShapeKind::Other => put_value(held, out, at),
+        ShapeKind::RustBox => put_bytes(out, at, b".into_raw()"),
+        ShapeKind::UniquePtr => put_bytes(out, at, b".release()"),
+        ShapeKind::Ref => put_when(out, at, held, b"$.value"),
+        ShapeKind::Str => put_when(out, at, held, b"$.value"),
+        ShapeKind::SliceRef => put_when(out, at, held, b"$.value"),
+        ShapeKind::Other => put_when(out, at, held, b"$.value"),
     }
-}
-
-fn put_address(indirect: bool, out: &mut [u8], at: usize) -> usize
-    ensures { λ r. ⌜ Wrote (sink (now (out .entry)) at) (pickText indirect (bytes "&") [])
-        (sink (now (out .exit)) r) ⌝ }
-{
-    put_when(out, at, indirect, b"&")
 }
 
 // Argument j as an operand.
@@ -216,7 +165,7 @@ fn write_operand(
     let held = is_held(s, names, items, a.of);
     let v = shape(s, items, a.of);
     let kind = v.kind;
-    let b = put_address(indirect, out, at);
+    let b = put_when(out, at, indirect, b"&");
     let c = put_name_of(s, names, a.name, out, b);
     put_operand_end(kind, held, out, c)
 }
@@ -249,13 +198,6 @@ fn write_arguments(
         j = j + 1;
     }
     here
-}
-
-fn put_this(method: bool, out: &mut [u8], at: usize) -> usize
-    ensures { λ r. ⌜ Wrote (sink (now (out .entry)) at) (pickText method (bytes "*this") [])
-        (sink (now (out .exit)) r) ⌝ }
-{
-    put_when(out, at, method, b"*this")
 }
 
 // The slot as an operand, where there is one.
@@ -293,7 +235,7 @@ pub fn write_operands(
         (sink (now (out .exit)) r) ⌝ }
 {
     let method = is_method(f);
-    let a = put_this(method, out, at);
+    let a = put_when(out, at, method, b"*this");
     let b = write_arguments(s, names, items, f, offsets, method, out, a);
     let comma = needs_comma(method, f.arguments);
     put_slot(indirect, comma, out, b)

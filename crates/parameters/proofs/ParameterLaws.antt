@@ -7,14 +7,12 @@ use lib.Dec.{eqb, ltb}
 use lib.ListN.{length, getD}
 use Rattle.lexical.specs.Bytes.{bytes}
 use Rattle.lexical.specs.Decimal.{pickText}
-use Rattle.format.specs.Types.{Ty, atom, named, template, pointer, str, fn, array}
+use Rattle.format.specs.Types.{Ty}
 use Rattle.format.specs.Sheet.{Form, free, constMethod, mutMethod, associated, Argument, Function, Item}
 use Rattle.format.specs.Decoding.{formOf}
-use Rattle.format.specs.declared.TypeKind.{TypeKind}
 use Rattle.syntax.specs.Items.{itemAt, fullName}
 use Rattle.syntax.specs.Types.{needsIndirectAbi}
 use Rattle.rules.specs.Rules.{isMethod}
-use Rattle.bridge.specs.WriteType.{spaceAfterType}
 use Rattle.bridge.specs.Write.{commas, indirectReturn, shape, externArgType, externArg}
 use Rattle.bridge.specs.Write.{receiver, slot, externParameters}
 use Rattle.sink.specs.Sink.{Sink, Wrote}
@@ -22,7 +20,7 @@ use Rattle.sink.proofs.SinkLaws.{_▷_, wrote-nil, wrote-as}
 use Rattle.view.specs.declared.FunctionView.{FunctionView}
 use Rattle.view.specs.declared.ArgumentView.{ArgumentView}
 use Rattle.view.specs.Values.{nameAt, itemsAt, functionAt, typeHere}
-use Rattle.view.specs.Views.{FunctionAt, ArgumentsAt, ArgumentOf, kindOfType}
+use Rattle.view.specs.Views.{FunctionAt, ArgumentsAt, ArgumentOf}
 use Rattle.write_type.specs.TypeAt.{tyAt}
 use Rattle.shape.specs.declared.ShapeKind.{ShapeKind}
 use Rattle.shape.specs.declared.ShapeView.{ShapeView}
@@ -31,7 +29,7 @@ use Rattle.shape.proofs.TypeLaws.{here-is}
 use Rattle.shape.proofs.ShapeLaws.{by-shape}
 use Rattle.shape.proofs.FunctionLaws.{slot-some, slot-empty, method-is, arguments-count}
 use Rattle.shape.proofs.CommaLaws.{isSome, some-map, some-count, commas-three, commas-none, commas-one}
-use Rattle.parameters.specs.Parts.{hasSpace, slotParameter}
+use Rattle.parameters.specs.Parts.{slotParameter}
 
 -- ---- types by their shapes
 
@@ -129,18 +127,3 @@ pub argument-written : {s names : List ℕ} {n : ℕ} {x : Argument} {v : Argume
 unfolding externArg
 argument-written {s} {n} {v} items o h p q z =
     wrote-as (p ▷ q ▷ z) (rw (h, here-is n s (v .of .at) (o .of), o .name))
-
--- ---- the space after a type
-
-pub space-after : (t : Ty) {k : TypeKind} {b : Bool} → k ≡ kindOfType t → b ≡ hasSpace k →
-    pickText b (bytes " ") [] ≡ spaceAfterType t
-space-after t e h = rw (h, e) (by-type t)
-  where
-    by-type : (t : Ty) → pickText (hasSpace (kindOfType t)) (bytes " ") [] ≡ spaceAfterType t
-    by-type (atom a) = refl
-    by-type (named i) = refl
-    by-type (template k t) = refl
-    by-type (pointer k m t) = refl
-    by-type str = refl
-    by-type (fn r ts) = refl
-    by-type (array t n) = refl

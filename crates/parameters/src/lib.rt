@@ -1,14 +1,11 @@
 // The parameters of a Rust function's declaration in C++ (bridge/write.rs `write_rust_function_decl_impl`).
 use cursor::Cursor;
-use format::Pointer;
-use format::TypeKind;
 use mangle::write_full_name;
 use put_name::put_name_of;
 use shape::ShapeKind;
 use shape::indirect_return;
 use shape::is_method;
 use shape::needs_comma;
-use shape::put_comma;
 use shape::shape;
 use shape::write_outermost_space;
 use shape::write_pointer;
@@ -19,19 +16,18 @@ use view::FunctionView;
 use view::argument;
 use view::needs_indirect_abi;
 use view::type_kind;
-ghost use mathlib.Core.Path.{_≡_};
+use write_atom::write_space_after_type;
 ghost use mathlib.Core.Bool.{false};
 ghost use mathlib.Core.List.{map};
 ghost use Prim.Native.Nat.{_<_, _≤_};
 ghost use lib.ListN.{length};
 ghost use Rattle.format.specs.Decoding.{type};
-ghost use Rattle.bridge.specs.WriteType.{isSlice, spaceAfterType};
 ghost use Rattle.bridge.specs.Write.{commas, shape as shapeOf, externArgType, externArg};
 ghost use Rattle.bridge.specs.Write.{receiver, slot, externParameters};
 ghost use Rattle.sink.specs.Sink.{sink, Wrote};
 ghost use Rattle.view.specs.Values.{Yields, itemsAt, functionAt, argumentAt, typeHere, Whole};
 ghost use Rattle.view.specs.Views.{FunctionAt, ArgumentsAt};
-ghost use Rattle.parameters.specs.Parts.{hasSpace, slotParameter};
+ghost use Rattle.parameters.specs.Parts.{slotParameter};
 
 // ---- the receiver
 
@@ -137,7 +133,7 @@ fn write_extern_args(
     let mut comma = before;
     let mut j: u32 = 0;
     while j < f.arguments {
-        let next = put_comma(out, here, comma);
+        let next = put_when(out, here, comma, b", ");
         here = write_extern_arg(s, names, items, f, offsets, j, out, next);
         comma = true;
         j = j + 1;
@@ -146,51 +142,6 @@ fn write_extern_args(
 }
 
 // ---- the return slot
-
-fn is_slice(k: Pointer) -> bool
-    ensures { λ r. ⌜ r ≡ isSlice k ⌝ }
-{
-    match k {
-        Pointer::Ref => false,
-        Pointer::Ptr => false,
-        Pointer::SliceRef => true,
-    }
-}
-
-fn has_space(kind: TypeKind) -> bool
-    ensures { λ r. ⌜ r ≡ hasSpace kind ⌝ }
-{
-    match kind {
-        TypeKind::Pointer(k) => is_slice(k),
-        TypeKind::Atom => true,
-        TypeKind::Named => true,
-        TypeKind::Template(_) => true,
-        TypeKind::Str => true,
-        TypeKind::Fn => true,
-        TypeKind::Array => true,
-        TypeKind::Bad => true,
-    }
-}
-
-// `write_space_after_type`, for the type at c
-fn write_space_after_type(
-    s: &[u8],
-    names: &[u32],
-    items: &[u32],
-    c: Cursor,
-    out: &mut [u8],
-    at: usize,
-) -> usize
-    requires { ⌜ Whole (now s) (now names) (now items) ×
-        Yields (type (length (now items)) (now s) (c .at)) (typeHere (length (now items)) (now s) (c .at)) ⌝ }
-    ensures { λ r. ⌜ Wrote (sink (now (out .entry)) at)
-        (spaceAfterType (typeHere (length (now (items .entry))) (now (s .entry)) (c .at)))
-        (sink (now (out .exit)) r) ⌝ }
-{
-    let kind = type_kind(s, items, c);
-    let spaced = has_space(kind);
-    put_when(out, at, spaced, b" ")
-}
 
 // The slot's parameter, for a return of the type at c.
 fn write_slot_parameter(
@@ -208,7 +159,8 @@ fn write_slot_parameter(
         (typeHere (length (now (items .entry))) (now (s .entry)) (c .at))) (sink (now (out .exit)) r) ⌝ }
 {
     let typed = write_slot_type(s, names, items, c, out, at);
-    let spaced = write_space_after_type(s, names, items, c, out, typed);
+    let kind = type_kind(s, items, c);
+    let spaced = write_space_after_type(kind, out, typed);
     put_bytes(out, spaced, b"*return$")
 }
 
@@ -231,7 +183,7 @@ fn write_slot(
 {
     let indirect = indirect_return(s, names, items, f);
     if indirect {
-        let next = put_comma(out, at, before);
+        let next = put_when(out, at, before, b", ");
         return write_slot_parameter(s, names, items, f.result, out, next);
     }
     at

@@ -68,7 +68,7 @@ pub fn put_name(s: &[u8], position: u32, out: &mut [u8], at: usize) -> usize
     ensures { λ r. ⌜ Wrote (sink (now (out .entry)) at) (nameAt (now (s .entry)) position)
         (sink (now (out .exit)) r) ⌝ }
 {
-    let length = field(s, Cursor { at: position }, 6);
+    let length = field(s, Cursor::new(position), 6);
     put_chars(s, length.next, length.value, out, at)
 }
 

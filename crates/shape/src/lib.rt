@@ -4,7 +4,8 @@ use format::Pointer;
 use format::Template;
 use format::TypeKind;
 use sink::put_bytes;
-use sink::put_when;
+use sink::put_unless;
+use types::Levels;
 use types::kind_of;
 use view::FunctionView;
 use view::field;
@@ -12,12 +13,9 @@ use view::needs_indirect_abi;
 use write_type::write_type;
 use write_type::write_type_space;
 ghost use mathlib.Core.Path.{_≡_};
-ghost use mathlib.Core.List.{[]};
 ghost use mathlib.Core.Bool.{_||_};
 ghost use lib.Dec.{ltb};
 ghost use lib.ListN.{length};
-ghost use Rattle.lexical.specs.Bytes.{bytes};
-ghost use Rattle.lexical.specs.Decimal.{pickText};
 ghost use Rattle.format.specs.Decoding.{typeAt, type, formOf};
 ghost use Rattle.rules.specs.Rules.{isMethod};
 ghost use Rattle.bridge.specs.WriteType.{writeType, writeTypeSpace};
@@ -85,7 +83,8 @@ fn shape_kind(kind: TypeKind) -> ShapeKind
     }
 }
 
-fn is_ref(kind: ShapeKind) -> bool
+// Whether a shape is a reference.
+pub fn is_ref(kind: ShapeKind) -> bool
     ensures { λ r. ⌜ r ≡ isRef kind ⌝ }
 {
     match kind {
@@ -143,7 +142,7 @@ pub fn write_outermost(
         (writeType (itemsAt (now (s .entry)) (now (names .entry)) (now (items .entry)))
         (typeHere (length (now (items .entry))) (now (s .entry)) (c .at))) (sink (now (out .exit)) r) ⌝ }
 {
-    let walked = write_type(s, names, items, c, 8, out, at);
+    let walked = write_type(s, names, items, c, Levels::MOST, out, at);
     walked.at
 }
 
@@ -162,19 +161,8 @@ pub fn write_outermost_space(
         (writeTypeSpace (itemsAt (now (s .entry)) (now (names .entry)) (now (items .entry)))
         (typeHere (length (now (items .entry))) (now (s .entry)) (c .at))) (sink (now (out .exit)) r) ⌝ }
 {
-    let walked = write_type_space(s, names, items, c, 8, out, at);
+    let walked = write_type_space(s, names, items, c, Levels::MOST, out, at);
     walked.at
-}
-
-// The bytes of a text unless `no`.
-pub fn put_unless(out: &mut [u8], at: usize, no: bool, text: &[u8]) -> usize
-    ensures { λ r. ⌜ Wrote (sink (now (out .entry)) at) (pickText no [] (now (text .entry)))
-        (sink (now (out .exit)) r) ⌝ }
-{
-    if no {
-        return at;
-    }
-    put_bytes(out, at, text)
 }
 
 // The pointer that stands for a reference to the type at inner.
@@ -193,7 +181,7 @@ pub fn write_pointer(
         (writePointer (itemsAt (now (s .entry)) (now (names .entry)) (now (items .entry))) mutable
         (tyAt (length (now (items .entry))) 7 (now (s .entry)) (inner .at))) (sink (now (out .exit)) r) ⌝ }
 {
-    let walked = write_type_space(s, names, items, inner, 7, out, at);
+    let walked = write_type_space(s, names, items, inner, Levels::MOST - 1, out, at);
     let behind = put_unless(out, walked.at, mutable, b"const ");
     put_bytes(out, behind, b"*")
 }
@@ -246,13 +234,6 @@ pub fn needs_comma(others: bool, count: u32) -> bool
         return true;
     }
     0 < count
-}
-
-// A comma before a parameter, where one is needed.
-pub fn put_comma(out: &mut [u8], at: usize, needed: bool) -> usize
-    ensures { λ r. ⌜ Wrote (sink (now (out .entry)) at) (pickText needed (bytes ", ") []) (sink (now (out .exit)) r) ⌝ }
-{
-    put_when(out, at, needed, b", ")
 }
 
 // Whether a function returns by a slot.

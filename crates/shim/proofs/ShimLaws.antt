@@ -23,13 +23,8 @@ use Rattle.view.specs.Views.{commentLines, FunctionAt}
 use Rattle.view.proofs.ValueLaws.{yielded}
 use Rattle.shape.proofs.FunctionLaws.{returned, indirect-returns, slot-some, slot-empty, direct-some, direct-slot, direct-none}
 use Rattle.shape.proofs.CommaLaws.{gather-none, gather-one}
-use Rattle.shim.specs.Shims.{beforeCall, beforeOperands, throughCall}
 
 -- ---- the body
-
-pub where-throws : {s names items : List ℕ} {f : FunctionView} (x : List ℕ) {r t : Sink} → FunctionAt s names items f →
-    Wrote r (pickText (f .throws) x []) t → Wrote r (pickText (functionAt s names items (f .number) .throws) x []) t
-where-throws x a p = wrote-as p (ap (λ (b : Bool). pickText b x []) (a .view .throws))
 
 module _ {s names items : List ℕ} {f : FunctionView} (a : FunctionAt s names items f) {indirect : Bool}
     (i : indirect ≡ indirectReturn (itemsAt s names items) (functionAt s names items (f .number))
@@ -47,21 +42,16 @@ module _ {s names items : List ℕ} {f : FunctionView} (a : FunctionAt s names i
   pub slot-yields : indirect ≡ true → Yields (type (length items) s (f .result .at)) result
   slot-yields e = returned a (indirect-returns a i e) .1
 
+  where-throws : (x : List ℕ) {r t : Sink} → Wrote r (pickText (f .throws) x []) t →
+      Wrote r (pickText (this .throws) x []) t
+  where-throws x p = wrote-as p (ap (λ (b : Bool). pickText b x []) (a .view .throws))
+
   -- what stands for the slot
   slot-is : (g : Ty → List ℕ) → pickText indirect (g result) [] ≡ gather g (slot all this)
   slot-is g =
       by-cases indirect
       (λ e. rw (e, slot-some a i e, gather-one g))
       (λ e. rw (e, slot-empty a i e, gather-none g))
-
-  pub body-written : (x : Item) {r t u v w : Sink} → Wrote r (throughCall all x this) t →
-      Wrote t (pickText (f .throws)
-      (bytes "  if (error$.ptr) {\n    throw ::rust::impl<::rust::Error>::error(error$);\n  }\n") []) u →
-      Wrote u (pickText indirect (bytes "  return " ++ slotReturn (shape result) ++ bytes ";\n") []) v →
-      Wrote v (bytes "}\n") w → Wrote r (shimBody all x this) w
-  unfolding shimBody throughCall beforeOperands beforeCall
-  body-written x p q y z =
-      p ▷ where-throws _ a q ▷ wrote-as y (slot-is (λ t. bytes "  return " ++ slotReturn (shape t) ++ bytes ";\n")) ▷ z
 
   module _ {direct′ : Bool} (d : direct′ ≡ (f .returns && not indirect)) where
     direct-both : direct′ ≡ true → (f .returns ≡ true) × (not indirect ≡ true)
@@ -80,40 +70,33 @@ module _ {s names items : List ℕ} {f : FunctionView} (a : FunctionAt s names i
         (λ e. rw (d, q, e, direct-some a i e q, gather-one g)))
         (λ q. rw (d, q, direct-none a q, gather-none g))
 
-    pub before-call-written : {r t u v w y : Sink} → Wrote r (bytes " {\n") t →
-        Wrote t (gather (heldLocal all) (this .arguments)) u → Wrote u (bytes "  ") v →
-        Wrote v (pickText indirect
-        (bytes "::rust::MaybeUninit<" ++ slotType all result (shape result) ++ bytes "> return$;\n" ++ bytes "  ") []) w →
-        Wrote w (pickText direct′ (bytes "return " ++ callBegin all result (shape result)) []) y →
-        Wrote r (beforeCall all this) y
-    unfolding beforeCall
-    before-call-written p₁ p₂ p₃ p₄ p₅ =
+    pub body-written : (x : Item) {r₀ r₁ r₂ r₃ r₄ r₅ r₆ r₇ r₈ r₉ r₁₀ r₁₁ r₁₂ r₁₃ r₁₄ r₁₅ : Sink} →
+        Wrote r₀ (bytes " {\n") r₁ → Wrote r₁ (gather (heldLocal all) (this .arguments)) r₂ →
+        Wrote r₂ (bytes "  ") r₃ →
+        Wrote r₃ (pickText indirect
+        (bytes "::rust::MaybeUninit<" ++ slotType all result (shape result) ++ bytes "> return$;\n" ++ bytes "  ") []) r₄ →
+        Wrote r₄ (pickText direct′ (bytes "return " ++ callBegin all result (shape result)) []) r₅ →
+        Wrote r₅ (pickText (f .throws) (bytes "::rust::repr::PtrLen error$ = ") []) r₆ →
+        Wrote r₆ (externFn all (x .namespace) this) r₇ → Wrote r₇ (bytes "(") r₈ →
+        Wrote r₈ (commas false (operands all this)) r₉ → Wrote r₉ (bytes ")") r₁₀ →
+        Wrote r₁₀ (pickText direct′ (callEnd (shape result)) []) r₁₁ → Wrote r₁₁ (bytes ";\n") r₁₂ →
+        Wrote r₁₂ (pickText (f .throws)
+        (bytes "  if (error$.ptr) {\n    throw ::rust::impl<::rust::Error>::error(error$);\n  }\n") []) r₁₃ →
+        Wrote r₁₃ (pickText indirect (bytes "  return " ++ slotReturn (shape result) ++ bytes ";\n") []) r₁₄ →
+        Wrote r₁₄ (bytes "}\n") r₁₅ → Wrote r₀ (shimBody all x this) r₁₅
+    unfolding shimBody
+    body-written x p₁ p₂ p₃ p₄ p₅ p₆ p₇ p₈ p₉ p₁₀ p₁₁ p₁₂ p₁₃ p₁₄ p₁₅ =
         p₁ ▷ p₂ ▷ p₃ ▷
         wrote-as p₄
         (slot-is (λ t. bytes "::rust::MaybeUninit<" ++ slotType all t (shape t) ++ bytes "> return$;\n" ++ bytes "  ")) ▷
-        wrote-as p₅ (direct-is (λ t. bytes "return " ++ callBegin all t (shape t)))
+        wrote-as p₅ (direct-is (λ t. bytes "return " ++ callBegin all t (shape t))) ▷
+        where-throws _ p₆ ▷ p₇ ▷ p₈ ▷ p₉ ▷ p₁₀ ▷ wrote-as p₁₁ (direct-is (λ t. callEnd (shape t))) ▷ p₁₂ ▷
+        where-throws _ p₁₃ ▷
+        wrote-as p₁₄ (slot-is (λ t. bytes "  return " ++ slotReturn (shape t) ++ bytes ";\n")) ▷ p₁₅
 
-    pub through-call-written : (x : Item) {r t u v w y : Sink} → Wrote r (beforeOperands all x this) t →
-        Wrote t (commas false (operands all this)) u → Wrote u (bytes ")") v →
-        Wrote v (pickText direct′ (callEnd (shape result)) []) w → Wrote w (bytes ";\n") y →
-        Wrote r (throughCall all x this) y
-    unfolding throughCall
-    through-call-written x p₁ p₂ p₃ p₄ p₅ =
-        p₁ ▷ p₂ ▷ p₃ ▷ wrote-as p₄ (direct-is (λ t. callEnd (shape t))) ▷ p₅
+-- ---- the comment
 
 module _ {s names items : List ℕ} {f : FunctionView} (a : FunctionAt s names items f) where
-  pub before-operands-written : (x : Item) {r t u v w : Sink} →
-      Wrote r (beforeCall (itemsAt s names items) (functionAt s names items (f .number))) t →
-      Wrote t (pickText (f .throws) (bytes "::rust::repr::PtrLen error$ = ") []) u →
-      Wrote u (externFn (itemsAt s names items) (x .namespace) (functionAt s names items (f .number))) v →
-      Wrote v (bytes "(") w →
-      Wrote r (beforeOperands (itemsAt s names items) x (functionAt s names items (f .number))) w
-  unfolding beforeOperands
-  before-operands-written x p q y z =
-      p ▷ where-throws _ a q ▷ y ▷ z
-
-  -- ---- the comment
-
   module _ {at : ℕ}
       (e : at ≡ nextOf (many (f .arguments) (argument (namesAt s names) (length items)) s (f .first .at))) where
     comment-there : Yields (commentLines s at) (functionAt s names items (f .number) .comment)

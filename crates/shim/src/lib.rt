@@ -19,167 +19,16 @@ ghost use mathlib.Core.List.{[]};
 ghost use mathlib.Core.Bool.{not, _&&_};
 ghost use Prim.Native.Nat.{_≤_};
 ghost use lib.ListN.{length};
-ghost use Rattle.lexical.specs.Bytes.{bytes};
 ghost use Rattle.lexical.specs.Decimal.{pickText};
 ghost use Rattle.format.specs.Decode.{many};
 ghost use Rattle.format.specs.Decoding.{argument};
 ghost use Rattle.syntax.specs.Items.{itemAt};
-ghost use Rattle.bridge.specs.Write.{indirectReturn, isFree, shimBody, writeDoc, functionShim};
+ghost use Rattle.bridge.specs.Write.{isFree, shimBody, writeDoc, functionShim};
 ghost use Rattle.sink.specs.Sink.{sink, Wrote};
 ghost use Rattle.view.specs.Values.{nextOf, namesAt, itemsAt, functionAt, Whole};
 ghost use Rattle.view.specs.Views.{ItemAt, FunctionAt, ArgumentsAt};
-ghost use Rattle.shim.specs.Shims.{beforeCall, beforeOperands, throughCall};
 
 // ---- the body
-
-fn put_body_begin(out: &mut [u8], at: usize) -> usize
-    ensures { λ r. ⌜ Wrote (sink (now (out .entry)) at) (bytes " {\n") (sink (now (out .exit)) r) ⌝ }
-{
-    put_bytes(out, at, b" {\n")
-}
-
-fn put_indent(out: &mut [u8], at: usize) -> usize
-    ensures { λ r. ⌜ Wrote (sink (now (out .entry)) at) (bytes "  ") (sink (now (out .exit)) r) ⌝ }
-{
-    put_bytes(out, at, b"  ")
-}
-
-// The body up to the call.
-fn write_before_call(
-    s: &[u8],
-    names: &[u32],
-    items: &[u32],
-    f: FunctionView,
-    offsets: &[u32],
-    indirect: bool,
-    direct: bool,
-    out: &mut [u8],
-    at: usize,
-) -> usize
-    requires { ⌜ Whole (now s) (now names) (now items) × FunctionAt (now s) (now names) (now items) f ×
-        ArgumentsAt (now s) (now names) (now items) f (now offsets) × (f .arguments ≤ length (now offsets)) ×
-        (indirect ≡ indirectReturn (itemsAt (now s) (now names) (now items))
-        (functionAt (now s) (now names) (now items) (f .number))
-        (functionAt (now s) (now names) (now items) (f .number) .return)) ×
-        (direct ≡ (f .returns && not indirect)) ⌝ }
-    ensures { λ r. ⌜ Wrote (sink (now (out .entry)) at)
-        (beforeCall (itemsAt (now (s .entry)) (now (names .entry)) (now (items .entry)))
-        (functionAt (now (s .entry)) (now (names .entry)) (now (items .entry)) (f .number)))
-        (sink (now (out .exit)) r) ⌝ }
-{
-    let a = put_body_begin(out, at);
-    let b = write_held_locals(s, names, items, f, offsets, out, a);
-    let c = put_indent(out, b);
-    let d = write_slot(s, names, items, f.result, indirect, out, c);
-    write_return(s, names, items, f.result, direct, out, d)
-}
-
-fn put_error(throws: bool, out: &mut [u8], at: usize) -> usize
-    ensures { λ r. ⌜ Wrote (sink (now (out .entry)) at) (pickText throws (bytes "::rust::repr::PtrLen error$ = ") [])
-        (sink (now (out .exit)) r) ⌝ }
-{
-    put_when(out, at, throws, b"::rust::repr::PtrLen error$ = ")
-}
-
-fn put_open(out: &mut [u8], at: usize) -> usize
-    ensures { λ r. ⌜ Wrote (sink (now (out .entry)) at) (bytes "(") (sink (now (out .exit)) r) ⌝ }
-{
-    put_bytes(out, at, b"(")
-}
-
-// The body up to the operands.
-fn write_before_operands(
-    s: &[u8],
-    names: &[u32],
-    items: &[u32],
-    v: ItemView,
-    f: FunctionView,
-    offsets: &[u32],
-    indirect: bool,
-    direct: bool,
-    out: &mut [u8],
-    at: usize,
-) -> usize
-    requires { ⌜ Whole (now s) (now names) (now items) × ItemAt (now s) (now names) (now items) v ×
-        FunctionAt (now s) (now names) (now items) f × ArgumentsAt (now s) (now names) (now items) f (now offsets) ×
-        (f .arguments ≤ length (now offsets)) × (indirect ≡ indirectReturn (itemsAt (now s) (now names) (now items))
-        (functionAt (now s) (now names) (now items) (f .number))
-        (functionAt (now s) (now names) (now items) (f .number) .return)) ×
-        (direct ≡ (f .returns && not indirect)) ⌝ }
-    ensures { λ r. ⌜ Wrote (sink (now (out .entry)) at)
-        (beforeOperands (itemsAt (now (s .entry)) (now (names .entry)) (now (items .entry)))
-        (itemAt (itemsAt (now (s .entry)) (now (names .entry)) (now (items .entry))) (v .number))
-        (functionAt (now (s .entry)) (now (names .entry)) (now (items .entry)) (f .number)))
-        (sink (now (out .exit)) r) ⌝ }
-{
-    let a = write_before_call(s, names, items, f, offsets, indirect, direct, out, at);
-    let b = put_error(f.throws, out, a);
-    let c = write_extern_fn(s, names, items, v, f, out, b);
-    put_open(out, c)
-}
-
-fn put_close(out: &mut [u8], at: usize) -> usize
-    ensures { λ r. ⌜ Wrote (sink (now (out .entry)) at) (bytes ")") (sink (now (out .exit)) r) ⌝ }
-{
-    put_bytes(out, at, b")")
-}
-
-fn put_line_end(out: &mut [u8], at: usize) -> usize
-    ensures { λ r. ⌜ Wrote (sink (now (out .entry)) at) (bytes ";\n") (sink (now (out .exit)) r) ⌝ }
-{
-    put_bytes(out, at, b";\n")
-}
-
-// The body through the call.
-fn write_through_call(
-    s: &[u8],
-    names: &[u32],
-    items: &[u32],
-    v: ItemView,
-    f: FunctionView,
-    offsets: &[u32],
-    indirect: bool,
-    direct: bool,
-    out: &mut [u8],
-    at: usize,
-) -> usize
-    requires { ⌜ Whole (now s) (now names) (now items) × ItemAt (now s) (now names) (now items) v ×
-        FunctionAt (now s) (now names) (now items) f × ArgumentsAt (now s) (now names) (now items) f (now offsets) ×
-        (f .arguments ≤ length (now offsets)) × (indirect ≡ indirectReturn (itemsAt (now s) (now names) (now items))
-        (functionAt (now s) (now names) (now items) (f .number))
-        (functionAt (now s) (now names) (now items) (f .number) .return)) ×
-        (direct ≡ (f .returns && not indirect)) ⌝ }
-    ensures { λ r. ⌜ Wrote (sink (now (out .entry)) at)
-        (throughCall (itemsAt (now (s .entry)) (now (names .entry)) (now (items .entry)))
-        (itemAt (itemsAt (now (s .entry)) (now (names .entry)) (now (items .entry))) (v .number))
-        (functionAt (now (s .entry)) (now (names .entry)) (now (items .entry)) (f .number)))
-        (sink (now (out .exit)) r) ⌝ }
-{
-    let a = write_before_operands(s, names, items, v, f, offsets, indirect, direct, out, at);
-    let b = write_operands(s, names, items, f, offsets, indirect, out, a);
-    let c = put_close(out, b);
-    let d = put_call_end(s, items, f.result, direct, out, c);
-    put_line_end(out, d)
-}
-
-fn put_error_test(throws: bool, out: &mut [u8], at: usize) -> usize
-    ensures { λ r. ⌜ Wrote (sink (now (out .entry)) at)
-        (pickText throws (bytes "  if (error$.ptr) {\n    throw ::rust::impl<::rust::Error>::error(error$);\n  }\n")
-        []) (sink (now (out .exit)) r) ⌝ }
-{
-    put_when(
-        out,
-        at,
-        throws,
-        b"  if (error$.ptr) {\n    throw ::rust::impl<::rust::Error>::error(error$);\n  }\n",
-    )
-}
-
-fn put_body_end(out: &mut [u8], at: usize) -> usize
-    ensures { λ r. ⌜ Wrote (sink (now (out .entry)) at) (bytes "}\n") (sink (now (out .exit)) r) ⌝ }
-{
-    put_bytes(out, at, b"}\n")
-}
 
 // Whether a function returns its value itself.
 fn is_direct(returns: bool, indirect: bool) -> bool
@@ -192,7 +41,7 @@ fn is_direct(returns: bool, indirect: bool) -> bool
 }
 
 // The body of the function's shim.
-pub fn write_shim_body(
+fn write_shim_body(
     s: &[u8],
     names: &[u32],
     items: &[u32],
@@ -213,10 +62,26 @@ pub fn write_shim_body(
 {
     let indirect = indirect_return(s, names, items, f);
     let direct = is_direct(f.returns, indirect);
-    let a = write_through_call(s, names, items, v, f, offsets, indirect, direct, out, at);
-    let b = put_error_test(f.throws, out, a);
-    let c = put_slot_return(s, items, f.result, indirect, out, b);
-    put_body_end(out, c)
+    let begun = put_bytes(out, at, b" {\n");
+    let held = write_held_locals(s, names, items, f, offsets, out, begun);
+    let indented = put_bytes(out, held, b"  ");
+    let slotted = write_slot(s, names, items, f.result, indirect, out, indented);
+    let returned = write_return(s, names, items, f.result, direct, out, slotted);
+    let guarded = put_when(out, returned, f.throws, b"::rust::repr::PtrLen error$ = ");
+    let named = write_extern_fn(s, names, items, v, f, out, guarded);
+    let opened = put_bytes(out, named, b"(");
+    let listed = write_operands(s, names, items, f, offsets, indirect, out, opened);
+    let closed = put_bytes(out, listed, b")");
+    let taken = put_call_end(s, items, f.result, direct, out, closed);
+    let called = put_bytes(out, taken, b";\n");
+    let tested = put_when(
+        out,
+        called,
+        f.throws,
+        b"  if (error$.ptr) {\n    throw ::rust::impl<::rust::Error>::error(error$);\n  }\n",
+    );
+    let given = put_slot_return(s, items, f.result, indirect, out, tested);
+    put_bytes(out, given, b"}\n")
 }
 
 // ---- the shim
@@ -244,33 +109,6 @@ fn write_shim_doc(
         return write_doc(s, doxygen, comment, out, at);
     }
     at
-}
-
-// What stands behind the head.
-fn write_shim_rest(
-    s: &[u8],
-    names: &[u32],
-    items: &[u32],
-    header: bool,
-    v: ItemView,
-    f: FunctionView,
-    offsets: &[u32],
-    out: &mut [u8],
-    at: usize,
-) -> usize
-    requires { ⌜ Whole (now s) (now names) (now items) × ItemAt (now s) (now names) (now items) v ×
-        FunctionAt (now s) (now names) (now items) f × (f .number ≡ v .number) ×
-        ArgumentsAt (now s) (now names) (now items) f (now offsets) × (f .arguments ≤ length (now offsets)) ⌝ }
-    ensures { λ r. ⌜ Wrote (sink (now (out .entry)) at)
-        (pickText header (bytes ";\n") (shimBody (itemsAt (now (s .entry)) (now (names .entry)) (now (items .entry)))
-        (itemAt (itemsAt (now (s .entry)) (now (names .entry)) (now (items .entry))) (v .number))
-        (functionAt (now (s .entry)) (now (names .entry)) (now (items .entry)) (f .number))))
-        (sink (now (out .exit)) r) ⌝ }
-{
-    if header {
-        return put_line_end(out, at);
-    }
-    write_shim_body(s, names, items, v, f, offsets, out, at)
 }
 
 // The shim of a function: its comment, its head, and its body where it is no header.
@@ -304,5 +142,8 @@ pub fn write_function_shim(
 {
     let a = write_shim_doc(s, names, items, doxygen, f, comment, out, at);
     let b = write_shim_decl(s, names, items, v, f, offsets, out, a);
-    write_shim_rest(s, names, items, header, v, f, offsets, out, b)
+    if header {
+        return put_bytes(out, b, b";\n");
+    }
+    write_shim_body(s, names, items, v, f, offsets, out, b)
 }

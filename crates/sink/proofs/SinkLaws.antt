@@ -1,11 +1,13 @@
 -- Laws of `Wrote`, for whoever writes.
 use mathlib.Core.Path.{_≡_, refl, ap, _∙_}
 use mathlib.Core.List.{List, [], _∷_, _++_}
+use mathlib.Core.Bool.{Bool, true, false}
 use Prim.Native.Nat.{ℕ, _+_, _≤_, _<_, min}
 use native.Mathlib.Omega.{arith}
 use native.Mathlib.Numerals.{add-one}
 use lib.ListN.{length, getD, take, length-set}
 use lib.Seq.{take-suc, take-all}
+use Rattle.lexical.specs.Decimal.{pickText}
 use Rattle.sink.specs.Sink.{Sink, limit, step, emit, Wrote}
 
 emit-append : (s : Sink) (a b : List ℕ) → emit (emit s a) b ≡ emit s (a ++ b)
@@ -25,6 +27,13 @@ wrote-nil s = record { is = refl }
 -- the text in another form
 pub wrote-as : {r s : Sink} {a b : List ℕ} → Wrote r a s → a ≡ b → Wrote r b s
 wrote-as {r} {s} {a} {b} p e = record { is = p .is ∙ ap (λ (x : List ℕ). emit r x) e }
+
+-- one of two texts
+pub first-text : {b : Bool} {x : List ℕ} (y : List ℕ) {r s : Sink} → b ≡ true → Wrote r x s → Wrote r (pickText b x y) s
+first-text y e p = rw e p
+
+pub second-text : {b : Bool} (x : List ℕ) {y : List ℕ} {r s : Sink} → b ≡ false → Wrote r y s → Wrote r (pickText b x y) s
+second-text x e p = rw e p
 
 -- a loop that writes the elements of l: a turn, and the end
 pub wrote-more :

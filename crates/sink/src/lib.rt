@@ -83,6 +83,17 @@ pub fn put_when(out: &mut [u8], at: usize, yes: bool, text: &[u8]) -> usize
     at
 }
 
+// The bytes of a text unless `no`.
+pub fn put_unless(out: &mut [u8], at: usize, no: bool, text: &[u8]) -> usize
+    ensures { λ r. ⌜ Wrote (sink (now (out .entry)) at) (pickText no [] (now (text .entry)))
+        (sink (now (out .exit)) r) ⌝ }
+{
+    if no {
+        return at;
+    }
+    put_bytes(out, at, text)
+}
+
 // One byte `count` times.
 pub fn put_repeat(out: &mut [u8], at: usize, count: usize, byte: u8) -> usize
     ensures { λ r. ⌜ Wrote (sink (now (out .entry)) at) (replicate count byte) (sink (now (out .exit)) r) ⌝ }

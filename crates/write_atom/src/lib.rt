@@ -4,12 +4,12 @@ use format::Template;
 use format::TypeKind;
 use sink::put_byte;
 use sink::put_bytes;
+use sink::put_unless;
 use sink::put_when;
 ghost use mathlib.Core.Path.{_≡_};
 ghost use mathlib.Core.List.{[]};
 ghost use Prim.Native.Nat.{_<_};
 ghost use lib.ListN.{getD};
-ghost use Rattle.lexical.specs.Decimal.{pickText};
 ghost use Rattle.sink.specs.Sink.{sink, Wrote};
 ghost use Rattle.format.specs.Decoding.{atomOf};
 ghost use Rattle.bridge.specs.WriteType.{writeAtom, templateName, pointerBegin, pointerEnd, isSlice};
@@ -109,17 +109,6 @@ pub fn put_pointer_begin(k: Pointer, out: &mut [u8], at: usize) -> usize
 {
     let slice = is_slice(k);
     put_when(out, at, slice, b"::rust::Slice<")
-}
-
-// The bytes of a text, or nothing where `no`.
-fn put_unless(out: &mut [u8], at: usize, no: bool, text: &[u8]) -> usize
-    ensures { λ r. ⌜ Wrote (sink (now (out .entry)) at) (pickText no [] (now (text .entry)))
-        (sink (now (out .exit)) r) ⌝ }
-{
-    if no {
-        return at;
-    }
-    put_bytes(out, at, text)
 }
 
 // What stands behind the inner type of a pointer.

@@ -1,3 +1,4 @@
+pub mod Spelling
 pub mod TypeLaws
 mod SpellLaws
 mod ListLaws

@@ -1,6 +1,7 @@
 -- Laws of the argument types of a function: the loop that writes them.
 use mathlib.Core.Path.{_≡_, refl, sym, ap, _∙_}
 use mathlib.Core.List.{List, [], _++_, append-assoc, append-nil}
+use mathlib.Core.Bool.{false}
 use Prim.Native.Nat.{ℕ, suc, _+_, _-_, _<_, _≤_}
 use native.Mathlib.Omega.{arith}
 use lib.Dec.{ltb}
@@ -17,7 +18,11 @@ use Rattle.bridge.specs.WriteType.{writeType, writeTypes}
 use Rattle.view.specs.Values.{valueOr, nextOf, Yields}
 use Rattle.put_name.proofs.RowLaws.{Row, row, row-end}
 use Rattle.write_type.specs.TypeAt.{tyAt}
-use Rattle.write_type.specs.Spelling.{writeArguments, There, Spells}
+use Rattle.write_type.proofs.Spelling.{There, Spells}
+
+-- the argument types of a function
+abbrev pub writeArguments : List Item → List Ty → List ℕ
+writeArguments items ts = writeTypes items false (tys ts)
 
 module _ (items : List Item) (k levels : ℕ) (s : List ℕ) (n at : ℕ) where
   abbrev d : Dec Ty

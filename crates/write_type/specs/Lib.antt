@@ -1,2 +1,1 @@
 pub mod TypeAt
-pub mod Spelling

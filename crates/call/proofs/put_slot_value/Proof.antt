@@ -1,6 +1,6 @@
--- Written by tools/proofkit from answers/put_slot_value.tpl (c575fd9a db9f463e).
+-- Written by tools/proofkit from answers/put_slot_value.tpl (dad0c786 92ed3b30).
 use borrow.Author.Needs.{needs}
-use Rattle.call.proofs.CallLaws.{first-text, second-text}
+use Rattle.sink.proofs.SinkLaws.{first-text, second-text}
 use Rattle.call.proofs.put_slot_value.Statement.{statement}
 use Rattle.call.proofs.put_slot_value.Tie as tie
 

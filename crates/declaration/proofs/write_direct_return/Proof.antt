@@ -1,4 +1,4 @@
--- Written by tools/proofkit from answers/write_direct_return.tpl (6385a7c0 ef1410f0).
+-- Written by tools/proofkit from answers/write_direct_return.tpl (32d45c21 e03cd160).
 use borrow.Author.Needs.{needs}
 use mathlib.Core.Path.{refl}
 use Rattle.shape.proofs.ShapeLaws.{has-inner}
@@ -25,10 +25,10 @@ returns-3 : tie.Need-returns-3
 returns-3 c = direct-return (c .before .before .before .before .before .before .before .before .before .before .before .args .s .now) (c .before .before .before .before .before .before .before .before .before .before .before .args .names .now) (c .before .before .before .before .before .before .before .before .before .before .before .args .items .now) (c .before .before .before .before .before .before .before .before .before .before .before .args .c .at) (c .before .before .before .before .before .before .shape .ensures) (c .before .before .before .before .enum-told3 .given .1) (c .before .before .write-pointer3 .ensures)
 
 returns-4 : tie.Need-returns-4
-returns-4 c = direct-return (c .before .before .before .before .before .before .before .before .before .before .before .args .s .now) (c .before .before .before .before .before .before .before .before .before .before .before .args .names .now) (c .before .before .before .before .before .before .before .before .before .before .before .args .items .now) (c .before .before .before .before .before .before .before .before .before .before .before .args .c .at) (c .before .before .before .before .before .before .shape .ensures) (c .before .before .before .before .enum-told4 .given .1) (c .before .before .put-fat .ensures)
+returns-4 c = direct-return (c .before .before .before .before .before .before .before .before .before .before .before .before .args .s .now) (c .before .before .before .before .before .before .before .before .before .before .before .before .args .names .now) (c .before .before .before .before .before .before .before .before .before .before .before .before .args .items .now) (c .before .before .before .before .before .before .before .before .before .before .before .before .args .c .at) (c .before .before .before .before .before .before .before .shape .ensures) (c .before .before .before .before .before .enum-told4 .given .1) (c .before .before .put-bytes .ensures)
 
 returns-5 : tie.Need-returns-5
-returns-5 c = direct-return (c .before .before .before .before .before .before .before .before .before .before .before .args .s .now) (c .before .before .before .before .before .before .before .before .before .before .before .args .names .now) (c .before .before .before .before .before .before .before .before .before .before .before .args .items .now) (c .before .before .before .before .before .before .before .before .before .before .before .args .c .at) (c .before .before .before .before .before .before .shape .ensures) (c .before .before .before .before .enum-told5 .given .1) (c .before .before .put-fat2 .ensures)
+returns-5 c = direct-return (c .before .before .before .before .before .before .before .before .before .before .before .before .args .s .now) (c .before .before .before .before .before .before .before .before .before .before .before .before .args .names .now) (c .before .before .before .before .before .before .before .before .before .before .before .before .args .items .now) (c .before .before .before .before .before .before .before .before .before .before .before .before .args .c .at) (c .before .before .before .before .before .before .before .shape .ensures) (c .before .before .before .before .before .enum-told5 .given .1) (c .before .before .put-bytes2 .ensures)
 
 returns-6 : tie.Need-returns-6
 returns-6 c = direct-return (c .before .before .before .before .before .before .before .before .before .before .before .args .s .now) (c .before .before .before .before .before .before .before .before .before .before .before .args .names .now) (c .before .before .before .before .before .before .before .before .before .before .before .args .items .now) (c .before .before .before .before .before .before .before .before .before .before .before .args .c .at) (c .before .before .before .before .before .before .shape .ensures) (c .before .before .before .before .enum-told6 .given .1) (c .before .before .write-outermost-space .ensures)
@@ -45,7 +45,9 @@ write-direct-return-spec =
     (λ c. search needs)
     write-pointer-requires-3
     (λ c. search needs)
+    (λ c. search needs)
     (λ c κs. search needs)
+    (λ c. search needs)
     (λ c. search needs)
     (λ c κs. search needs)
     (λ c. search needs)

@@ -1,15 +1,14 @@
--- Written by tools/proofkit from answers/put_slashes.tpl (bac9793e 11ff806b).
+-- Written by tools/proofkit from answers/put_slashes.tpl (dad0c786 b4313bc1).
 use borrow.Author.Needs.{needs}
-use Rattle.sink.proofs.SinkLaws.{wrote-as}
-use Rattle.doc.proofs.DocLaws.{pick-yes, pick-no}
+use Rattle.sink.proofs.SinkLaws.{first-text, second-text}
 use Rattle.doc.proofs.put_slashes.Statement.{statement}
 use Rattle.doc.proofs.put_slashes.Tie as tie
 
 returns : tie.Need-returns
-returns c = wrote-as (c .before .before .put-bytes .ensures) (pick-yes _ (c .before .before .before .before .before .if1 .taken))
+returns c = first-text _ (c .before .before .before .before .before .if1 .taken) (c .before .before .put-bytes .ensures)
 
 returns-2 : tie.Need-returns-2
-returns-2 c = wrote-as (c .before .before .put-bytes2 .ensures) (pick-no _ (c .before .before .before .before .before .if1 .left))
+returns-2 c = second-text _ (c .before .before .before .before .before .if1 .left) (c .before .before .put-bytes2 .ensures)
 
 pub put-slashes-spec : {M : Type 1} → statement M
 put-slashes-spec =

@@ -1,4 +1,4 @@
--- Written by tools/proofkit from answers/write_operand.tpl (1aa4e0fc d2ffa532).
+-- Written by tools/proofkit from answers/write_operand.tpl (0e3db45b b1dc38c3).
 use borrow.Author.Needs.{needs}
 use Rattle.sink.proofs.SinkLaws.{wrote-length}
 use Rattle.shape.proofs.TypeLaws.{here-yields}
@@ -19,10 +19,10 @@ shape-requires : tie.Need-shape-requires
 shape-requires c κs = (c .before .before .before .before .before .before .before .before .pre .0 .named .limited, here-yields _ _ _ (c .before .before .argument .ensures .of))
 
 put-name-of-requires : tie.Need-put-name-of-requires
-put-name-of-requires c κs = (c .before .before .before .before .before .before .before .before .before .before .before .before .before .before .pre .0 .named, c .before .before .before .before .before .before .before .before .argument .ensures .named)
+put-name-of-requires c κs = (c .before .before .before .before .before .before .before .before .before .before .before .before .before .before .before .pre .0 .named, c .before .before .before .before .before .before .before .before .before .argument .ensures .named)
 
 returns : tie.Need-returns
-returns c = operand-written _ (c .before .before .before .before .before .before .before .before .before .before .before .before .before .before .before .argument .ensures) (c .before .before .before .before .before .before .before .before .before .before .before .before .before .is-held .ensures) (c .before .before .before .before .before .before .before .before .before .before .before .before .before .before .needs-indirect-abi .ensures) (c .before .before .before .before .before .before .before .before .before .before .before .before .shape .ensures) (c .before .before .before .before .before .before .before .before .before .before .put-address .ensures) (c .before .before .before .before .before .before .put-name-of .ensures) (c .before .before .put-operand-end .ensures)
+returns c = operand-written _ (c .before .before .before .before .before .before .before .before .before .before .before .before .before .before .before .before .argument .ensures) (c .before .before .before .before .before .before .before .before .before .before .before .before .before .before .is-held .ensures) (c .before .before .before .before .before .before .before .before .before .before .before .before .before .before .before .needs-indirect-abi .ensures) (c .before .before .before .before .before .before .before .before .before .before .before .before .before .shape .ensures) (c .before .before .before .before .before .before .before .before .before .before .put-when .ensures) (c .before .before .before .before .before .before .put-name-of .ensures) (c .before .before .put-operand-end .ensures)
 
 same-length : tie.Need-same-length
 same-length c = wrote-length (returns c)
@@ -35,6 +35,7 @@ write-operand-spec =
     needs-indirect-abi-requires
     is-held-requires
     shape-requires
+    (λ c. search needs)
     (λ c κs. search needs)
     put-name-of-requires
     (λ c κs. search needs)

@@ -1,4 +1,4 @@
--- Written by tools/proofkit from answers/write_extern_args.tpl (9a3e517c f29cf3d7).
+-- Written by tools/proofkit from answers/write_extern_args.tpl (9be1ca0d 8414d8d1).
 use borrow.Author.Needs.{needs}
 use Prim.Native.Nat.{_≤_, _-_}
 use native.Mathlib.Omega.{arith}
@@ -12,16 +12,16 @@ use Rattle.parameters.proofs.write_extern_args.Statement.{statement}
 use Rattle.parameters.proofs.write_extern_args.Tie as tie
 
 abbrev Inv-loop : tie.InvT-loop
-Inv-loop s names items f offsets before out₀ at here₀ comma₀ j₀ out here comma j = (j ≤ f .arguments) × Listed (externArg (itemsAt s names items)) before (functionAt s names items (f .number) .arguments) j comma (sink out₀ at) (sink out here)
+Inv-loop s names items f offsets before out₀ at here₀ comma₀ j₀ t13 out here comma j = (j ≤ f .arguments) × Listed (externArg (itemsAt s names items)) before (functionAt s names items (f .number) .arguments) j comma (sink out₀ at) (sink out here)
 
 abbrev μ-loop : tie.MeasureT-loop
-μ-loop s names items f offsets before out₀ at here₀ comma₀ j₀ out here comma j = f .arguments - j
+μ-loop s names items f offsets before out₀ at here₀ comma₀ j₀ t13 out here comma j = f .arguments - j
 
 loop-holds : tie.Need-loop-holds Inv-loop μ-loop
 loop-holds c = (omega arith, listed-none _ _ _ _)
 
 write-extern-arg-requires : tie.Need-write-extern-arg-requires Inv-loop μ-loop
-write-extern-arg-requires c κs = (c .before .before .before .before .before .before .before .before .before .before .before .before .before .pre .0, c .before .before .before .before .before .before .before .before .before .before .before .before .before .pre .1, omega arith, c .before .before .before .before .before .before .before .before .before .before .before .before .before .pre .2)
+write-extern-arg-requires c κs = (c .before .before .before .before .before .before .before .before .before .before .before .before .before .before .pre .0, c .before .before .before .before .before .before .before .before .before .before .before .before .before .before .pre .1, omega arith, c .before .before .before .before .before .before .before .before .before .before .before .before .before .before .pre .2)
 
 add-j : tie.Need-add-j Inv-loop μ-loop
 add-j c = omega arith
@@ -30,7 +30,7 @@ loop-less : tie.Need-loop-less Inv-loop μ-loop
 loop-less c = omega arith
 
 loop-again : tie.Need-loop-again Inv-loop μ-loop
-loop-again c = (omega arith, listed-argument _ (c .before .before .before .before .before .before .before .before .before .before .before .before .before .before .before .before .pre .1) (omega arith) (c .before .before .before .before .before .before .before .before .before .before .loop .inv .1) (c .before .before .before .before .before .before .put-comma .ensures) (c .before .before .write-extern-arg .ensures))
+loop-again c = (omega arith, listed-argument _ (c .before .before .before .before .before .before .before .before .before .before .before .before .before .before .before .before .before .pre .1) (omega arith) (c .before .before .before .before .before .before .before .before .before .before .before .loop .inv .1) (c .before .before .before .before .before .before .put-when .ensures) (c .before .before .write-extern-arg .ensures))
 
 returns : tie.Need-returns Inv-loop μ-loop
 returns c = listed-arguments _ (c .before .before .before .before .before .before .before .before .pre .1) (omega arith) (c .before .before .loop .inv .1)
@@ -45,6 +45,7 @@ write-extern-args-spec =
     Inv-loop
     μ-loop
     loop-holds
+    (λ c. search needs)
     (λ c κs. search needs)
     write-extern-arg-requires
     add-j

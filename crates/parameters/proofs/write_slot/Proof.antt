@@ -1,4 +1,4 @@
--- Written by tools/proofkit from answers/write_slot.tpl (96584da4 343713ff).
+-- Written by tools/proofkit from answers/write_slot.tpl (f542379b 79693583).
 use borrow.Author.Needs.{needs}
 use Rattle.shape.proofs.FunctionLaws.{returned, indirect-returns}
 use Rattle.parameters.proofs.ParameterLaws.{slot-written, slot-left}
@@ -6,10 +6,10 @@ use Rattle.parameters.proofs.write_slot.Statement.{statement}
 use Rattle.parameters.proofs.write_slot.Tie as tie
 
 write-slot-parameter-requires : tie.Need-write-slot-parameter-requires
-write-slot-parameter-requires c κs = (c .before .before .before .before .before .before .before .before .before .before .before .pre .0, returned (c .before .before .before .before .before .before .before .before .before .before .before .pre .1) (indirect-returns (c .before .before .before .before .before .before .before .before .before .before .before .pre .1) (c .before .before .before .before .before .before .indirect-return .ensures) (c .before .before .before .before .before .if1 .taken)) .1)
+write-slot-parameter-requires c κs = (c .before .before .before .before .before .before .before .before .before .before .before .before .pre .0, returned (c .before .before .before .before .before .before .before .before .before .before .before .before .pre .1) (indirect-returns (c .before .before .before .before .before .before .before .before .before .before .before .before .pre .1) (c .before .before .before .before .before .before .before .indirect-return .ensures) (c .before .before .before .before .before .before .if1 .taken)) .1)
 
 returns : tie.Need-returns
-returns c = slot-written (c .before .before .before .before .before .before .before .before .before .before .before .before .before .before .pre .1) (c .before .before .before .before .before .before .before .before .before .indirect-return .ensures) _ (c .before .before .before .before .before .before .before .before .if1 .taken) (c .before .before .before .before .before .before .put-comma .ensures) (c .before .before .write-slot-parameter .ensures)
+returns c = slot-written (c .before .before .before .before .before .before .before .before .before .before .before .before .before .before .before .pre .1) (c .before .before .before .before .before .before .before .before .before .before .indirect-return .ensures) _ (c .before .before .before .before .before .before .before .before .before .if1 .taken) (c .before .before .before .before .before .before .put-when .ensures) (c .before .before .write-slot-parameter .ensures)
 
 returns-2 : tie.Need-returns-2
 returns-2 c = slot-left (c .before .before .before .before .before .before .pre .1) (c .before .indirect-return .ensures) _ _ (c .if1 .left)
@@ -19,6 +19,7 @@ write-slot-spec =
     tie.close
     (tie.spec
     (λ c κs. search needs)
+    (λ c. search needs)
     (λ c κs. search needs)
     write-slot-parameter-requires
     (λ c. search needs)

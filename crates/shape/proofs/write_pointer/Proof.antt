@@ -1,4 +1,4 @@
--- Written by tools/proofkit from answers/write_pointer.tpl (cf5a361c 6b81a477).
+-- Written by tools/proofkit from answers/write_pointer.tpl (cf5a361c 441b6909).
 use borrow.Author.Needs.{needs}
 use Rattle.sink.proofs.SinkLaws.{_▷_}
 use Rattle.shape.proofs.write_pointer.Statement.{statement}
@@ -11,6 +11,7 @@ pub write-pointer-spec : {M : Type 1} → statement M
 write-pointer-spec =
     tie.close
     (tie.spec
+    (λ c. search needs)
     (λ c κs. search needs)
     (λ c. search needs)
     (λ c κs. search needs)

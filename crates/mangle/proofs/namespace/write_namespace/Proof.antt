@@ -1,4 +1,4 @@
--- Written by tools/proofkit from answers/namespace/write_namespace.tpl (8d6c9c77 997eb941).
+-- Written by tools/proofkit from answers/namespace/write_namespace.tpl (f93bab79 d43f95b4).
 use borrow.Author.Needs.{needs}
 use native.Mathlib.Omega.{arith}
 use Prim.Native.Nat.{_≤_, _-_}
@@ -7,13 +7,13 @@ use Rattle.syntax.specs.Items.{itemAt}
 use Rattle.sink.specs.Sink.{sink, Wrote}
 use Rattle.sink.proofs.SinkLaws.{wrote-length}
 use Rattle.view.specs.Values.{itemsAt}
-use Rattle.mangle.specs.Segments.{between}
+use Rattle.mangle.specs.Segments.{eachBetween}
 use Rattle.mangle.proofs.NameLaws.{spaces-none, spaces-turn, spaces-all}
 use Rattle.mangle.proofs.namespace.write_namespace.Statement.{statement}
 use Rattle.mangle.proofs.namespace.write_namespace.Tie as tie
 
 abbrev Inv-loop : tie.InvT-loop
-Inv-loop s names items v before behind out₀ at here₀ d₀ out here d = (d ≤ v .depth) × Wrote (sink out₀ here₀) (between before behind (take d (itemAt (itemsAt s names items) (v .number) .namespace))) (sink out here)
+Inv-loop s names items v before behind out₀ at here₀ d₀ out here d = (d ≤ v .depth) × Wrote (sink out₀ here₀) (eachBetween before behind (take d (itemAt (itemsAt s names items) (v .number) .namespace))) (sink out here)
 
 abbrev μ-loop : tie.MeasureT-loop
 μ-loop s names items v before behind out₀ at here₀ d₀ out here d = v .depth - d
