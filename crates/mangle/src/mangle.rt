@@ -6,10 +6,10 @@ use sink::put_bytes;
 use view::FunctionView;
 use view::ItemView;
 use view::item;
-ghost use mathlib.Core.List.{_++_, map};
+ghost use mathlib.Core.List.{_++_};
 ghost use Rattle.sink.specs.Sink.{sink, Wrote};
-ghost use Rattle.syntax.specs.Items.{itemAt, selfType};
-ghost use Rattle.syntax.specs.Symbol.{pushAll, join};
+ghost use Rattle.syntax.specs.Items.{itemAt};
+ghost use Rattle.syntax.specs.Symbol.{join};
 ghost use Rattle.syntax.specs.Mangle.{version, externFn, operator};
 ghost use Rattle.view.specs.Values.{itemsAt, functionAt, Whole};
 ghost use Rattle.view.specs.Views.{ItemAt, FunctionAt};
@@ -32,28 +32,6 @@ fn write_version(
     put_bytes(out, here, b"cxxbridge1$205")
 }
 
-// The segment of the self type, if any.
-fn push_self_type(
-    s: &[u8],
-    names: &[u32],
-    items: &[u32],
-    f: FunctionView,
-    out: &mut [u8],
-    at: usize,
-) -> usize
-    requires { ⌜ Whole (now s) (now names) (now items) × FunctionAt (now s) (now names) (now items) f ⌝ }
-    ensures { λ r. ⌜ Wrote (sink (now (out .entry)) at) (pushAll
-        (map (λ i. itemAt (itemsAt (now (s .entry)) (now (names .entry)) (now (items .entry))) i .cxx)
-        (selfType (functionAt (now (s .entry)) (now (names .entry)) (now (items .entry)) (f .number) .form))))
-        (sink (now (out .exit)) r) ⌝ }
-{
-    if f.form == 0 {
-        return at;
-    }
-    let v = item(s, names, items, f.owner);
-    push_name(s, names, v.name, out, at)
-}
-
 // The symbol of a function.
 pub fn write_extern_fn(
     s: &[u8],
@@ -72,9 +50,14 @@ pub fn write_extern_fn(
         (functionAt (now (s .entry)) (now (names .entry)) (now (items .entry)) (f .number)))
         (sink (now (out .exit)) r) ⌝ }
 {
+    if f.form == 0 {
+        let version = write_version(s, names, items, v, out, at);
+        return push_name(s, names, f.rust, out, version);
+    }
+    let self_type = item(s, names, items, f.owner);
     let scope = write_version(s, names, items, v, out, at);
-    let here = push_self_type(s, names, items, f, out, scope);
-    push_name(s, names, f.rust, out, here)
+    let receiver = push_name(s, names, self_type.name, out, scope);
+    push_name(s, names, f.rust, out, receiver)
 }
 
 // A symbol of a type's layout: ends in the type's C++ name, `operator` and the name given.
@@ -92,8 +75,8 @@ pub fn write_operator(
         (operator (itemAt (itemsAt (now (s .entry)) (now (names .entry)) (now (items .entry))) (v .number))
         (now (name .entry))) (sink (now (out .exit)) r) ⌝ }
 {
-    let scope = write_version(s, names, items, v, out, at);
-    let receiver = push_name(s, names, v.name, out, scope);
+    let version = write_version(s, names, items, v, out, at);
+    let receiver = push_name(s, names, v.name, out, version);
     let here = push(b"operator", out, receiver);
     push(name, out, here)
 }

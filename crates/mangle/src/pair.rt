@@ -1,4 +1,4 @@
-// syntax/pair.rs: the names of an item.
+// `Pair` of syntax/mod.rs: the names of an item.
 use crate::namespace::write_namespace;
 use put_name::put_name_of;
 use sink::put_bytes;

@@ -19,7 +19,7 @@ unfoldable pub path : List Name → List ℕ
 path [] = []
 path (part ∷ parts) = bytes "::" ++ part ++ path parts
 
--- syntax/pair.rs `to_fully_qualified`
+-- `to_fully_qualified`: "A full name has `::` before each namespace and before the C++ name"
 unfoldable pub fullName : Item → List ℕ
 fullName x = path (x .namespace ++ (x .cxx ∷ []))
 
