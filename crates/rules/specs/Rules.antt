@@ -89,12 +89,15 @@ typeName x = pick (isFunction (x .body)) [] (fullName x ∷ [])
 abbrev pub symbol : List Item → Item → List (List ℕ)
 symbol items x = map (externFn items (x .namespace)) (functionOf (x .body))
 
+abbrev pub argumentNames : Function → List Name
+argumentNames f = map (λ a. a .name) (f .arguments)
+
 -- "two types with the same full name; two functions with the same symbol; two equal argument names in a function"
 unfoldable pub taken : List Item → Bool
 taken items =
     any (λ x. reservedNamespace (x .namespace)) items || twice same (gather typeName items)
     || twice same (gather (symbol items) items)
-    || any (λ f. twice same (map (λ a. a .name) (f .arguments))) (functions items)
+    || any (λ f. twice same (argumentNames f)) (functions items)
 
 -- ---- 11: unfit argument
 
