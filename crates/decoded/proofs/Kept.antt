@@ -1,6 +1,6 @@
 -- What each item of an accepted sheet keeps, by itself.
 use mathlib.Core.Path.{_≡_, refl}
-use mathlib.Core.List.{List, [], _∷_, _++_, map}
+use mathlib.Core.List.{List, [], _∷_, _++_}
 use mathlib.Core.Bool.{Bool, true, false}
 use Prim.Native.Nat.{ℕ, zero, suc, _<_}
 use native.Mathlib.Omega.{arith}
@@ -10,9 +10,9 @@ use Rattle.lexical.specs.Bytes.{every, same}
 use Rattle.lexical.specs.Names.{isName}
 use Rattle.lexical.proofs.BoolLaws.{both, neither}
 use Rattle.lexical.proofs.ByteLaws.{Each}
-use Rattle.format.specs.Sheet.{Name, Argument, Function, function, Item, Sheet}
+use Rattle.format.specs.Sheet.{Argument, Function, function, Item, Sheet}
 use Rattle.rules.specs.Rules.{any, twice, gather, functionOf, functions, reservedNamespace, typeName, symbol, taken}
-use Rattle.rules.specs.Rules.{unfit, unfitArgument}
+use Rattle.rules.specs.Rules.{argumentNames, unfit, unfitArgument}
 use Rattle.decoded.specs.Fits
 use Rattle.decoded.specs.Fits.{returnFits, argumentFits, formFits, commentFits, functionFits, bodyFits, itemFits}
 use Rattle.decoded.specs.Fits.{sheetFits, typeFits}
@@ -30,9 +30,6 @@ argument-name items a h = both (isName (a .name)) (typeFits 8 items (a .type)) h
 pub argument-type : (items : ℕ) (a : Argument) → argumentFits items a ≡ true → typeFits 8 items (a .type) ≡ true
 unfolding argumentFits
 argument-type items a h = both (isName (a .name)) (typeFits 8 items (a .type)) h .1
-
-abbrev pub argumentNames : Function → List Name
-argumentNames f = map (λ a. a .name) (f .arguments)
 
 pub record FunctionKept (items : List Item) (f : Function) : Type 0 where
   pub rustName : isName (f .rust) ≡ true

@@ -132,7 +132,9 @@ abbrev declared : String → List ℕ
 declared declaration = bytes "extern \"C\" {\n" ++ bytes declaration ++ bytes "\n} // extern \"C\"\n"
 
 pub other-bodies :
-    NotRead (bytes "void f();" ∷ bytes "extern \"C\" void f();" ∷ declared "void f() { g(); }" ∷ [])
+    NotRead (bytes "void f();" ∷ bytes "extern \"C\" void f();" ∷ declared "void f() { g(); }"
+    ∷ bytes "void T::layout::size() noexcept { return g(); }" ∷ bytes "::std::size_t T::layout::length() noexcept { return g(); }"
+    ∷ bytes "// one\n::std::size_t T::layout::size() noexcept { return g(); }" ∷ bytes "void f() { g(); } struct X;" ∷ [])
 unfolding computes
 other-bodies = not-read 9 refl (λ n. refl)
 
@@ -141,7 +143,8 @@ pub other-declarations :
     (declared "void f(const ::S &x);" ∷ declared "void f(::S const x);" ∷ declared "void f(S x);"
     ∷ declared "void f(::std::S x);" ∷ declared "void f(::rust::Fn<void(void)> x);" ∷ declared "void f(void);"
     ∷ declared "void f(::S);" ∷ declared "void f(::S x, );" ∷ declared "void f(::S x$);" ∷ declared "void *f();"
-    ∷ declared "int f();" ∷ [])
+    ∷ declared "int f();" ∷ declared "void f() const;" ∷ declared "void T::f();" ∷ declared "// one\nvoid f();"
+    ∷ declared "void f(::std::array<bool, 01> x);" ∷ declared "void f(::std::array<bool, 0x1> x);" ∷ [])
 unfolding computes
 other-declarations = not-read 9 refl (λ n. refl)
 
@@ -149,6 +152,6 @@ pub other-shims :
     NotRead
     (bytes "void f(::S *return$) { g(); }" ∷ bytes "void f() noexcept(true) { g(); }" ∷ bytes "void f() { return; }"
     ∷ bytes "void f() { g(); g(); }" ∷ bytes "void f() { error$ = g(); }" ∷ bytes "void f() { g(this); }"
-    ∷ bytes "void f() { g(x.get()); }" ∷ bytes "void f() { g(&x$); }" ∷ [])
+    ∷ bytes "void f() { g(x.get()); }" ∷ bytes "void f() { g(&x$); }" ∷ bytes "void f() {\n// one\ng(); }" ∷ [])
 unfolding computes
 other-shims = not-read 9 refl (λ n. refl)

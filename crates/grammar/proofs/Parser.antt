@@ -5,20 +5,21 @@ use mathlib.Core.Option.{Option, none, some}
 use Prim.Native.Nat.{ℕ, zero, suc, _+_, _*_, _-_}
 use Prim.Native.String.{String}
 use Rattle.lexical.specs.Bytes.{bytes, same}
+use Rattle.lexical.specs.Decimal.{decimal}
 use Rattle.grammar.specs.Token.{Token, word, mark, scope, colon, linkage, comment, quoted}
 use Rattle.grammar.specs.Types.{Name, Atom, bool, char, u8, u16, u32, u64, usize, i8, i16, i32, i64, isize}
 use Rattle.grammar.specs.Types.{f32, f64, cxxString, rustString, Template, box, vec, uniquePtr, sharedPtr}
 use Rattle.grammar.specs.Types.{weakPtr, vector, Suffix, reference, pointer, CxxType, suffixed, Base, atom, str}
 use Rattle.grammar.specs.Types.{full, template, slice, array, voidFn, fn, CxxTypes, nil, cons}
 use Rattle.grammar.specs.Tree.{Result, void, ptrLen, fat, int, value, Parameter, named, slot}
-use Rattle.grammar.specs.Tree.{size, align, Head, free, method, Local, held, room}
+use Rattle.grammar.specs.Tree.{Measure, size, align, Head, free, method, Local, held, room}
 use Rattle.grammar.specs.Tree.{Operand, receiver, direct, intoRaw, release, address, heldAddress, slotAddress}
 use Rattle.grammar.specs.Tree.{CallForm, bare, error, returned, dereferenced, inFromRaw, inUniquePtr}
 use Rattle.grammar.specs.Tree.{inNewUnchecked, inSlice, Call, Ending, noReturn, returnSlot, moveSlot, Item}
 use Rattle.grammar.specs.Tree.{declares, defines, shim, Block, namespace, externC, Body, bodyEnd, item, block}
 use Rattle.grammar.specs.Tree.{Line, structLine, enumLine, usingLine, Forward, forwardEnd, line, bareNamespace}
 use Rattle.grammar.specs.Tree.{Text, text}
-use Rattle.grammar.specs.Tokens.{blockTokens}
+use Rattle.grammar.specs.Tokens.{eachTokens, pathTokens, resultTokens, measureTokens, commentTokens, blockTokens}
 use Rattle.grammar.specs.Rules.{ofStdOrRust}
 use Rattle.grammar.proofs.Lexer.{lex}
 use Rattle.grammar.proofs.SameTokens.{sameToken, sameTokens}
@@ -200,7 +201,8 @@ module _ {A : Type 0} where
   insideP f g opensSlice r k =
       need "<" r (λ r. f r (λ x r. flagP "const" r (λ c r. need ">" r (k (based (slice x c))))))
   insideP f g opensArray r k =
-      need "<" r (λ r. f r (λ x r. need "," r (λ r. wordP r (λ s r. need ">" r (k (based (array x (number 0 s))))))))
+      need "<" r (λ r. f r (λ x r. need "," r (λ r. wordP r (λ s r. need ">" r (λ r.
+      cond (same s (decimal (number 0 s))) (k (based (array x (number 0 s))) r) none)))))
   insideP f g opensFn r k =
       need "<" r (λ r. fork "void" r
       (λ r. need "(" r (λ r. g r (λ xs r. need ") >" r (k (based (voidFn xs))))))
@@ -258,6 +260,18 @@ isLocal r = begins ":: rust :: ManuallyDrop <" r || begins ":: rust :: MaybeUnin
 abbrev pub nameOf : Head → Name
 nameOf (free f) = f
 nameOf (method t f) = f
+
+-- what stands before a declaration's parameters and behind them, but for `noexcept`
+abbrev pub isDeclared : List (List ℕ) → Head → Bool → Bool
+isDeclared [] (free f) isConst = not isConst
+isDeclared [] (method t f) isConst = false
+isDeclared (s ∷ cs) h isConst = false
+
+-- what stands around the owner of a layout definition
+abbrev pub isLayout : Measure → List (List ℕ) → Result → List Name → Bool
+isLayout m cs t p =
+    sameTokens (eachTokens commentTokens cs (resultTokens t (pathTokens p [])))
+    (quoted ":: std :: size_t :: layout ::" (measureTokens m []))
 
 module _ {A : Type 0} where
   abbrev pub onResult : Start → Parser A Result
@@ -339,7 +353,8 @@ module _ {A : Type 0} where
   -- behind a head's parameters: it declares, or a shim's body follows
   unfoldable pub tailP : ℕ → List (List ℕ) → Result → Head → List Parameter → Bool → Bool → Parser A Item
   tailP n cs t h ps c e r k =
-      fork ";" r (k (declares (record { result = t; symbol = nameOf h; parameters = ps; noexcept = e })))
+      fork ";" r
+      (λ r. cond (isDeclared cs h c) (k (declares (record { result = t; symbol = nameOf h; parameters = ps; noexcept = e })) r) none)
       (λ r. need "{" r (λ r. manyP n isLocal localP r (λ ls r. callP n r (λ call r. errorTestP r (λ b r. endingP r (λ f r.
       need "}" r (k (shim (record {
         comments = cs;
@@ -360,16 +375,18 @@ module _ {A : Type 0} where
       need "(" r (λ r. listP n parameterP r (λ ps r. need ")" r (λ r.
       flagP "const" r (λ c r. flagP "noexcept" r (λ e r. tailP n cs t h ps c e r k)))))
 
-  abbrev pub layoutP : Name → Name → Parser A Item
-  layoutP x s r k =
+  abbrev pub layoutP : Name → Measure → Parser A Item
+  layoutP x m r k =
       need "( ) noexcept { return" r (λ r. wordP r (λ y r. need "( ) ; }" r
-      (k (defines (record { owner = x; measure = cond (same s (bytes "size")) size align; symbol = y })))))
+      (k (defines (record { owner = x; measure = m; symbol = y })))))
 
   -- by the parts behind a word: none, a method's, or layout and size or align
   abbrev pub namedP : ℕ → List (List ℕ) → Result → Name → List Name → Parser A Item
   namedP n cs t a [] r k = parametersP n cs t (free a) r k
   namedP n cs t a (b ∷ []) r k = parametersP n cs t (method a b) r k
-  namedP n cs t a (b ∷ (c ∷ p)) r k = layoutP a c r k
+  namedP n cs t a (b ∷ (c ∷ p)) r k =
+      cond (isLayout size cs t (b ∷ c ∷ p)) (layoutP a size r k)
+      (cond (isLayout align cs t (b ∷ c ∷ p)) (layoutP a align r k) none)
 
   unfoldable pub itemP : ℕ → Parser A Item
   itemP n r k =

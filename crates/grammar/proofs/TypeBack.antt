@@ -11,6 +11,7 @@ use Rattle.lexical.specs.Bytes.{bytes, within, every, same}
 use Rattle.lexical.specs.Decimal.{decimal}
 use Rattle.lexical.specs.Names.{isName}
 use Rattle.lexical.proofs.BoolLaws.{both, not-true, neither, not-both, by-cases}
+use Rattle.lexical.proofs.ByteLaws.{same-refl}
 use Rattle.grammar.specs.Token.{Token, word, mark, scope, colon, linkage, comment, quoted}
 use Rattle.grammar.specs.Types.{Name, Atom, bool, char, u8, u16, u32, u64, usize, i8, i16, i32, i64, isize}
 use Rattle.grammar.specs.Types.{f32, f64, cxxString, rustString, Template, box, vec, uniquePtr, sharedPtr}
@@ -243,7 +244,8 @@ module _ {A : Type 0} where
     base-back (slice x false) n l o r h k = type-back x n l o (quoted ">" r) refl _
     base-back (array x d) n l o r h k =
         let q = both (ltb d arrayLengths) (partsOk x) o in
-        type-back x n l (q .1) (mark 44 ∷ word (decimal d) ∷ mark 62 ∷ r) refl _ ∙ rw (number-decimal d (q .0))
+        type-back x n l (q .1) (mark 44 ∷ word (decimal d) ∷ mark 62 ∷ r) refl _ ∙
+        rw (number-decimal d (q .0), same-refl (decimal d))
     base-back (voidFn xs) n l o r h k =
         types-back xs n l (both (leb (typeCount xs) maxFnArguments) (allPartsOk xs) o .1) (mark 62 ∷ r) _
     base-back (fn x xs) n l o r h k =

@@ -9,7 +9,8 @@ use Rattle.grammar.specs.Tokens.{Closings, textTokens}
 use Rattle.grammar.specs.Rules.{textOk}
 
 -- "A reading is a tree of these parts that takes up the whole text in order, cuts no word (a run of letters, digits
--- and underscores) and leaves out only spaces and line ends between parts"
+-- and underscores) and leaves out only spaces and line ends between parts". How the closing comments are laid out is no
+-- part of the tree.
 pub record Reading (tree : Text) (bytes : List ℕ) : Type 0 where
   pub keepsRules : textOk tree ≡ true
   pub closings : Closings tree

@@ -136,6 +136,7 @@ unfoldable pub declaredOk : Parameter → Bool
 declaredOk (named x name) = typeOk maxDeclaredLevels x && isName name
 declaredOk (slot x) = typeOk maxDeclaredLevels x
 
+-- it may be the receiver
 unfoldable pub isSelf : Parameter → Bool
 isSelf (named x name) = same name (bytes "self")
 isSelf (slot x) = false

@@ -215,7 +215,8 @@ abbrev pub blockTokens : Block → List Token → List Token
 blockTokens (namespace x) rest = quoted "namespace" (word x ∷ rest)
 blockTokens externC rest = quoted "extern \"C\"" rest
 
--- "a comment that repeats its head": the head's tokens, laid out behind the two slashes
+-- "a comment that repeats its head": the head's tokens, laid out behind the two slashes (`wellFormed` keeps a comment
+-- within its line)
 pub record Closing (b : Block) : Type 0 where
   pub characters : List ℕ
   pub repeats : Layout (blockTokens b []) characters

@@ -2,7 +2,7 @@
 -- longest beginning that both have, and open again. What is folded over the tree is folded over that flat sequence.
 use mathlib.Core.Path.{_≡_, refl, ap, _∙_}
 use mathlib.Core.List.{List, [], _∷_}
-use mathlib.Core.Bool.{Bool, true, false, cond, _&&_}
+use mathlib.Core.Bool.{Bool, true, cond, _&&_}
 use Rattle.lexical.proofs.BoolLaws.{both, by-cases}
 use Rattle.grammar.specs.Tree as Tree
 use Rattle.grammar.specs.Tree.{Body, bodyEnd, item}

@@ -15,7 +15,7 @@ use Rattle.grammar.specs.Rules.{itemOk}
 use Rattle.agreement.specs.Agreement.{Declared, Defined, declarations, shims}
 use Rattle.bridge.specs.Block.{Block, userDefinedNamespace, externC}
 use Rattle.bridge.specs.Write.{functionDecl, layoutDecl, layoutDefinition, functionShim, isFree}
-use Rattle.pieces.specs.Pieces.{Piece, namespaces, defined, declarationPieces, definitionPieces, pieces}
+use Rattle.pieces.specs.Pieces.{Piece, namespaces, declarationPieces, definitionPieces, pieces}
 use Rattle.pieces.proofs.BodyTree.{Entry, bodyOf}
 use Rattle.pieces.proofs.BodyFacts.{namesOf, hasExternC, entryOk, inEntries, declaredBy, definedBy}
 use Rattle.pieces.proofs.BodyFacts.{body-declarations, body-shims}
@@ -165,12 +165,9 @@ defined-spelled trees s x (struct p ts) e h = tt
 defined-spelled trees s x (enum p a cxx) e h = tt
 defined-spelled trees s x (cxxType p) e h = tt
 defined-spelled trees s x (rustType p) e h =
-    rw (picked (s .header) [] (defined x (layoutDefinition x (bytes "size") (bytes "sizeof")) ∷
-    defined x (layoutDefinition x (bytes "align") (bytes "alignof")) ∷ []) e)
-    (record { around = refl; spells = h .2 }, (record { around = refl; spells = h .3 }, tt))
+    rw e (record { around = refl; spells = h .2 }, (record { around = refl; spells = h .3 }, tt))
 defined-spelled trees s x (function f) e h =
-    rw (picked (s .header && not (isFree (f .form))) [] (defined x (functionShim s x f) ∷ []) (shown (s .header) _ e))
-    (record { around = refl; spells = h .1 }, tt)
+    rw (shown (s .header) (not (isFree (f .form))) e) (record { around = refl; spells = h .1 }, tt)
 
 pub entries-spelled : (trees : Trees) (s : Sheet) → s .header ≡ false →
     Each (λ x. Spelled trees s x (x .body)) (s .items) → SpellAll (pieces s) (entriesOf trees (s .items))
