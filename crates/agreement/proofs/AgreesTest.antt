@@ -7,9 +7,10 @@ use Rattle.lexical.specs.Bytes.{same}
 use Rattle.lexical.proofs.BoolLaws.{and-of}
 use Rattle.lexical.proofs.ByteLaws.{same-refl}
 use Rattle.format.specs.Sheet.{Name, Item}
+use Rattle.rules.specs.Rules.{argumentNames}
 use Rattle.grammar.specs.Tree as Tree
 use Rattle.grammar.specs.Tree.{Operand}
-use Rattle.agreement.specs.Agreement.{RustFunction, rustFunctions, functionSymbol, argumentNames, parameterNames}
+use Rattle.agreement.specs.Agreement.{RustFunction, rustFunctions, functionSymbol, parameterNames}
 use Rattle.agreement.specs.Agreement.{headNames, Declared, Defined, declarations, shims, ofFunctions, parameterName}
 use Rattle.agreement.specs.Agreement.{headParts, fitting, only, Matches, MatchAll, Agrees}
 

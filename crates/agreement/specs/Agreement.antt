@@ -15,7 +15,7 @@ use Rattle.format.specs.Sheet.{Sheet}
 use Rattle.syntax.specs.Items.{itemAt, selfType}
 use Rattle.syntax.specs.Mangle.{externFn}
 use Rattle.syntax.specs.Types.{needsIndirectAbi, isRustString}
-use Rattle.rules.specs.Rules.{isMethod}
+use Rattle.rules.specs.Rules.{isMethod, argumentNames}
 use Rattle.grammar.specs.Tree as Tree
 use Rattle.grammar.specs.Tree.{Parameter, Operand, Declaration, Shim, Head}
 use Rattle.grammar.specs.Reading.{OneReading}
@@ -51,9 +51,6 @@ slotNames throws indirect = pick throws (bytes "return$" ∷ []) (pick indirect 
 abbrev pub slotNamesOf : List Item → Bool → Ret → List Name
 slotNamesOf items throws none = []
 slotNamesOf items throws (gives t) = slotNames throws (needsIndirectAbi items t)
-
-abbrev pub argumentNames : Function → List Name
-argumentNames f = map (λ a. a .name) (f .arguments)
 
 -- "The function has these parameters and no other, in this order: `self` in forms 1 and 2, its arguments under their
 -- names, and `return$`"

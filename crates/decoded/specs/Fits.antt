@@ -6,6 +6,8 @@ use lib.Dec.{leb, ltb}
 use lib.ListN.{length}
 use Rattle.lexical.specs.Bytes.{every}
 use Rattle.lexical.specs.Names.{isName}
+use Rattle.format.specs.Limits.{mostItems, mostNamespaces, mostFields, mostSlots, mostArguments, mostLines}
+use Rattle.format.specs.Limits.{longestLine, mostLevels}
 use Rattle.format.specs.Types.{Ty, atom, named, template, pointer, str, fn, array, Ret, none, gives, Tys, nil, cons}
 use Rattle.format.specs.Sheet.{Form, free, constMethod, mutMethod, associated, Argument, Function, Body, struct, enum}
 use Rattle.format.specs.Sheet.{cxxType, rustType, function, Item, Sheet}
@@ -44,7 +46,7 @@ unfoldable mutual
   partsFit items (template k t) = partsFit items t
   partsFit items (pointer k m t) = partsFit items t
   partsFit items str = true
-  partsFit items (fn r ts) = leb (count ts) 15 && (partsFitRet items r && partsFitTys items ts)
+  partsFit items (fn r ts) = leb (count ts) mostSlots && (partsFitRet items r && partsFitTys items ts)
   partsFit items (array t n) = ltb n 4294967296 && partsFit items t
 
   pub partsFitRet : ℕ → Ret → Bool
@@ -63,10 +65,10 @@ typeFits levels items t = leb (depth t) levels && partsFit items t
 
 unfoldable pub returnFits : ℕ → Ret → Bool
 returnFits items none = true
-returnFits items (gives t) = typeFits 8 items t
+returnFits items (gives t) = typeFits mostLevels items t
 
 unfoldable pub argumentFits : ℕ → Argument → Bool
-argumentFits items a = isName (a .name) && typeFits 8 items (a .type)
+argumentFits items a = isName (a .name) && typeFits mostLevels items (a .type)
 
 unfoldable pub formFits : ℕ → Form → Bool
 formFits items free = true
@@ -75,16 +77,16 @@ formFits items (mutMethod i) = ltb i items
 formFits items (associated i) = ltb i items
 
 unfoldable pub commentFits : List ℕ → Bool
-commentFits cs = leb (length cs) 127 && lineOk cs
+commentFits cs = leb (length cs) longestLine && lineOk cs
 
 unfoldable pub functionFits : ℕ → Function → Bool
 functionFits items f =
     isName (f .rust) && (formFits items (f .form) && (returnFits items (f .return) &&
-    (leb (length (f .arguments)) 31 && (every (argumentFits items) (f .arguments) &&
-    (leb (length (f .comment)) 31 && every commentFits (f .comment))))))
+    (leb (length (f .arguments)) mostArguments && (every (argumentFits items) (f .arguments) &&
+    (leb (length (f .comment)) mostLines && every commentFits (f .comment))))))
 
 unfoldable pub bodyFits : ℕ → Body → Bool
-bodyFits items (struct p ts) = leb (length ts) 63 && every (typeFits 8 items) ts
+bodyFits items (struct p ts) = leb (length ts) mostFields && every (typeFits mostLevels items) ts
 bodyFits items (enum p a c) = true
 bodyFits items (cxxType p) = true
 bodyFits items (rustType p) = true
@@ -92,9 +94,9 @@ bodyFits items (function f) = functionFits items f
 
 unfoldable pub itemFits : ℕ → Item → Bool
 itemFits items x =
-    leb (length (x .namespace)) 7 && (every isName (x .namespace) && (isName (x .cxx) && bodyFits items (x .body)))
+    leb (length (x .namespace)) mostNamespaces && (every isName (x .namespace) && (isName (x .cxx) && bodyFits items (x .body)))
 
 -- ---- the sheet
 
 unfoldable pub sheetFits : Sheet → Bool
-sheetFits x = leb (length (x .items)) 255 && every (itemFits (length (x .items))) (x .items)
+sheetFits x = leb (length (x .items)) mostItems && every (itemFits (length (x .items))) (x .items)

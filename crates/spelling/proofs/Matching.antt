@@ -11,13 +11,13 @@ use Rattle.format.specs.Types.{Ty, Ret, none, gives}
 use Rattle.format.specs.Sheet.{Name, Form, free, constMethod, mutMethod, associated, Argument, Function, Item, Sheet}
 use Rattle.syntax.specs.Items.{itemAt, selfType}
 use Rattle.syntax.specs.Types.{needsIndirectAbi}
-use Rattle.rules.specs.Rules.{any, twice, isMethod, isCxxVector, unfit}
+use Rattle.rules.specs.Rules.{any, twice, argumentNames, isMethod, isCxxVector, unfit}
 use Rattle.decoded.proofs.Kept.{FunctionKept}
 use Rattle.bridge.specs.Write as Write
 use Rattle.bridge.specs.Write.{indirectReturn, slot}
 use Rattle.grammar.specs.Tree as Tree
 use Rattle.grammar.specs.Tree.{Operand}
-use Rattle.agreement.specs.Agreement.{slotNames, slotNamesOf, argumentNames, parameterNames, headNames, parameterName}
+use Rattle.agreement.specs.Agreement.{slotNames, slotNamesOf, parameterNames, headNames, parameterName}
 use Rattle.agreement.specs.Agreement.{headParts, argumentOperands, fitting, only, Matches}
 use Rattle.spelling.specs.DeclarationTree.{declaredReceiver, declaredArgument, declaredSlot, declaredParameters}
 use Rattle.spelling.specs.DeclarationTree.{declarationOf}
