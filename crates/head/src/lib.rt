@@ -16,8 +16,7 @@ ghost use Prim.Native.Nat.{_≤_, _<_};
 ghost use lib.ListN.{length};
 ghost use Rattle.lexical.specs.Bytes.{bytes};
 ghost use Rattle.lexical.specs.Decimal.{pickText};
-ghost use Rattle.syntax.specs.Items.{itemAt, selfType};
-ghost use Rattle.rules.specs.Rules.{gather};
+ghost use Rattle.syntax.specs.Items.{itemAt};
 ghost use Rattle.bridge.specs.WriteType.{writeTypeSpace, writeReturnType};
 ghost use Rattle.bridge.specs.Write.{commas, isMain, localName, shimDecl};
 ghost use Rattle.sink.specs.Sink.{sink, Wrote};
@@ -48,28 +47,7 @@ fn is_main(s: &[u8], names: &[u32], items: &[u32], v: ItemView, f: FunctionView)
     both(void, !f.throws)
 }
 
-// The type that the function returns.
-fn write_return_type(
-    s: &[u8],
-    names: &[u32],
-    items: &[u32],
-    f: FunctionView,
-    out: &mut [u8],
-    at: usize,
-) -> usize
-    requires { ⌜ Whole (now s) (now names) (now items) × FunctionAt (now s) (now names) (now items) f ⌝ }
-    ensures { λ r. ⌜ Wrote (sink (now (out .entry)) at)
-        (writeReturnType (itemsAt (now (s .entry)) (now (names .entry)) (now (items .entry)))
-        (functionAt (now (s .entry)) (now (names .entry)) (now (items .entry)) (f .number) .return))
-        (sink (now (out .exit)) r) ⌝ }
-{
-    if f.returns {
-        return write_outermost_space(s, names, items, f.result, out, at);
-    }
-    put_bytes(out, at, b"void ")
-}
-
-// The same, but for `main`.
+// The type that the shim returns: that of the function, but for `main`.
 fn write_shim_type(
     s: &[u8],
     names: &[u32],
@@ -92,33 +70,13 @@ fn write_shim_type(
     if main {
         return put_bytes(out, at, b"int ");
     }
-    write_return_type(s, names, items, f, out, at)
-}
-
-// The self type's name, where there is one.
-fn write_self_type(
-    s: &[u8],
-    names: &[u32],
-    items: &[u32],
-    f: FunctionView,
-    out: &mut [u8],
-    at: usize,
-) -> usize
-    requires { ⌜ Whole (now s) (now names) (now items) × FunctionAt (now s) (now names) (now items) f ⌝ }
-    ensures { λ r. ⌜ Wrote (sink (now (out .entry)) at)
-        (gather (λ i. itemAt (itemsAt (now (s .entry)) (now (names .entry))
-        (now (items .entry))) i .cxx ++ bytes "::")
-        (selfType (functionAt (now (s .entry)) (now (names .entry)) (now (items .entry)) (f .number) .form)))
-        (sink (now (out .exit)) r) ⌝ }
-{
-    if f.form == 0 {
-        return at;
+    if f.returns {
+        return write_outermost_space(s, names, items, f.result, out, at);
     }
-    let behind = write_cxx_name(s, names, items, f.owner, out, at);
-    put_bytes(out, behind, b"::")
+    put_bytes(out, at, b"void ")
 }
 
-// The name that the head defines.
+// The name that the head defines, behind that of the self type where there is one.
 fn write_local_name(
     s: &[u8],
     names: &[u32],
@@ -136,7 +94,11 @@ fn write_local_name(
         (functionAt (now (s .entry)) (now (names .entry)) (now (items .entry)) (f .number)))
         (sink (now (out .exit)) r) ⌝ }
 {
-    let behind = write_self_type(s, names, items, f, out, at);
+    if f.form == 0 {
+        return put_name_of(s, names, v.name, out, at);
+    }
+    let owned = write_cxx_name(s, names, items, f.owner, out, at);
+    let behind = put_bytes(out, owned, b"::");
     put_name_of(s, names, v.name, out, behind)
 }
 

@@ -8,25 +8,21 @@ use shape::shape;
 use shape::write_outermost;
 use sink::put_bytes;
 use sink::put_when;
-use view::ArgumentView;
 use view::FunctionView;
 use view::argument;
 use view::is_rust_string;
 use view::needs_indirect_abi;
 ghost use mathlib.Core.Path.{_≡_};
-ghost use mathlib.Core.List.{[], _++_, map};
+ghost use mathlib.Core.List.{map};
 ghost use mathlib.Core.Bool.{true, false};
 ghost use Prim.Native.Nat.{_≤_, _<_};
-ghost use lib.ListN.{length, getD};
-ghost use Rattle.lexical.specs.Bytes.{bytes};
-ghost use Rattle.lexical.specs.Decimal.{pickText};
+ghost use lib.ListN.{length};
 ghost use Rattle.format.specs.Types.{str};
 ghost use Rattle.format.specs.Decoding.{type};
 ghost use Rattle.rules.specs.Rules.{gather};
-ghost use Rattle.bridge.specs.WriteType.{writeType};
 ghost use Rattle.bridge.specs.Write.{commas, indirectReturn, isHeld, heldLocal, operandEnd, operand, operands};
 ghost use Rattle.sink.specs.Sink.{sink, Wrote};
-ghost use Rattle.view.specs.Values.{Yields, nameAt, itemsAt, functionAt, argumentAt, typeHere, Whole};
+ghost use Rattle.view.specs.Values.{Yields, itemsAt, functionAt, argumentAt, typeHere, Whole};
 ghost use Rattle.view.specs.Views.{FunctionAt, ArgumentsAt};
 ghost use Rattle.shape.specs.Shapes.{shapeWith};
 
@@ -45,33 +41,6 @@ fn is_held(s: &[u8], names: &[u32], items: &[u32], c: Cursor) -> bool
 }
 
 // ---- locals
-
-// The local that holds the argument a.
-fn write_local(
-    s: &[u8],
-    names: &[u32],
-    items: &[u32],
-    a: ArgumentView,
-    out: &mut [u8],
-    at: usize,
-) -> usize
-    requires { ⌜ Whole (now s) (now names) (now items) × (a .name < length (now names)) ×
-        Yields (type (length (now items)) (now s) (a .of .at)) (typeHere (length (now items)) (now s) (a .of .at)) ⌝ }
-    ensures { λ r. ⌜ Wrote (sink (now (out .entry)) at)
-        (bytes "  ::rust::ManuallyDrop<" ++ writeType
-        (itemsAt (now (s .entry)) (now (names .entry)) (now (items .entry)))
-        (typeHere (length (now (items .entry))) (now (s .entry)) (a .of .at)) ++ bytes "> " ++ nameAt (now (s .entry))
-        (getD (now (names .entry)) (a .name) 0) ++ bytes "$(::std::move(" ++ nameAt (now (s .entry))
-        (getD (now (names .entry)) (a .name) 0) ++ bytes "));\n") (sink (now (out .exit)) r) ⌝ }
-{
-    let b = put_bytes(out, at, b"  ::rust::ManuallyDrop<");
-    let c = write_outermost(s, names, items, a.of, out, b);
-    let d = put_bytes(out, c, b"> ");
-    let e = put_name_of(s, names, a.name, out, d);
-    let g = put_bytes(out, e, b"$(::std::move(");
-    let h = put_name_of(s, names, a.name, out, g);
-    put_bytes(out, h, b"));\n")
-}
 
 // The local that holds argument j, where one does.
 fn write_held_local(
@@ -94,7 +63,13 @@ fn write_held_local(
     let a = argument(s, names, items, f, offsets, j);
     let held = is_held(s, names, items, a.of);
     if held {
-        return write_local(s, names, items, a, out, at);
+        let begun = put_bytes(out, at, b"  ::rust::ManuallyDrop<");
+        let typed = write_outermost(s, names, items, a.of, out, begun);
+        let closed = put_bytes(out, typed, b"> ");
+        let named = put_name_of(s, names, a.name, out, closed);
+        let moved = put_bytes(out, named, b"$(::std::move(");
+        let held_name = put_name_of(s, names, a.name, out, moved);
+        return put_bytes(out, held_name, b"));\n");
     }
     at
 }
@@ -200,19 +175,6 @@ fn write_arguments(
     here
 }
 
-// The slot as an operand, where there is one.
-fn put_slot(indirect: bool, comma: bool, out: &mut [u8], at: usize) -> usize
-    ensures { λ r. ⌜ Wrote (sink (now (out .entry)) at)
-        (pickText indirect (pickText comma (bytes ", ") [] ++ bytes "&return$.value") [])
-        (sink (now (out .exit)) r) ⌝ }
-{
-    if indirect {
-        let behind = put_when(out, at, comma, b", ");
-        return put_bytes(out, behind, b"&return$.value");
-    }
-    at
-}
-
 // The operands of the call.
 pub fn write_operands(
     s: &[u8],
@@ -235,8 +197,12 @@ pub fn write_operands(
         (sink (now (out .exit)) r) ⌝ }
 {
     let method = is_method(f);
-    let a = put_when(out, at, method, b"*this");
-    let b = write_arguments(s, names, items, f, offsets, method, out, a);
-    let comma = needs_comma(method, f.arguments);
-    put_slot(indirect, comma, out, b)
+    let received = put_when(out, at, method, b"*this");
+    let listed = write_arguments(s, names, items, f, offsets, method, out, received);
+    if indirect {
+        let comma = needs_comma(method, f.arguments);
+        let behind = put_when(out, listed, comma, b", ");
+        return put_bytes(out, behind, b"&return$.value");
+    }
+    listed
 }

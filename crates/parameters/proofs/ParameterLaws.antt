@@ -1,5 +1,5 @@
 -- Laws of the parameters of a declaration.
-use mathlib.Core.Path.{_≡_, refl, sym, _∙_}
+use mathlib.Core.Path.{_≡_, refl, sym, ap, _∙_}
 use mathlib.Core.List.{List, [], _++_, map, append-nil}
 use mathlib.Core.Bool.{Bool, true, false, _||_, false≢true}
 use Prim.Native.Nat.{ℕ, zero, suc}
@@ -10,18 +10,21 @@ use Rattle.lexical.specs.Decimal.{pickText}
 use Rattle.format.specs.Types.{Ty}
 use Rattle.format.specs.Sheet.{Form, free, constMethod, mutMethod, associated, Argument, Function, Item}
 use Rattle.format.specs.Decoding.{formOf}
+use Rattle.format.specs.declared.TypeKind.{TypeKind}
 use Rattle.syntax.specs.Items.{itemAt, fullName}
 use Rattle.syntax.specs.Types.{needsIndirectAbi}
 use Rattle.rules.specs.Rules.{isMethod}
 use Rattle.bridge.specs.Write.{commas, indirectReturn, shape, externArgType, externArg}
-use Rattle.bridge.specs.Write.{receiver, slot, externParameters}
+use Rattle.bridge.specs.Write.{receiver, slotType, slot, externParameters}
 use Rattle.sink.specs.Sink.{Sink, Wrote}
 use Rattle.sink.proofs.SinkLaws.{_▷_, wrote-nil, wrote-as}
 use Rattle.view.specs.declared.FunctionView.{FunctionView}
 use Rattle.view.specs.declared.ArgumentView.{ArgumentView}
 use Rattle.view.specs.Values.{nameAt, itemsAt, functionAt, typeHere}
-use Rattle.view.specs.Views.{FunctionAt, ArgumentsAt, ArgumentOf}
+use Rattle.view.specs.Views.{FunctionAt, ArgumentsAt, ArgumentOf, kindOfType}
+use Rattle.write_atom.specs.Texts.{spaceOfKind}
 use Rattle.write_type.specs.TypeAt.{tyAt}
+use Rattle.write_type.proofs.TypeLaws.{space-is}
 use Rattle.shape.specs.declared.ShapeKind.{ShapeKind}
 use Rattle.shape.specs.declared.ShapeView.{ShapeView}
 use Rattle.shape.specs.Shapes.{shapeWith, ShapeOf}
@@ -94,9 +97,12 @@ module _ {s names items : List ℕ} {f : FunctionView} (a : FunctionAt s names i
   -- ---- the slot
 
   module _ {b : Bool} (h : b ≡ indirectReturn all this (this .return)) (comma : Bool) where
-    pub slot-written : {r t u : Sink} → b ≡ true → Wrote r (pickText comma (bytes ", ") []) t →
-        Wrote t (slotParameter all result) u → Wrote r (commas comma (map (slotParameter all) (slot all this))) u
-    slot-written e p q = wrote-as (p ▷ q) (rw (slot-some a h e) (sym (commas-one comma (slotParameter all result))))
+    pub slot-written : {k : TypeKind} {r t u v w : Sink} → b ≡ true → Wrote r (pickText comma (bytes ", ") []) t →
+        Wrote t (slotType all result (shape result)) u → k ≡ kindOfType result → Wrote u (spaceOfKind k) v →
+        Wrote v (bytes "*return$") w → Wrote r (commas comma (map (slotParameter all) (slot all this))) w
+    slot-written e p q z x y =
+        let space = wrote-as x (ap spaceOfKind z ∙ sym (space-is result)) in
+        wrote-as (p ▷ (q ▷ space ▷ y)) (rw (slot-some a h e) (sym (commas-one comma (slotParameter all result))))
 
     pub slot-left : (r : Sink) → b ≡ false → Wrote r (commas comma (map (slotParameter all) (slot all this))) r
     slot-left r e = wrote-as (wrote-nil r) (rw (slot-empty a h e) (sym (commas-none comma)))

@@ -143,27 +143,6 @@ fn write_extern_args(
 
 // ---- the return slot
 
-// The slot's parameter, for a return of the type at c.
-fn write_slot_parameter(
-    s: &[u8],
-    names: &[u32],
-    items: &[u32],
-    c: Cursor,
-    out: &mut [u8],
-    at: usize,
-) -> usize
-    requires { ⌜ Whole (now s) (now names) (now items) ×
-        Yields (type (length (now items)) (now s) (c .at)) (typeHere (length (now items)) (now s) (c .at)) ⌝ }
-    ensures { λ r. ⌜ Wrote (sink (now (out .entry)) at)
-        (slotParameter (itemsAt (now (s .entry)) (now (names .entry)) (now (items .entry)))
-        (typeHere (length (now (items .entry))) (now (s .entry)) (c .at))) (sink (now (out .exit)) r) ⌝ }
-{
-    let typed = write_slot_type(s, names, items, c, out, at);
-    let kind = type_kind(s, items, c);
-    let spaced = write_space_after_type(kind, out, typed);
-    put_bytes(out, spaced, b"*return$")
-}
-
 // The slot's parameter, where there is one; a comma before it if `before`.
 fn write_slot(
     s: &[u8],
@@ -184,7 +163,10 @@ fn write_slot(
     let indirect = indirect_return(s, names, items, f);
     if indirect {
         let next = put_when(out, at, before, b", ");
-        return write_slot_parameter(s, names, items, f.result, out, next);
+        let typed = write_slot_type(s, names, items, f.result, out, next);
+        let kind = type_kind(s, items, f.result);
+        let spaced = write_space_after_type(kind, out, typed);
+        return put_bytes(out, spaced, b"*return$");
     }
     at
 }

@@ -1,4 +1,4 @@
--- Written by tools/proofkit from answers/write_parameters.tpl (34f5d3b4 bd5632e7).
+-- Written by tools/proofkit from answers/write_parameters.tpl (975f25d9 d3bbce2c).
 use borrow.Author.Needs.{needs}
 use mathlib.Core.List.{_++_}
 use mathlib.Core.Bool.{false}
@@ -7,9 +7,9 @@ use native.Mathlib.Omega.{arith}
 use Rattle.bridge.specs.WriteType.{writeTypeSpace}
 use Rattle.sink.specs.Sink.{sink}
 use Rattle.sink.proofs.SinkLaws.{wrote-length}
-use Rattle.view.specs.Values.{itemsAt, functionAt, argumentAt}
-use Rattle.shape.proofs.FunctionLaws.{arguments-count}
-use Rattle.shape.proofs.CommaLaws.{Listed, listed-none, listed-turn, listed-all}
+use Rattle.view.specs.Values.{itemsAt, functionAt}
+use Rattle.shape.proofs.CommaLaws.{Listed, listed-none}
+use Rattle.shape.proofs.ArgumentLaws.{listed-argument, listed-arguments}
 use Rattle.head.proofs.write_parameters.Statement.{statement}
 use Rattle.head.proofs.write_parameters.Tie as tie
 
@@ -32,11 +32,10 @@ loop-less : tie.Need-loop-less Inv-loop μ-loop
 loop-less c = omega arith
 
 loop-again : tie.Need-loop-again Inv-loop μ-loop
-unfolding argumentAt
-loop-again c = (omega arith, listed-turn _ _ _ _ (omega (arith, arguments-count (c .before .before .before .before .before .before .before .before .before .before .before .before .before .before .before .before .before .pre .1))) (c .before .before .before .before .before .before .before .before .before .before .before .loop .inv .1) (c .before .before .before .before .before .before .put-when .ensures) (c .before .before .write-parameter .ensures))
+loop-again c = (omega arith, listed-argument _ (c .before .before .before .before .before .before .before .before .before .before .before .before .before .before .before .before .before .pre .1) (omega arith) (c .before .before .before .before .before .before .before .before .before .before .before .loop .inv .1) (c .before .before .before .before .before .before .put-when .ensures) (c .before .before .write-parameter .ensures))
 
 returns : tie.Need-returns Inv-loop μ-loop
-returns c = listed-all _ _ _ (omega (arith, arguments-count (c .before .before .before .before .before .before .before .before .pre .1))) (c .before .before .loop .inv .1)
+returns c = listed-arguments _ (c .before .before .before .before .before .before .before .before .pre .1) (omega arith) (c .before .before .loop .inv .1)
 
 same-length : tie.Need-same-length Inv-loop μ-loop
 same-length c = wrote-length (returns c)

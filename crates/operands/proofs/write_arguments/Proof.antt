@@ -1,13 +1,13 @@
--- Written by tools/proofkit from answers/write_arguments.tpl (920cb928 12c89a1a).
+-- Written by tools/proofkit from answers/write_arguments.tpl (45eefbb6 d775d7d1).
 use borrow.Author.Needs.{needs}
 use Prim.Native.Nat.{_-_, _≤_}
 use native.Mathlib.Omega.{arith}
 use Rattle.bridge.specs.Write.{operand}
 use Rattle.sink.specs.Sink.{sink}
 use Rattle.sink.proofs.SinkLaws.{wrote-length}
-use Rattle.view.specs.Values.{itemsAt, functionAt, argumentAt}
-use Rattle.shape.proofs.FunctionLaws.{arguments-count}
-use Rattle.shape.proofs.CommaLaws.{Listed, listed-none, listed-turn, listed-all}
+use Rattle.view.specs.Values.{itemsAt, functionAt}
+use Rattle.shape.proofs.CommaLaws.{Listed, listed-none}
+use Rattle.shape.proofs.ArgumentLaws.{listed-argument, listed-arguments}
 use Rattle.operands.proofs.write_arguments.Statement.{statement}
 use Rattle.operands.proofs.write_arguments.Tie as tie
 
@@ -30,11 +30,10 @@ loop-less : tie.Need-loop-less Inv-loop μ-loop
 loop-less c = omega arith
 
 loop-again : tie.Need-loop-again Inv-loop μ-loop
-unfolding argumentAt
-loop-again c = (omega arith, listed-turn _ _ _ _ (omega (arith, arguments-count (c .before .before .before .before .before .before .before .before .before .before .before .before .before .before .before .before .before .pre .1))) (c .before .before .before .before .before .before .before .before .before .before .before .loop .inv .1) (c .before .before .before .before .before .before .put-when .ensures) (c .before .before .write-operand .ensures))
+loop-again c = (omega arith, listed-argument _ (c .before .before .before .before .before .before .before .before .before .before .before .before .before .before .before .before .before .pre .1) (omega arith) (c .before .before .before .before .before .before .before .before .before .before .before .loop .inv .1) (c .before .before .before .before .before .before .put-when .ensures) (c .before .before .write-operand .ensures))
 
 returns : tie.Need-returns Inv-loop μ-loop
-returns c = listed-all _ _ _ (omega (arith, arguments-count (c .before .before .before .before .before .before .before .before .pre .1))) (c .before .before .loop .inv .1)
+returns c = listed-arguments _ (c .before .before .before .before .before .before .before .before .pre .1) (omega arith) (c .before .before .loop .inv .1)
 
 same-length : tie.Need-same-length Inv-loop μ-loop
 same-length c = wrote-length (returns c)

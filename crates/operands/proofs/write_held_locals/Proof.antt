@@ -1,12 +1,12 @@
--- Written by tools/proofkit from answers/write_held_locals.tpl (f0041846 57c7c4b2).
+-- Written by tools/proofkit from answers/write_held_locals.tpl (5ef92906 ee95da57).
 use Prim.Native.Nat.{_-_, _≤_}
 use native.Mathlib.Omega.{arith}
 use Rattle.bridge.specs.Write.{heldLocal}
 use Rattle.sink.specs.Sink.{sink}
 use Rattle.sink.proofs.SinkLaws.{wrote-length}
-use Rattle.view.specs.Values.{itemsAt, functionAt, argumentAt}
-use Rattle.shape.proofs.FunctionLaws.{arguments-count}
-use Rattle.shape.proofs.CommaLaws.{Gathered, gathered-none, gathered-turn, gathered-all}
+use Rattle.view.specs.Values.{itemsAt, functionAt}
+use Rattle.shape.proofs.CommaLaws.{Gathered, gathered-none}
+use Rattle.shape.proofs.ArgumentLaws.{gathered-argument, gathered-arguments}
 use Rattle.operands.proofs.write_held_locals.Statement.{statement}
 use Rattle.operands.proofs.write_held_locals.Tie as tie
 
@@ -29,11 +29,10 @@ loop-less : tie.Need-loop-less Inv-loop μ-loop
 loop-less c = omega arith
 
 loop-again : tie.Need-loop-again Inv-loop μ-loop
-unfolding argumentAt
-loop-again c = (omega arith, gathered-turn _ _ _ (omega (arith, arguments-count (c .before .before .before .before .before .before .before .before .before .before .before .before .pre .1))) (c .before .before .before .before .before .before .loop .inv .1) (c .before .before .write-held-local .ensures))
+loop-again c = (omega arith, gathered-argument _ (c .before .before .before .before .before .before .before .before .before .before .before .before .pre .1) (omega arith) (c .before .before .before .before .before .before .loop .inv .1) (c .before .before .write-held-local .ensures))
 
 returns : tie.Need-returns Inv-loop μ-loop
-returns c = gathered-all _ _ (omega (arith, arguments-count (c .before .before .before .before .before .before .before .before .pre .1))) (c .before .before .loop .inv .1)
+returns c = gathered-arguments _ (c .before .before .before .before .before .before .before .before .pre .1) (omega arith) (c .before .before .loop .inv .1)
 
 same-length : tie.Need-same-length Inv-loop μ-loop
 same-length c = wrote-length (returns c)
