@@ -8,10 +8,11 @@ use lib.ListN.{length, take}
 use lib.Seq.{take-append-seam}
 use Rattle.refusal.specs.declared.Refusal.{Refusal}
 use Rattle.refusal.specs.declared.Refusal.the-variants.{WrongPart, Taken, UnfitArgument, Ring}
+use Rattle.format.specs.Limits.{mostNames, mostItems}
 use Rattle.format.specs.Decode.{fault, got, pick}
 use Rattle.format.specs.Sheet.{Sheet}
 use Rattle.format.specs.Decoding.{decode}
-use Rattle.decode.specs.declared.Outline.{Outline}
+use Rattle.format.specs.declared.Outline.{Outline}
 use Rattle.decode.specs.Tables.{Tables}
 use Rattle.decode.proofs.AnswerLaws.{decoded-limited}
 use Rattle.view.specs.Values.{itemsAt, Whole}
@@ -45,14 +46,14 @@ check-decoded s {x} h =
 
 -- a decoded sheet's items are those that its two tables give
 pub check-tables : (s : List ℕ) {o : Outline} {names items : List ℕ} {r : Checked} → Tables s (decode s) o names items →
-    1023 ≤ length names → 255 ≤ length items →
+    mostNames ≤ length names → mostItems ≤ length items →
     r ≡ ruledItems (itemsAt s (take (o .names) names) (take (o .items) items)) → r ≡ check s
 check-tables s {o} {names} {items} t a b e =
     e ∙ ap ruledItems (items-are t (le-trans (t .few) a) (le-trans (t .items .few) b)) ∙
     sym (check-decoded s (t .items .decoded))
 
 pub whole-tables : (s : List ℕ) {o : Outline} {names items : List ℕ} → Tables s (decode s) o names items →
-    1023 ≤ length names → 255 ≤ length items → Whole s (take (o .names) names) (take (o .items) items)
+    mostNames ≤ length names → mostItems ≤ length items → Whole s (take (o .names) names) (take (o .items) items)
 whole-tables s t a b =
     whole t (le-trans (t .few) a) (le-trans (t .items .few) b) (decoded-limited s (t .items .decoded))
 

@@ -1,7 +1,7 @@
 // The check service: what document 01 answers to any bytes.
 use decode::Decoded;
-use decode::Outline;
 use decode::decode;
+use format::Outline;
 use judge::unfit_argument;
 use judge::wrong_part;
 use order::ring;
@@ -12,6 +12,7 @@ use view::fill_digests;
 ghost use mathlib.Core.Path.{_≡_};
 ghost use Prim.Native.Nat.{_≤_};
 ghost use lib.ListN.{length};
+ghost use Rattle.format.specs.Limits.{mostNames, mostItems};
 ghost use Rattle.format.specs.Decoding.{decode as decodeOf};
 ghost use Rattle.decode.specs.Tables.{Tables, Answers};
 ghost use Rattle.rules.specs.Rules.{taken as takenOf};
@@ -21,7 +22,7 @@ ghost use Rattle.check_sheet.specs.Ruled.{ruledParts, ruledRing, ruledIt
 
 // Rule 10, with room for the digests that it needs.
 fn taken_in(s: &[u8], names: &[u32], items: &[u32], digests: &mut [u32]) -> bool
-    requires { ⌜ Whole (now s) (now names) (now items) × (1023 ≤ length (now digests)) ⌝ }
+    requires { ⌜ Whole (now s) (now names) (now items) × (mostNames ≤ length (now digests)) ⌝ }
     ensures { λ r. ⌜ r ≡ takenOf (itemsAt (now (s .entry)) (now (names .entry)) (now (items .entry))) ⌝ }
 {
     let n = names.len();
@@ -85,7 +86,7 @@ pub fn judge(s: &[u8], names: &[u32], items: &[u32]) -> Checked
 // A decoded sheet, with the two tables that its decoding filled.
 fn check_decoded(sheet: &[u8], o: Outline, names: &[u32], items: &[u32]) -> Checked
     requires { ⌜ Tables (now sheet) (decodeOf (now sheet)) o (now names) (now items) ×
-        (1023 ≤ length (now names)) × (255 ≤ length (now items)) ⌝ }
+        (mostNames ≤ length (now names)) × (mostItems ≤ length (now items)) ⌝ }
     ensures { λ r. ⌜ r ≡ checkOf (now (sheet .entry)) ⌝ }
 {
     let n = o.names as usize;

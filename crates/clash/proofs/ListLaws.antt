@@ -8,8 +8,7 @@ use lib.ListN.{length, getD, drop, length-map}
 use Rattle.format.specs.Sheet.{cxxType, Item}
 use Rattle.syntax.specs.Items.{itemAt}
 use Rattle.rules.specs.Rules.{any, twice}
-use Rattle.view.specs.Values.{oneItemAt, itemsAt}
-use Rattle.clash.specs.Clashes.{itemNo}
+use Rattle.view.specs.Values.{oneItemAt, itemsAt, itemNo}
 use Rattle.clash.proofs.SearchLaws.{any-turn, any-hit, any-end, twice-turn, twice-hit, twice-end}
 
 abbrev noItem : Item

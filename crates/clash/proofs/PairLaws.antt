@@ -11,7 +11,7 @@ use Rattle.syntax.specs.Items.{fullName, isFunction}
 use Rattle.syntax.specs.Mangle.{externFn}
 use Rattle.rules.specs.Rules.{any, twice, gather, typeName, functionOf, symbol}
 use Rattle.view.specs.Values.{functionIn}
-use Rattle.clash.specs.Clashes.{symbolOf, clashes}
+use Rattle.clash.specs.Clashes.{itemSymbol, clashes}
 
 or-swap : (a b c : Bool) → (a || (b || c)) ≡ (b || (a || c))
 or-swap true true c = refl
@@ -63,8 +63,8 @@ module _ {A : Type 0} (kind : A → Bool) (f g : A → List ℕ) where
       (or-assoc (any (versus false x) xs) (twice same (gather first xs)) (twice same (gather second xs))))
 
 symbol-like : (items : List Item) (x : Item) →
-    symbol items x ≡ pick (isFunction (x .body)) (symbolOf items x ∷ []) []
-unfolding symbolOf
+    symbol items x ≡ pick (isFunction (x .body)) (itemSymbol items x ∷ []) []
+unfolding itemSymbol
 symbol-like items x = by-body (x .body)
   where
     by-body : (b : Body) →
@@ -80,6 +80,6 @@ pub pairs : (items : List Item) →
     twice (clashes items) items ≡ (twice same (gather typeName items) || twice same (gather (symbol items) items))
 unfolding clashes
 pairs items =
-    sym (one-search (λ x. isFunction (x .body)) fullName (symbolOf items) items) ∙
+    sym (one-search (λ x. isFunction (x .body)) fullName (itemSymbol items) items) ∙
     ap (λ (l : List (List ℕ)). twice same (gather typeName items) || twice same l)
     (sym (gather-like (symbol items) _ (symbol-like items) items))

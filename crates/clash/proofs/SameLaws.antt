@@ -14,7 +14,7 @@ use Rattle.syntax.specs.Symbol.{join}
 use Rattle.syntax.specs.Mangle.{version, externFn}
 use Rattle.view.specs.Values.{functionIn}
 use Rattle.view.specs.Digests.{digest}
-use Rattle.clash.specs.Clashes.{sameNames, ownerNames, symbolOf, clashes, ownName}
+use Rattle.clash.specs.Clashes.{sameNames, ownerNames, itemSymbol, clashes, ownName}
 use Rattle.clash.proofs.SegmentLaws.{end-eq, path-eq, symbol-eq}
 use Rattle.clash.proofs.NameLaws.{names-eq, names-refl}
 use Rattle.clash.proofs.ItemLaws.{Proper}
@@ -63,31 +63,31 @@ module _ {items : List Item} {x y : Item} (px : Proper items x) (py : Proper ite
     abbrev ownerY : List Name
     ownerY = ownerNames items (functionIn (y .body) .form)
 
-    symbol-parts : symbolOf items x ≡ symbolOf items y → (x .namespace ≡ y .namespace) × (ownerX ≡ ownerY) × (rustX ≡ rustY)
-    unfolding symbolOf externFn ownerNames
+    symbol-parts : itemSymbol items x ≡ itemSymbol items y → (x .namespace ≡ y .namespace) × (ownerX ≡ ownerY) × (rustX ≡ rustY)
+    unfolding itemSymbol externFn ownerNames
     symbol-parts e =
         symbol-eq (x .namespace) (y .namespace) ownerX ownerY rustX rustY (px .spaces) (py .spaces) (px .owner fx)
         (py .owner fy) (px .rust fx) (py .rust fy) e
 
-    symbol : x .namespace ≡ y .namespace → rustX ≡ rustY → ownerX ≡ ownerY → symbolOf items x ≡ symbolOf items y
-    unfolding symbolOf externFn ownerNames
+    symbol : x .namespace ≡ y .namespace → rustX ≡ rustY → ownerX ≡ ownerY → itemSymbol items x ≡ itemSymbol items y
+    unfolding itemSymbol externFn ownerNames
     symbol e d c = rw (e, c, d)
 
     abbrev parts : Bool
     parts = sameNames (x .namespace) (y .namespace) && (same rustX rustY && sameNames ownerX ownerY)
 
     -- "two functions with the same symbol"
-    pub symbol-same : same (symbolOf items x) (symbolOf items y) ≡ parts
+    pub symbol-same : same (itemSymbol items x) (itemSymbol items y) ≡ parts
     symbol-same =
-        both-ways (same (symbolOf items x) (symbolOf items y)) parts
-        (λ h. let q = symbol-parts (same-eq (symbolOf items x) (symbolOf items y) h) in
+        both-ways (same (itemSymbol items x) (itemSymbol items y)) parts
+        (λ h. let q = symbol-parts (same-eq (itemSymbol items x) (itemSymbol items y) h) in
         rw (q .0, q .1, q .2)
         (and-true (names-refl (y .namespace)) (and-true (same-refl rustY) (names-refl ownerY))))
         (λ h. let q = both (sameNames (x .namespace) (y .namespace)) (same rustX rustY && sameNames ownerX ownerY) h in
         let p = both (same rustX rustY) (sameNames ownerX ownerY) (q .1) in
-        let e : symbolOf items x ≡ symbolOf items y =
+        let e : itemSymbol items x ≡ itemSymbol items y =
         symbol (names-eq _ _ (q .0)) (same-eq _ _ (p .0)) (names-eq _ _ (p .1)) in
-        rw e (same-refl (symbolOf items y)))
+        rw e (same-refl (itemSymbol items y)))
 
   -- ---- items that clash have the same own name
 
@@ -102,8 +102,8 @@ module _ {items : List Item} {x y : Item} (px : Proper items x) (py : Proper ite
       ownName x ≡ ownName y
   unfolding clashes ownName
   functions-clash fx fy h =
-      let q : same (symbolOf items x) (symbolOf items y) ≡ true = rw (fx, fy) at h in
-      rw (fx, fy) (symbol-parts fx fy (same-eq (symbolOf items x) (symbolOf items y) q) .2)
+      let q : same (itemSymbol items x) (itemSymbol items y) ≡ true = rw (fx, fy) at h in
+      rw (fx, fy) (symbol-parts fx fy (same-eq (itemSymbol items x) (itemSymbol items y) q) .2)
 
   clash-own : clashes items x y ≡ true → ownName x ≡ ownName y
   unfolding clashes

@@ -15,11 +15,11 @@ use Rattle.format.specs.Decoding.{formOf}
 use Rattle.syntax.specs.Items.{itemAt, fullName, isFunction}
 use Rattle.view.specs.declared.ItemView.{ItemView}
 use Rattle.view.specs.declared.FunctionView.{FunctionView}
-use Rattle.view.specs.Values.{nameAt, itemsAt, functionIn, functionAt, Whole}
+use Rattle.view.specs.Values.{nameAt, itemsAt, functionIn, functionAt, Whole, itemNo}
 use Rattle.view.specs.Digests.{digest, digestsAt}
 use Rattle.view.proofs.NameLaws.{digest-there}
 use Rattle.view.specs.Views.{isFunctionKind, ItemAt, FunctionAt}
-use Rattle.clash.specs.Clashes.{itemNo, sameNames, ownerNames, symbolOf, clashes, ownName, Keyed}
+use Rattle.clash.specs.Clashes.{sameNames, ownerNames, itemSymbol, clashes, ownName, Keyed}
 use Rattle.clash.proofs.NameLaws.{names-turn, names-differ, names-end, names-unlike}
 use Rattle.clash.proofs.ItemLaws.{kind-is, Proper, proper}
 use Rattle.clash.proofs.SameLaws.{full-name-same, symbol-same, keys-differ}
@@ -110,12 +110,12 @@ module _ {s names items : List ℕ} (whole : Whole s names items) {v w : ItemVie
       abbrev ownerOf : Item → List Name
       ownerOf z = ownerNames all (functionIn (z .body) .form)
 
-      apart : same (symbolOf all x) (symbolOf all y) ≡
+      apart : same (itemSymbol all x) (itemSymbol all y) ≡
           (sameNames (x .namespace) (y .namespace) &&
           (same (functionIn (x .body) .rust) (functionIn (y .body) .rust) && sameNames (ownerOf x) (ownerOf y)))
       apart = symbol-same proper-x proper-y (callable a refl kv) (callable b refl kw)
 
-      pub symbol-apart : near ≡ false → false ≡ same (symbolOf all x) (symbolOf all y)
+      pub symbol-apart : near ≡ false → false ≡ same (itemSymbol all x) (itemSymbol all y)
       symbol-apart q = sym (apart ∙ rw (← h, q))
 
       module _ {f g : FunctionView} (nf : f .number ≡ v .number) (ng : g .number ≡ w .number)
@@ -125,12 +125,12 @@ module _ {s names items : List ℕ} (whole : Whole s names items) {v w : ItemVie
         unfolding functionAt
         rust-names = rw (← nf, ← ng, ← ff .view .rust, ← fg .view .rust) (sym k)
 
-        pub symbol-unlike : alike ≡ false → false ≡ same (symbolOf all x) (symbolOf all y)
+        pub symbol-unlike : alike ≡ false → false ≡ same (itemSymbol all x) (itemSymbol all y)
         symbol-unlike z = sym (apart ∙ rw (← h, q, rust-names, z))
 
         pub symbol-alike : {r : Bool} → alike ≡ true →
             r ≡ sameNames (ownerNames all (functionAt s names items (f .number) .form))
-            (ownerNames all (functionAt s names items (g .number) .form)) → r ≡ same (symbolOf all x) (symbolOf all y)
+            (ownerNames all (functionAt s names items (g .number) .form)) → r ≡ same (itemSymbol all x) (itemSymbol all y)
         unfolding functionAt
         symbol-alike z t = sym (apart ∙ rw (← h, q, rust-names, z) (rw (← nf, ← ng) (sym t)))
 
@@ -141,7 +141,7 @@ module _ {s names items : List ℕ} (whole : Whole s names items) {v w : ItemVie
     z = itemNo s names items j
 
     pub clash-functions : {r : Bool} → isFunctionKind (v .kind) ≡ true → isFunctionKind (w .kind) ≡ true →
-        r ≡ same (symbolOf all x) (symbolOf all y) → r ≡ clashes all x z
+        r ≡ same (itemSymbol all x) (itemSymbol all y) → r ≡ clashes all x z
     unfolding clashes
     clash-functions kv kw t = rw (callable a refl kv, callable b e kw) (rw (← e) t)
 

@@ -9,17 +9,13 @@ use Rattle.format.specs.Decode.{pick}
 use Rattle.format.specs.Sheet.{Name, Form, Item}
 use Rattle.syntax.specs.Items.{itemAt, fullName, selfType, isFunction}
 use Rattle.syntax.specs.Mangle.{externFn}
-use Rattle.view.specs.Values.{itemsAt, functionIn, Whole}
+use Rattle.view.specs.Values.{itemNo, functionIn, Whole}
 use Rattle.view.specs.Digests.{digest, digestsAt}
 
 -- a decoded sheet, with the digests of its names
 pub record Ready (s names items digests : List ℕ) : Type 0 where
   pub whole : Whole s names items
   pub digested : digests ≡ digestsAt s names
-
--- item i of a decoded sheet
-abbrev pub itemNo : List ℕ → List ℕ → List ℕ → ℕ → Item
-itemNo s names items i = itemAt (itemsAt s names items) i
 
 -- two lists of names are equal, name by name
 unfoldable pub sameNames : List Name → List Name → Bool
@@ -33,13 +29,13 @@ unfoldable pub ownerNames : List Item → Form → List Name
 ownerNames items form = map (λ i. itemAt items i .cxx) (selfType form)
 
 -- the symbol of an item that is a function
-unfoldable pub symbolOf : List Item → Item → List ℕ
-symbolOf items x = externFn items (x .namespace) (functionIn (x .body))
+unfoldable pub itemSymbol : List Item → Item → List ℕ
+itemSymbol items x = externFn items (x .namespace) (functionIn (x .body))
 
 -- two types with the same full name, or two functions with the same symbol
 unfoldable pub clashes : List Item → Item → Item → Bool
 clashes items x y =
-    pick (isFunction (x .body)) (pick (isFunction (y .body)) (same (symbolOf items x) (symbolOf items y)) false)
+    pick (isFunction (x .body)) (pick (isFunction (y .body)) (same (itemSymbol items x) (itemSymbol items y)) false)
     (pick (isFunction (y .body)) false (same (fullName x) (fullName y)))
 
 -- a function's Rust name, or a type's C++ name

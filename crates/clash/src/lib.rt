@@ -1,5 +1,6 @@
 // Rule 10 of document 01's table for pairs of items: two types with the same full name, two functions with the same
 // symbol. Each is told by the names that it is made of.
+use format::Outline;
 use view::FunctionView;
 use view::ItemView;
 use view::function;
@@ -14,9 +15,9 @@ ghost use lib.ListN.{length, getD, drop};
 ghost use Rattle.lexical.specs.Bytes.{same};
 ghost use Rattle.syntax.specs.Items.{fullName};
 ghost use Rattle.rules.specs.Rules.{any, twice, gather, typeName, symbol};
-ghost use Rattle.view.specs.Values.{nameAt, itemsAt, functionAt, Whole};
+ghost use Rattle.view.specs.Values.{nameAt, itemsAt, functionAt, Whole, itemNo};
 ghost use Rattle.view.specs.Views.{isFunctionKind, ItemAt, FunctionAt};
-ghost use Rattle.clash.specs.Clashes.{Ready, itemNo, sameNames, ownerNames, symbolOf, clashes, ownName, Keyed};
+ghost use Rattle.clash.specs.Clashes.{Ready, sameNames, ownerNames, itemSymbol, clashes, ownName, Keyed};
 
 // ---- two items
 
@@ -113,9 +114,9 @@ fn same_symbol(
         ItemAt (now s) (now names) (now items) w × (isFunctionKind (v .kind) ≡ true) ×
         (isFunctionKind (w .kind) ≡ true) ⌝ }
     ensures { λ r. ⌜ r ≡ same
-        (symbolOf (itemsAt (now (s .entry)) (now (names .entry)) (now (items .entry)))
+        (itemSymbol (itemsAt (now (s .entry)) (now (names .entry)) (now (items .entry)))
         (itemNo (now (s .entry)) (now (names .entry)) (now (items .entry)) (v .number)))
-        (symbolOf (itemsAt (now (s .entry)) (now (names .entry)) (now (items .entry)))
+        (itemSymbol (itemsAt (now (s .entry)) (now (names .entry)) (now (items .entry)))
         (itemNo (now (s .entry)) (now (names .entry)) (now (items .entry)) (w .number))) ⌝ }
 {
     let near = same_namespace(s, names, items, digests, v, w);
@@ -261,7 +262,7 @@ pub fn name_clash(s: &[u8], names: &[u32], items: &[u32], digests: &[u32]) -> bo
         twice same (gather (symbol (itemsAt (now (s .entry)) (now (names .entry)) (now (items .entry))))
         (itemsAt (now (s .entry)) (now (names .entry)) (now (items .entry))))) ⌝ }
 {
-    let mut keys = [0u32; 255];
+    let mut keys = [0u32; Outline::ITEMS];
     fill_keys(s, names, items, digests, &mut keys);
     clashing(s, names, items, digests, &keys)
 }

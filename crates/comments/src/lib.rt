@@ -16,14 +16,16 @@ ghost use Rattle.format.specs.Decoding.{lineOk, line};
 ghost use Rattle.cursor.specs.Checking.{Limited, Checks};
 ghost use Rattle.comments.specs.Comments.{comment};
 
-// A comment line, by its number of characters.
-pub struct Line {
+// A line of a comment, by its number of characters.
+pub struct CommentLine {
     pub length: usize,
 }
 
-impl Line {
+impl CommentLine {
     // The characters of the longest line.
     pub const LONGEST: usize = 127;
+    // The most lines of a comment.
+    pub const MOST: usize = 31;
 }
 
 fn all_line_chars(w: &[u8]) -> bool
@@ -61,7 +63,7 @@ fn check_line(s: &[u8], c: Cursor) -> Step
     requires { ⌜ Limited (now s) ⌝ }
     ensures { λ r. ⌜ Checks (line (now (s .entry)) (c .at)) r ⌝ }
 {
-    let mut buf = [0u8; Line::LONGEST];
+    let mut buf = [0u8; CommentLine::LONGEST];
     let f = read_text(s, c, 7, &mut buf);
     match f {
         Field::Cut => Step::Fault(Refusal::CutSheet),

@@ -90,14 +90,14 @@ one-shifted n h = shl-exact {a = 1} 1 n 64 (omega arith) (omega arith) ∙ one-m
 pub shl-pos : (n : ℕ) → n ≤ 32 → 0 < (1 * 2 ^ n) % 2 ^ 64
 shl-pos n h = rw (one-shifted n h) (pow-pos n)
 
-pub gather-is : (s : List ℕ) (at n : ℕ) {w : ℕ} → n ≤ 32 → w ≡ bitsAt s (8 * (at / 8)) 40 →
+pub extract-is : (s : List ℕ) (at n : ℕ) {w : ℕ} → n ≤ 32 → w ≡ bitsAt s (8 * (at / 8)) 40 →
     (w / 2 ^ (40 - (at % 8 + n))) % ((1 * 2 ^ n) % 2 ^ 64) ≡ bitsAt s at n
-gather-is s at n {w} h e =
+extract-is s at n {w} h e =
     let d = 40 - (at % 8 + n) in
     let z : 40 ≡ at % 8 + n + d = omega arith in
     let y : 8 * (at / 8) + at % 8 ≡ at = omega arith in
     let g = rw y at (bits-within s (8 * (at / 8)) (at % 8) n d) in
     rw (one-shifted n h, e) (ap (λ (k : ℕ). bitsAt s (8 * (at / 8)) k / 2 ^ d % 2 ^ n) z ∙ g)
 
-pub gather-fits : (s : List ℕ) (at n : ℕ) → n ≤ 32 → bitsAt s at n < 2 ^ 32
-gather-fits s at n h = omega (arith, bits-lt s at n, pow-mono h)
+pub extract-fits : (s : List ℕ) (at n : ℕ) → n ≤ 32 → bitsAt s at n < 2 ^ 32
+extract-fits s at n h = omega (arith, bits-lt s at n, pow-mono h)

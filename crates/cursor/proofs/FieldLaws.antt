@@ -9,28 +9,29 @@ use lib.Dec.{leb, eqb}
 use borrow.Author.Tests.{le-leb, lt-leb}
 use Rattle.refusal.specs.declared.Refusal.{Refusal}
 use Rattle.refusal.specs.declared.Refusal.the-variants.{CutSheet}
+use Rattle.format.specs.Limits.{mostBits}
 use Rattle.format.specs.Decode.{Got, fault, got, pick}
 use Rattle.format.specs.Bits.{bitsAt, bits, bit}
 use Rattle.cursor.specs.declared.Cursor.{Cursor}
 use Rattle.cursor.specs.declared.Field.{Field}
 use Rattle.cursor.specs.declared.Field.the-variants.{Value, Cut}
 use Rattle.cursor.specs.declared.Step.{Step}
-use Rattle.cursor.specs.Checking.{Limited, fieldOf, Reads, Checks}
+use Rattle.cursor.specs.Checking.{Limited, fieldOf, ReadsField, Checks}
 use Rattle.cursor.proofs.BitLaws.{bits-lt}
 use Rattle.cursor.proofs.CheckLaws.{tail}
 
 module _ (n : ℕ) (s : List ℕ) (at : ℕ) where
   -- what the code answers is the field
 
-  pub field-cut : 8 * length s < at + n → Reads (bits n s at) Cut
+  pub field-cut : 8 * length s < at + n → ReadsField (bits n s at) Cut
   unfolding bits
   field-cut l = record { field = rw (lt-leb (at + n) (8 * length s) l) }
 
-  pub field-past : Limited s → 262144 < at → Reads (bits n s at) Cut
+  pub field-past : Limited s → mostBits < at → ReadsField (bits n s at) Cut
   field-past l h = field-cut (omega arith)
 
   pub field-whole : {v : ℕ} → at + n ≤ 8 * length s → v ≡ bitsAt s at n →
-      Reads (bits n s at) (Value v (record { at = at + n }))
+      ReadsField (bits n s at) (Value v (record { at = at + n }))
   unfolding bits
   field-whole l e = record { field = rw (le-leb (at + n) (8 * length s) l, e) }
 
@@ -61,7 +62,7 @@ module _ (n : ℕ) (s : List ℕ) (at : ℕ) where
       fault-of false e = cc
 
   -- a field that the code found cut
-  pub cut : {r : Field} → Reads (bits n s at) r → r ≡ Cut → bits n s at ≡ fault CutSheet
+  pub cut : {r : Field} → ReadsField (bits n s at) r → r ≡ Cut → bits n s at ≡ fault CutSheet
   cut h t = by-field (bits n s at) refl (sym (h .field) ∙ t)
     where
       by-field : (p : Got ℕ) → bits n s at ≡ p → fieldOf p ≡ Cut → p ≡ fault CutSheet
@@ -69,7 +70,7 @@ module _ (n : ℕ) (s : List ℕ) (at : ℕ) where
       by-field (got v m) q t = absurd (let z : _≡_ {A = ℕ} 0 1 = cc in omega arith)
 
 -- a field that the code read
-pub value : {p : Got ℕ} {r : Field} {v : ℕ} {c : Cursor} → Reads p r → r ≡ Value v c → p ≡ got v (c .at)
+pub value : {p : Got ℕ} {r : Field} {v : ℕ} {c : Cursor} → ReadsField p r → r ≡ Value v c → p ≡ got v (c .at)
 value {p = fault e} {r} h t = let f = h .field in absurd (let z : _≡_ {A = ℕ} 0 1 = cc in omega arith)
 value {p = got x n} {r} {v} {c} h t =
     let y : Value x (record { at = n }) ≡ Value v c = sym (h .field) ∙ t in
@@ -79,18 +80,18 @@ value {p = got x n} {r} {v} {c} h t =
     rw (a, d)
 
 -- a field that the definition reads is what the code gets
-pub read-value : {p : Got ℕ} {r : Field} {v m : ℕ} → Reads p r → p ≡ got v m → r ≡ Value v (record { at = m })
+pub read-value : {p : Got ℕ} {r : Field} {v m : ℕ} → ReadsField p r → p ≡ got v m → r ≡ Value v (record { at = m })
 read-value h e = h .field ∙ ap fieldOf e
 
 -- ---- a field of one bit
 
 module _ (s : List ℕ) (at : ℕ) where
-  pub bit-value : {r : Field} {v : ℕ} {c : Cursor} → Reads (bits 1 s at) r → r ≡ Value v c →
+  pub bit-value : {r : Field} {v : ℕ} {c : Cursor} → ReadsField (bits 1 s at) r → r ≡ Value v c →
       bit s at ≡ got (eqb v 1) (c .at)
   unfolding bit
   bit-value h t = rw (value h t)
 
-  pub bit-cut : {r : Field} → Reads (bits 1 s at) r → r ≡ Cut → bit s at ≡ fault CutSheet
+  pub bit-cut : {r : Field} → ReadsField (bits 1 s at) r → r ≡ Cut → bit s at ≡ fault CutSheet
   unfolding bit
   bit-cut h t = rw (cut 1 s at h t)
 

@@ -11,7 +11,7 @@ use Rattle.format.specs.Decode.{Got, fault, got, Dec, after, many}
 use Rattle.cursor.specs.declared.Cursor.{Cursor}
 use Rattle.cursor.specs.declared.Step.{Step}
 use Rattle.cursor.specs.declared.Step.the-variants.{At, Fault}
-use Rattle.cursor.specs.Checking.{stepOf, Checks, placed, filledOf, Fills, Table}
+use Rattle.cursor.specs.Checking.{stepOf, Checks, positionOf, filledOf, Fills, Table}
 use Rattle.cursor.proofs.CheckLaws.{checks-like}
 
 -- ---- a loop that fills a table
@@ -77,10 +77,10 @@ fills-checks {r = Fault e} f = record { step = sym (ap stepOf (f .filled)) }
 -- ---- positions
 
 module _ {A : Type 0} (d : Dec A) {s : List ℕ} {at : ℕ} where
-  pub placed-got : {x : A} {m : ℕ} → d s at ≡ got x m → placed d s at ≡ got at m
+  pub placed-got : {x : A} {m : ℕ} → d s at ≡ got x m → positionOf d s at ≡ got at m
   placed-got e = rw e
 
-  pub placed-fault : {e : Refusal} → d s at ≡ fault e → placed d s at ≡ fault e
+  pub placed-fault : {e : Refusal} → d s at ≡ fault e → positionOf d s at ≡ fault e
   placed-fault e = rw e
 
 -- a checker sees no difference between values and their positions
@@ -89,8 +89,8 @@ placed-step at (fault e) = refl
 placed-step at (got x m) = refl
 
 pub placed-checks : {A : Type 0} (d : Dec A) (n : ℕ) (s : List ℕ) (at : ℕ) {r : Step} →
-    Checks (many n (placed d) s at) r → Checks (many n d s at) r
-placed-checks d n s at h = checks-like d (placed d) s (λ m. placed-step m (d s m)) n at h
+    Checks (many n (positionOf d) s at) r → Checks (many n d s at) r
+placed-checks d n s at h = checks-like d (positionOf d) s (λ m. placed-step m (d s m)) n at h
 
 -- ---- random access: entry i of a table of positions is where value i stands
 
@@ -114,7 +114,7 @@ module _ {A : Type 0} (d : Dec A) (s : List ℕ) where
       at-each zero z h = (m, q)
       at-each (suc i) z h = l .table .each i z (omega arith)
 
-  positions : (n at : ℕ) {os : List ℕ} {e : ℕ} → many n (placed d) s at ≡ got os e → Located d s n at os e
+  positions : (n at : ℕ) {os : List ℕ} {e : ℕ} → many n (positionOf d) s at ≡ got os e → Located d s n at os e
   unfolding many
   positions zero at {os} {e} h = record {
     values = [];
@@ -124,8 +124,8 @@ module _ {A : Type 0} (d : Dec A) (s : List ℕ) where
   positions (suc n) at {os} {e} h = by-first (λ m os′ e′ g. positions n m g) (d s at) refl h
     where
       by-rest : (m : ℕ) (x : A) → d s at ≡ got x m →
-          ((os′ : List ℕ) (e′ : ℕ) → many n (placed d) s m ≡ got os′ e′ → Located d s n m os′ e′) →
-          (r : Got (List ℕ)) → many n (placed d) s m ≡ r → after r (λ os e. got (at ∷ os) e) ≡ got os e →
+          ((os′ : List ℕ) (e′ : ℕ) → many n (positionOf d) s m ≡ got os′ e′ → Located d s n m os′ e′) →
+          (r : Got (List ℕ)) → many n (positionOf d) s m ≡ r → after r (λ os e. got (at ∷ os) e) ≡ got os e →
           Located d s (suc n) at os e
       by-rest m x q ih (fault y) w h = absurd (let z : _≡_ {A = ℕ} 0 1 = cc in omega arith)
       by-rest m x q ih (got os′ e′) w h =
@@ -133,15 +133,15 @@ module _ {A : Type 0} (d : Dec A) (s : List ℕ) where
           let b : e′ ≡ e = cc in
           rw (← a, ← b) (located-more n at m x os′ e′ q (ih os′ e′ w))
 
-      by-first : ((m : ℕ) (os′ : List ℕ) (e′ : ℕ) → many n (placed d) s m ≡ got os′ e′ → Located d s n m os′ e′) →
+      by-first : ((m : ℕ) (os′ : List ℕ) (e′ : ℕ) → many n (positionOf d) s m ≡ got os′ e′ → Located d s n m os′ e′) →
           (p : Got A) → d s at ≡ p →
-          after (after p (λ x m. got at m)) (λ o m. after (many n (placed d) s m) (λ os e. got (o ∷ os) e)) ≡
+          after (after p (λ x m. got at m)) (λ o m. after (many n (positionOf d) s m) (λ os e. got (o ∷ os) e)) ≡
           got os e → Located d s (suc n) at os e
       by-first ih (fault x) q h = absurd (let z : _≡_ {A = ℕ} 0 1 = cc in omega arith)
-      by-first ih (got x m) q h = by-rest m x q (ih m) (many n (placed d) s m) refl h
+      by-first ih (got x m) q h = by-rest m x q (ih m) (many n (positionOf d) s m) refl h
 
   -- the values, and the table that was filled
-  pub located : (n at : ℕ) {r : Step} {b : List ℕ} {c : Cursor} → Fills (many n (placed d) s at) r n b → r ≡ At c →
+  pub located : (n at : ℕ) {r : Step} {b : List ℕ} {c : Cursor} → Fills (many n (positionOf d) s at) r n b → r ≡ At c →
       Located d s n at b (c .at)
   located n at {b} f t =
       let l = positions n at (filled-at f t) in

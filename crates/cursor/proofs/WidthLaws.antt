@@ -9,31 +9,31 @@ use lib.Dec.{ltb}
 use borrow.Author.Tests.{ltb-true}
 use Rattle.refusal.specs.declared.Refusal.the-variants.{LooseIndex}
 use Rattle.format.specs.Decode.{Got, fault, got, pick, after}
-use Rattle.format.specs.Bits.{bits, digits, widthOf, index}
+use Rattle.format.specs.Bits.{bits, bitLength, widthOf, index}
 
-digits-are : (k a : ℕ) → k - leadingZeros k a ≡ digits k a
-unfolding leadingZeros digits
-digits-are zero a = omega arith
-digits-are (suc k) zero = omega arith
-digits-are (suc k) (suc a) = omega (arith, leading-le k (suc a / 2), digits-are k (suc a / 2))
+bit-length-is : (k a : ℕ) → k - leadingZeros k a ≡ bitLength k a
+unfolding leadingZeros bitLength
+bit-length-is zero a = omega arith
+bit-length-is (suc k) zero = omega arith
+bit-length-is (suc k) (suc a) = omega (arith, leading-le k (suc a / 2), bit-length-is k (suc a / 2))
 
 pub width-is : (n : ℕ) → 32 - leadingZeros 32 (n - 1) ≡ widthOf n
 unfolding widthOf
-width-is n = digits-are 32 (n - 1)
+width-is n = bit-length-is 32 (n - 1)
 
 pub width-none : (n : ℕ) → n ≡ 0 → 0 ≡ widthOf n
-unfolding widthOf digits
+unfolding widthOf bitLength
 width-none n e = rw e
 
-digits-le : (k a : ℕ) → digits k a ≤ k
-unfolding digits
-digits-le zero a = omega arith
-digits-le (suc k) zero = omega arith
-digits-le (suc k) (suc a) = omega (arith, digits-le k (suc a / 2))
+bit-length-le : (k a : ℕ) → bitLength k a ≤ k
+unfolding bitLength
+bit-length-le zero a = omega arith
+bit-length-le (suc k) zero = omega arith
+bit-length-le (suc k) (suc a) = omega (arith, bit-length-le k (suc a / 2))
 
 pub width-le : (n : ℕ) {w : ℕ} → w ≡ widthOf n → w ≤ 32
 unfolding widthOf
-width-le n e = omega (arith, digits-le 32 (n - 1))
+width-le n e = omega (arith, bit-length-le 32 (n - 1))
 
 -- an index that the definition reads: its field, and that there is such an entry
 module _ (n : ℕ) (s : List ℕ) (at : ℕ) {i m : ℕ} where

@@ -3,6 +3,7 @@ use mathlib.Core.Path.{_≡_}
 use mathlib.Core.List.{List}
 use Prim.Native.Nat.{ℕ, _≤_, _<_}
 use lib.ListN.{length, take, getD}
+use Rattle.format.specs.Limits.{mostBytes}
 use Rattle.format.specs.Decode.{Got, fault, got, Dec, after}
 use Rattle.cursor.specs.declared.Field.{Field}
 use Rattle.cursor.specs.declared.Field.the-variants.{Value, Cut}
@@ -11,7 +12,7 @@ use Rattle.cursor.specs.declared.Step.the-variants.{At, Fault}
 
 -- no longer than a sheet may be
 abbrev pub Limited : List ℕ → Type 0
-Limited s = length s ≤ 32768
+Limited s = length s ≤ mostBytes
 
 -- ---- fields
 
@@ -20,7 +21,7 @@ fieldOf (fault e) = Cut
 fieldOf (got v n) = Value v (record { at = n })
 
 -- a field that was read is the decoder's p
-pub record Reads (p : Got ℕ) (r : Field) : Type 0 where
+pub record ReadsField (p : Got ℕ) (r : Field) : Type 0 where
   pub field : r ≡ fieldOf p
 
 -- ---- checkers
@@ -37,8 +38,8 @@ pub record Checks {A : Type 0} (p : Got A) (r : Step) : Type 0 where
 -- ---- tables that are filled
 
 -- the position at which d reads, where it reads anything
-abbrev pub placed : {A : Type 0} → Dec A → Dec ℕ
-placed d s at = after (d s at) (λ x n. got at n)
+abbrev pub positionOf : {A : Type 0} → Dec A → Dec ℕ
+positionOf d s at = after (d s at) (λ x n. got at n)
 
 -- what the answer r says, where the first n entries of b were to be filled
 abbrev pub filledOf : Step → ℕ → List ℕ → Got (List ℕ)

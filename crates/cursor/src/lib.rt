@@ -3,8 +3,9 @@ use refusal::Refusal;
 ghost use mathlib.Core.Path.{_≡_};
 ghost use Prim.Native.Nat.{_+_, _*_, _≤_, _<_};
 ghost use lib.ListN.{length, getD};
+ghost use Rattle.format.specs.Limits.{mostBytes, mostBits};
 ghost use Rattle.format.specs.Bits.{bitsAt, bits, widthOf, index};
-ghost use Rattle.cursor.specs.Checking.{Limited, Reads, Checks};
+ghost use Rattle.cursor.specs.Checking.{Limited, ReadsField, Checks};
 
 // A bit position.
 pub struct Cursor {
@@ -15,7 +16,7 @@ impl Cursor {
     // The bytes of the longest sheet.
     pub const SHEET: usize = 32768;
     // The last position in a sheet: behind the last bit of the longest.
-    pub const LAST: u32 = 262144;
+    pub const LAST: u32 = (Cursor::SHEET * 8) as u32;
 
     pub fn new(at: u32) -> Cursor
         ensures { λ r. ⌜ r ≡ record { at = at } ⌝ }
@@ -36,7 +37,7 @@ pub enum Step {
     Fault(Refusal),
 }
 
-fn wide(b: u8) -> u64
+fn to_u64(b: u8) -> u64
     ensures { λ r. ⌜ r ≡ b ⌝ }
 {
     b as u64
@@ -47,7 +48,7 @@ fn byte_at(s: &[u8], i: usize) -> u64
     ensures { λ r. ⌜ (r ≡ getD (now (s .entry)) i 0) × (r < 256) ⌝ }
 {
     if i < s.len() {
-        return wide(s[i]);
+        return to_u64(s[i]);
     }
     0
 }
@@ -57,12 +58,12 @@ fn byte_in(s: &[u8], i: usize) -> u64
     requires { ⌜ i < length (now s) ⌝ }
     ensures { λ r. ⌜ (r ≡ getD (now (s .entry)) i 0) × (r < 256) ⌝ }
 {
-    wide(s[i])
+    to_u64(s[i])
 }
 
 // The 40 bits from a byte on, where the sheet has them all: one test serves five bytes.
 fn window_in(s: &[u8], b: usize) -> u64
-    requires { ⌜ (b ≤ 32768) × (b + 4 < length (now s)) ⌝ }
+    requires { ⌜ (b ≤ mostBytes) × (b + 4 < length (now s)) ⌝ }
     ensures { λ r. ⌜ r ≡ bitsAt (now (s .entry)) (8 * b) 40 ⌝ }
 {
     let b0 = byte_in(s, b);
@@ -75,7 +76,7 @@ fn window_in(s: &[u8], b: usize) -> u64
 
 // The same where the sheet may end before.
 fn window_over(s: &[u8], b: usize) -> u64
-    requires { ⌜ b ≤ 32768 ⌝ }
+    requires { ⌜ b ≤ mostBytes ⌝ }
     ensures { λ r. ⌜ r ≡ bitsAt (now (s .entry)) (8 * b) 40 ⌝ }
 {
     let b0 = byte_at(s, b);
@@ -88,7 +89,7 @@ fn window_over(s: &[u8], b: usize) -> u64
 
 // The 40 bits from a byte on.
 fn window(s: &[u8], b: usize) -> u64
-    requires { ⌜ b ≤ 32768 ⌝ }
+    requires { ⌜ b ≤ mostBytes ⌝ }
     ensures { λ r. ⌜ r ≡ bitsAt (now (s .entry)) (8 * b) 40 ⌝ }
 {
     let last = b + 4;
@@ -99,8 +100,8 @@ fn window(s: &[u8], b: usize) -> u64
 }
 
 // The value of n bits.
-fn gather(s: &[u8], at: u32, n: u32) -> u32
-    requires { ⌜ (n ≤ 32) × (at ≤ 262144) ⌝ }
+fn extract(s: &[u8], at: u32, n: u32) -> u32
+    requires { ⌜ (n ≤ 32) × (at ≤ mostBits) ⌝ }
     ensures { λ r. ⌜ r ≡ bitsAt (now (s .entry)) at n ⌝ }
 {
     let b = (at / 8) as usize;
@@ -113,7 +114,7 @@ fn gather(s: &[u8], at: u32, n: u32) -> u32
 // The field of n bits at c.
 pub fn read(s: &[u8], c: Cursor, n: u32) -> Field
     requires { ⌜ Limited (now s) × (n ≤ 32) ⌝ }
-    ensures { λ r. ⌜ Reads (bits n (now (s .entry)) (c .at)) r ⌝ }
+    ensures { λ r. ⌜ ReadsField (bits n (now (s .entry)) (c .at)) r ⌝ }
 {
     let at = c.at;
     if Cursor::LAST < at {
@@ -124,7 +125,7 @@ pub fn read(s: &[u8], c: Cursor, n: u32) -> Field
     if s.len() < bytes {
         return Field::Cut;
     }
-    Field::Value(gather(s, at, n), Cursor { at: end })
+    Field::Value(extract(s, at, n), Cursor { at: end })
 }
 
 // Past a field of n bits.

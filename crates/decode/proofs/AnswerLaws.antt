@@ -9,12 +9,13 @@ use lib.Dec.{leb}
 use borrow.Author.Tests.{leb-true}
 use Rattle.refusal.specs.declared.Refusal.{Refusal}
 use Rattle.refusal.specs.declared.Refusal.the-variants.{CutSheet}
+use Rattle.format.specs.Limits.{mostBytes}
 use Rattle.format.specs.Decode.{Got, fault, got, pick}
 use Rattle.format.specs.Sheet.{Sheet}
 use Rattle.format.specs.Decoding.{name, sheet, decode}
 use Rattle.cursor.specs.Checking.{Limited}
 use Rattle.names.specs.Fetching.{Fetched}
-use Rattle.decode.specs.declared.Outline.{Outline}
+use Rattle.format.specs.declared.Outline.{Outline}
 use Rattle.decode.specs.declared.Decoded.{Decoded}
 use Rattle.decode.specs.declared.Decoded.the-variants.{Whole, Refused}
 use Rattle.decode.specs.Tables.{Tables, saysOf, Answers}
@@ -48,10 +49,10 @@ module _ {s : List ℕ} {p : Got Sheet} {r : Decoded} {b i : List ℕ} where
 -- a sheet that is decoded is not too long
 pub decoded-limited : (s : List ℕ) {x : Sheet} {m : ℕ} → decode s ≡ got x m → Limited s
 unfolding decode
-decoded-limited s {x} {m} e = by-test (leb (length s) 32768) refl e
+decoded-limited s {x} {m} e = by-test (leb (length s) mostBytes) refl e
   where
-    by-test : (t : Bool) → leb (length s) 32768 ≡ t → pick t (sheet s 0) (fault CutSheet) ≡ got x m → Limited s
-    by-test true h e = leb-true (length s) 32768 h
+    by-test : (t : Bool) → leb (length s) mostBytes ≡ t → pick t (sheet s 0) (fault CutSheet) ≡ got x m → Limited s
+    by-test true h e = leb-true (length s) mostBytes h
     by-test false h e = absurd (let z : _≡_ {A = ℕ} 0 1 = cc in omega arith)
 
 -- a name that is fetched from where the table says

@@ -16,7 +16,7 @@ use Rattle.format.specs.Decoding.{name, item, nameTable, itemTable, tail}
 use Rattle.cursor.specs.declared.Cursor.{Cursor}
 use Rattle.cursor.specs.declared.Step.{Step}
 use Rattle.cursor.specs.declared.Step.the-variants.{At, Fault}
-use Rattle.cursor.specs.Checking.{Checks, placed, Fills}
+use Rattle.cursor.specs.Checking.{Checks, positionOf, Fills}
 use Rattle.cursor.proofs.FieldLaws.{field-lt}
 use Rattle.cursor.proofs.CheckLaws.{stepped, stopped}
 use Rattle.cursor.proofs.TableLaws.{fills-checks, placed-checks, Located, located}
@@ -57,7 +57,7 @@ module _ (s : List ℕ) (h d : Bool) (names : List Name) (at : ℕ) {b : List �
   unfolding behindNames itemTable
   items-cut e = record { says = rw e }
 
-  module _ {k m : ℕ} (q : bits 8 s at ≡ got k m) {r : Step} (f : Fills (many k (placed (item names k)) s m) r k b) where
+  module _ {k m : ℕ} (q : bits 8 s at ≡ got k m) {r : Step} (f : Fills (many k (positionOf (item names k)) s m) r k b) where
     pub items-fault : {e : Refusal} → r ≡ Fault e → AnswersItems s names (behindNames h d names s at) (Refused e) b
     unfolding behindNames itemTable
     items-fault t =
@@ -102,7 +102,7 @@ module _ (s : List ℕ) (h d : Bool) (at : ℕ) {b i : List ℕ} where
   unfolding behindBits nameTable
   tables-cut e = record { says = rw e }
 
-  module _ {n m : ℕ} (q : bits 10 s at ≡ got n m) {r : Step} (f : Fills (many n (placed name) s m) r n b) where
+  module _ {n m : ℕ} (q : bits 10 s at ≡ got n m) {r : Step} (f : Fills (many n (positionOf name) s m) r n b) where
     pub tables-fault : {e : Refusal} → r ≡ Fault e → Answers s (behindBits h d s at) (Refused e) b i
     unfolding behindBits nameTable
     tables-fault t = record { says = rw (q, stopped (placed-checks name n s m (fills-checks f)) t) }

@@ -4,11 +4,12 @@ use mathlib.Core.List.{List}
 use mathlib.Core.Bool.{Bool}
 use Prim.Native.Nat.{ℕ, _≤_}
 use lib.ListN.{length}
+use Rattle.format.specs.declared.Outline.{Outline}
+use Rattle.format.specs.Limits.{mostNames, mostItems}
 use Rattle.format.specs.Decode.{Got, fault, got, Dec, _>>_}
 use Rattle.format.specs.Sheet.{Name, Sheet}
 use Rattle.format.specs.Decoding.{name, item, nameTable, itemTable, tail}
 use Rattle.cursor.specs.Checking.{Table}
-use Rattle.decode.specs.declared.Outline.{Outline}
 use Rattle.decode.specs.declared.Decoded.{Decoded}
 use Rattle.decode.specs.declared.Decoded.the-variants.{Whole, Refused}
 
@@ -28,13 +29,13 @@ pub record Items (s : List ℕ) (names : List Name) (p : Got Sheet) (o : Outline
   pub header : o .header ≡ sheet .header
   pub doxygen : o .doxygen ≡ sheet .doxygen
   pub named : o .names ≡ length names
-  pub few : o .items ≤ 255
+  pub few : o .items ≤ mostItems
   pub table : Table (item names (o .items)) s (o .items) offsets (sheet .items)
 
 -- and nameOffsets tells where each of the names stands
 pub record Tables (s : List ℕ) (p : Got Sheet) (o : Outline) (nameOffsets itemOffsets : List ℕ) : Type 0 where
   pub names : List Name
-  pub few : o .names ≤ 1023
+  pub few : o .names ≤ mostNames
   pub table : Table name s (o .names) nameOffsets names
   pub items : Items s names p o itemOffsets
 

@@ -3,31 +3,18 @@ use cursor::Cursor;
 use cursor::Field;
 use cursor::Step;
 use cursor::read;
+use format::Outline;
 use items::check_items;
 use names::check_names;
 use refusal::Refusal;
 ghost use Prim.Native.Nat.{_≤_};
 ghost use lib.ListN.{length};
+ghost use Rattle.format.specs.Limits.{mostNames, mostItems};
 ghost use Rattle.format.specs.Sheet.{Sheet};
 ghost use Rattle.format.specs.Decoding.{tail, sheet as sheetOf, decode as decodeOf};
 ghost use Rattle.cursor.specs.Checking.{Limited, Checks};
 ghost use Rattle.items.specs.Parts.{ForNames};
 ghost use Rattle.decode.specs.Tables.{behindNames, behindBits, AnswersItems, Answers};
-
-// What a decoded sheet begins with, and how much it has.
-pub struct Outline {
-    pub header: bool,
-    pub doxygen: bool,
-    pub names: u32,
-    pub items: u32,
-}
-
-impl Outline {
-    // The most names of a sheet.
-    pub const NAMES: usize = 1023;
-    // The most items of a sheet.
-    pub const ITEMS: usize = 255;
-}
 
 // The answer to a sheet.
 pub enum Decoded {
@@ -66,7 +53,7 @@ fn decode_items(
     n: u32,
     items: &mut [u32],
 ) -> Decoded
-    requires { ⌜ Limited (now s) × (255 ≤ length (now items)) ⌝ }
+    requires { ⌜ Limited (now s) × (mostItems ≤ length (now items)) ⌝ }
     ensures { λ r. ⌜ ForNames n (λ ns.
         AnswersItems (now (s .entry)) ns (behindNames header doxygen ns (now (s .entry)) (c .at)) r
         (now (items .exit))) ⌝ }
@@ -104,7 +91,7 @@ fn decode_tables(
     names: &mut [u32],
     items: &mut [u32],
 ) -> Decoded
-    requires { ⌜ Limited (now s) × (1023 ≤ length (now names)) × (255 ≤ length (now items)) ⌝ }
+    requires { ⌜ Limited (now s) × (mostNames ≤ length (now names)) × (mostItems ≤ length (now items)) ⌝ }
     ensures { λ r. ⌜ Answers (now (s .entry)) (behindBits header doxygen (now (s .entry)) (c .at)) r
         (now (names .exit)) (now (items .exit)) ⌝ }
 {
@@ -123,7 +110,7 @@ fn decode_tables(
 
 // The sheet at c.
 fn decode_fields(s: &[u8], c: Cursor, names: &mut [u32], items: &mut [u32]) -> Decoded
-    requires { ⌜ Limited (now s) × (1023 ≤ length (now names)) × (255 ≤ length (now items)) ⌝ }
+    requires { ⌜ Limited (now s) × (mostNames ≤ length (now names)) × (mostItems ≤ length (now items)) ⌝ }
     ensures { λ r. ⌜ Answers (now (s .entry)) (sheetOf (now (s .entry)) (c .at)) r
         (now (names .exit)) (now (items .exit)) ⌝ }
 {

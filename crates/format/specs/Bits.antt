@@ -25,15 +25,15 @@ unfoldable pub bit : Dec Bool
 bit = bits 1 >> λ b. pure (eqb b 1)
 
 -- how many binary digits n has, at most f of them
-unfoldable pub digits : ℕ → ℕ → ℕ
-digits zero n = 0
-digits (suc f) zero = 0
-digits (suc f) (suc n) = suc (digits f (suc n / 2))
+unfoldable pub bitLength : ℕ → ℕ → ℕ
+bitLength zero n = 0
+bitLength (suc f) zero = 0
+bitLength (suc f) (suc n) = suc (bitLength f (suc n / 2))
 
 -- an index into a table of n entries takes as many bits as n − 1 has in binary, none for n below 2;
 -- both tables have fewer than 2 ^ 32 entries
 unfoldable pub widthOf : ℕ → ℕ
-widthOf n = digits 32 (n - 1)
+widthOf n = bitLength 32 (n - 1)
 
 -- an index into a table of n entries
 unfoldable pub index : ℕ → Dec ℕ

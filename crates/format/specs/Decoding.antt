@@ -17,6 +17,7 @@ use Rattle.format.specs.declared.TypeKind.{TypeKind}
 use Rattle.format.specs.declared.TypeKind.the-variants as Kind
 use Rattle.format.specs.declared.ItemKind.{ItemKind}
 use Rattle.format.specs.declared.ItemKind.the-variants as Part
+use Rattle.format.specs.Limits.{mostBytes, mostLevels}
 use Rattle.format.specs.Decode.{Got, fault, got, Dec, pick, after, _>>_, pure, refuse, unless, many}
 use Rattle.format.specs.Bits.{bits, bit, index}
 use Rattle.format.specs.Types.{Ty, atom, named, template, pointer, str, fn, array, Ret, none, gives, tys}
@@ -88,7 +89,7 @@ typeAt items (suc levels) s at =
 
 -- an outermost type has depth 1; depth 8 is allowed
 unfoldable pub type : ℕ → Dec Ty
-type items = typeAt items 8
+type items = typeAt items mostLevels
 
 -- ---- items; names are the characters of the name table, items is the number of items
 
@@ -178,4 +179,4 @@ sheet =
 
 -- at most 32,768 bytes: excess length comes first
 unfoldable pub decode : List ℕ → Got Sheet
-decode s = pick (leb (length s) 32768) (sheet s 0) (fault CutSheet)
+decode s = pick (leb (length s) mostBytes) (sheet s 0) (fault CutSheet)

@@ -1,3 +1,4 @@
+pub mod Limits
 pub mod Decode
 pub mod Bits
 pub mod Types

@@ -1,5 +1,5 @@
-// The words of the sheet's format: what each number of a kind stands for (document 01, "The sheet").
-// The definitions of specs/ and the code that reads sheets share these enums.
+// The words of the sheet's format: what each number of a kind stands for, and how many there may be (document 01,
+// "The sheet"). The definitions of specs/ and the code that reads sheets share them.
 
 // syntax/atom.rs, in its order.
 pub enum Atom {
@@ -58,4 +58,31 @@ pub enum ItemKind {
     RustType,
     RustFunction,
     Bad,
+}
+
+impl TypeKind {
+    // The most types that a Fn takes.
+    pub const SLOTS: usize = 15;
+}
+
+impl ItemKind {
+    // The most namespaces around an item.
+    pub const NAMESPACES: usize = 7;
+    // The most fields of a struct.
+    pub const FIELDS: usize = 63;
+}
+
+// What a decoded sheet begins with, and how much it has.
+pub struct Outline {
+    pub header: bool,
+    pub doxygen: bool,
+    pub names: u32,
+    pub items: u32,
+}
+
+impl Outline {
+    // The most names of a sheet.
+    pub const NAMES: usize = 1023;
+    // The most items of a sheet.
+    pub const ITEMS: usize = 255;
 }

@@ -9,25 +9,26 @@ use lib.ListN.{length, getD, set, take, drop, length-set, length-map, List·getD
 use lib.Dec.{ltb}
 use lib.Seq.{getD-set-same, getD-set-other, drop-cons}
 use borrow.Author.Tests.{ltb-true, ltb-false}
+use Rattle.format.specs.Limits.{mostItems, mostFields}
 use Rattle.format.specs.Decode.{pick}
 use Rattle.format.specs.Sheet.{Body, struct, enum, cxxType, rustType, function, Item}
 use Rattle.syntax.specs.Items.{itemAt, isStruct}
 use Rattle.toposort.specs.Graph.{_∈_, Within}
-use Rattle.toposort.specs.Table.{graphOf, Table}
-use Rattle.rules.specs.Rules.{gather, heldBy, fieldsOf, holds, structsFrom, structs}
+use Rattle.toposort.specs.Adjacency.{itemNumbers, mostHeld, graphOf, Adjacency}
+use Rattle.rules.specs.Rules.{gather, heldBy, fieldsOf, heldStructs, structsFrom, structs}
 use Rattle.rules.proofs.RingRule.{sheet-structs}
 use Rattle.view.specs.Values.{oneItemAt, itemsAt}
-use Rattle.holds.specs.Edges.{counted, Puts, Edges, Lists}
+use Rattle.holds.specs.Edges.{counted, Puts, Edges, StructNumbers}
 use Rattle.holds.proofs.PutLaws.{put-nothing, part-kept, part-new}
 
 -- an item that is not there holds nothing
-pub holds-none : (items : List Item) (i : ℕ) → length items ≤ i → [] ≡ holds items i
-unfolding holds itemAt gather
+pub holds-none : (items : List Item) (i : ℕ) → length items ≤ i → [] ≡ heldStructs items i
+unfolding heldStructs itemAt gather
 holds-none items i h = rw (List·getD-eq-default items _ h) refl
 
 -- nor does one that is no struct
-pub holds-other : (items : List Item) (i : ℕ) → isStruct (itemAt items i .body) ≡ false → [] ≡ holds items i
-unfolding holds gather
+pub holds-other : (items : List Item) (i : ℕ) → isStruct (itemAt items i .body) ≡ false → [] ≡ heldStructs items i
+unfolding heldStructs gather
 holds-other items i e = by-body (itemAt items i .body) e
   where
     by-body : (b : Body) → isStruct b ≡ false → [] ≡ gather (heldBy items) (fieldsOf b)
@@ -52,23 +53,23 @@ pub puts-none : {xs : List ℕ} (l : List ℕ) (at : ℕ) → [] ≡ xs → Puts
 puts-none l at e = rw (← e) (put-nothing l at)
 
 -- the item of a view is that of its number
-pub puts-item : (items : List Item) {i j at r : ℕ} {l m : List ℕ} → j ≡ i → Puts (holds items j) at l r m →
-    Puts (holds items i) at l r m
+pub puts-item : (items : List Item) {i j at r : ℕ} {l m : List ℕ} → j ≡ i → Puts (heldStructs items j) at l r m →
+    Puts (heldStructs items i) at l r m
 puts-item items {i} {j} {at} {r} {l} {m} e p = rw e at p
 
 -- ---- the table
 
 -- the first i rows are there, and end at `end`
 pub record Filling (items : List Item) (i end : ℕ) (starts held : List ℕ) : Type 0 where
-  pub count : length starts ≡ 257
-  pub size : length held ≡ 16065
-  pub few : end ≤ 63 * i
-  pub inside : end ≤ 16065
+  pub count : length starts ≡ itemNumbers + 1
+  pub size : length held ≡ mostHeld
+  pub few : end ≤ mostFields * i
+  pub inside : end ≤ mostHeld
   pub last : getD starts i 0 ≡ end
   pub ends : (j : ℕ) → j < i → getD starts (j + 1) 0 ≤ end
-  pub rows : (j : ℕ) → j < i → graphOf starts held j ≡ holds items j
+  pub rows : (j : ℕ) → j < i → graphOf starts held j ≡ heldStructs items j
 
-pub fill-none : {items : List Item} {held : List ℕ} (starts : List ℕ) → length starts ≡ 257 → length held ≡ 16065 →
+pub fill-none : {items : List Item} {held : List ℕ} (starts : List ℕ) → length starts ≡ itemNumbers + 1 → length held ≡ mostHeld →
     Filling items 0 0 (set starts 0 0) held
 fill-none {items} {held} starts count size = record {
   count = length-set starts 0 0 ∙ count;
@@ -80,8 +81,8 @@ fill-none {items} {held} starts count size = record {
   rows = λ j h. absurd (omega arith);
 }
 
-module _ {items : List Item} {i end r : ℕ} {starts held after : List ℕ} (f : Filling items i end starts held) (h : i < 256)
-    (p : Puts (holds items i) end held r after) (most : r ≤ end + 63) (inside : r ≤ 16065) where
+module _ {items : List Item} {i end r : ℕ} {starts held after : List ℕ} (f : Filling items i end starts held) (h : i < itemNumbers)
+    (p : Puts (heldStructs items i) end held r after) (most : r ≤ end + mostFields) (inside : r ≤ mostHeld) where
   in-front : (j : ℕ) → j < i + 1 → getD (set starts (i + 1) r) j 0 ≡ getD starts j 0
   in-front j k = getD-set-other starts (i + 1) j r 0 (λ e. absurd (omega arith))
 
@@ -92,7 +93,7 @@ module _ {items : List Item} {i end r : ℕ} {starts held after : List ℕ} (f :
   fits = omega (arith, f .inside, f .size)
 
   row : (j : ℕ) → j < i + 1 → (t : Bool) → ltb j i ≡ t →
-      (getD (set starts (i + 1) r) (j + 1) 0 ≤ r) × (graphOf (set starts (i + 1) r) after j ≡ holds items j)
+      (getD (set starts (i + 1) r) (j + 1) 0 ≤ r) × (graphOf (set starts (i + 1) r) after j ≡ heldStructs items j)
   unfolding graphOf
   row j k true t =
       let l : j < i = ltb-true j i t in
@@ -114,32 +115,32 @@ module _ {items : List Item} {i end r : ℕ} {starts held after : List ℕ} (f :
     rows = λ j k. row j k (ltb j i) refl .1;
   }
 
-pub filling-all : {items : List Item} {i end : ℕ} {starts held : List ℕ} → i ≡ 256 → Filling items i end starts held →
-    Filling items 256 end starts held
+pub filling-all : {items : List Item} {i end : ℕ} {starts held : List ℕ} → i ≡ itemNumbers → Filling items i end starts held →
+    Filling items itemNumbers end starts held
 filling-all {items} {i} {end} {starts} {held} e f = rw e at f
 
-module _ {items : List Item} {end : ℕ} {starts held : List ℕ} (few : length items ≤ 255)
-    (f : Filling items 256 end starts held) where
-  each-row : (i : ℕ) (t : Bool) → ltb i 256 ≡ t → graphOf starts held i ≡ holds items i
+module _ {items : List Item} {end : ℕ} {starts held : List ℕ} (few : length items ≤ mostItems)
+    (f : Filling items itemNumbers end starts held) where
+  each-row : (i : ℕ) (t : Bool) → ltb i itemNumbers ≡ t → graphOf starts held i ≡ heldStructs items i
   unfolding graphOf
-  each-row i true t = f .rows i (ltb-true i 256 t)
+  each-row i true t = f .rows i (ltb-true i itemNumbers t)
   each-row i false t =
-      let l = ltb-false i 256 t in
+      let l = ltb-false i itemNumbers t in
       let e : getD starts (i + 1) 0 ≡ 0 = List·getD-eq-default starts 0 (omega (arith, f .count)) in
       let z : getD starts (i + 1) 0 - getD starts i 0 ≡ 0 = omega arith in
       rw z (holds-none items i (omega arith))
 
   pub fill-done : Edges items starts held
   fill-done = record {
-    graph = λ i. each-row i (ltb i 256) refl;
+    graph = λ i. each-row i (ltb i itemNumbers) refl;
     table = record {
       size = omega (arith, f .size);
       inside = λ i h. omega (arith, f .ends i h, f .inside, f .size);
-      within = λ i c d. below i c (rw (each-row i (ltb i 256) refl) at d);
+      within = λ i c d. below i c (rw (each-row i (ltb i itemNumbers) refl) at d);
     };
   }
     where
-      below : (i c : ℕ) → c ∈ holds items i → c < 256
+      below : (i c : ℕ) → c ∈ heldStructs items i → c < itemNumbers
       below i c d =
           let s = sheet-structs items in omega (arith, s .below c (s .held i c d))
 
@@ -178,7 +179,7 @@ list-next {items} {i} {n} {r} {b} {numbers} {after} l room h e p = record {
     step = rw (item-first items i h)
 
 pub list-done : {items : List Item} {i n : ℕ} {numbers : List ℕ} → length items ≤ i → Listing items i n numbers →
-    Lists items n numbers
+    StructNumbers items n numbers
 unfolding structsFrom
 list-done {items} {i} {n} {numbers} h l = record {
   front = sym (append-nil (take n numbers)) ∙ (rw (drop-of-length-le items h) at (l .left));

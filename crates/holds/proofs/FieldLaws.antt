@@ -5,6 +5,7 @@ use mathlib.Core.Bool.{Bool, true, false}
 use Prim.Native.Nat.{ℕ, zero, suc, _+_, _-_, _^_, _<_, _≤_}
 use native.Mathlib.Omega.{arith}
 use lib.ListN.{length, length-append}
+use Rattle.format.specs.Limits.{mostFields}
 use Rattle.format.specs.Decode.{Got, fault, got, Dec, pick, after, many}
 use Rattle.format.specs.Bits.{bits, bit, widthOf, index}
 use Rattle.format.specs.Types.{Ty, atom, named, template, pointer, str, fn, array}
@@ -15,23 +16,23 @@ use Rattle.format.specs.declared.ItemKind.the-variants as Part
 use Rattle.format.specs.declared.TypeKind.{TypeKind}
 use Rattle.format.specs.declared.TypeKind.the-variants as Kind
 use Rattle.syntax.specs.Items.{itemAt, isStruct}
-use Rattle.rules.specs.Rules.{gather, heldBy, fieldsOf, holds}
+use Rattle.rules.specs.Rules.{gather, heldBy, fieldsOf, heldStructs}
 use Rattle.cursor.specs.declared.Cursor.{Cursor}
 use Rattle.cursor.proofs.CheckLaws.{many-length}
 use Rattle.cursor.proofs.WidthLaws.{index-field, index-lt}
 use Rattle.view.specs.declared.Found.{Found}
 use Rattle.view.specs.Values.{valueOr, nextOf, Yields, typeHere}
-use Rattle.view.specs.Views.{Finds, kindOfBody}
+use Rattle.view.specs.Views.{Finds, kindOfBody, isNamedKind}
 use Rattle.view.proofs.ValueLaws.{in-turn, found, got-value, got-next}
-use Rattle.holds.specs.declared.Held.{Held}
-use Rattle.holds.specs.Edges.{isStructKind, isNamed, counted, namedAt, fieldsHere, Tells, Puts}
+use Rattle.holds.specs.declared.FieldView.{FieldView}
+use Rattle.holds.specs.Edges.{isStructKind, counted, namedAt, fieldsHere, Tells, Puts}
 use Rattle.holds.proofs.PutLaws.{put-both, put-nothing}
 
 -- ---- one field
 
 -- a type of another kind holds no struct by its name
 module _ (items : List Item) (n : ℕ) (ty : Dec Ty) (s : List ℕ) (at : ℕ) {t : Ty} {e : ℕ} where
-  other-body : (k : TypeKind) → isNamed k ≡ false → typeBody k n ty s at ≡ got t e → [] ≡ heldBy items t
+  other-body : (k : TypeKind) → isNamedKind k ≡ false → typeBody k n ty s at ≡ got t e → [] ≡ heldBy items t
   other-body Kind.Named f h = absurd (let z : _≡_ {A = ℕ} 0 1 = cc in omega arith)
   other-body Kind.Atom f h = in-turn (bits 4 s at) _ h (λ a m e₁ h₁. ap (heldBy items) (got-value h₁))
   other-body (Kind.Template k) f h = in-turn (ty s at) _ h (λ a m e₁ h₁. ap (heldBy items) (got-value h₁))
@@ -47,7 +48,7 @@ module _ (items : List Item) (n : ℕ) (ty : Dec Ty) (s : List ℕ) (at : ℕ) {
   other-body Kind.Bad f h = absurd (let z : _≡_ {A = ℕ} 0 1 = cc in omega arith)
 
 -- the body of a named type reads no inner type
-named-body : (n : ℕ) (ty : Dec Ty) (s : List ℕ) (at : ℕ) (k : TypeKind) → isNamed k ≡ true →
+named-body : (n : ℕ) (ty : Dec Ty) (s : List ℕ) (at : ℕ) (k : TypeKind) → isNamedKind k ≡ true →
     typeBody k n ty s at ≡ namedAt n s at
 named-body n ty s at Kind.Named f = refl
 named-body n ty s at Kind.Atom f = absurd (let z : _≡_ {A = ℕ} 0 1 = cc in omega arith)
@@ -64,20 +65,20 @@ module _ (n : ℕ) (s : List ℕ) (at : ℕ) (y : Yields (type n s at) (typeHere
   unfolding type typeAt
   type-rest = in-turn (bits 4 s at) _ (y .is) (λ k m e h. rw (found g e))
 
-  pub type-named : {k : TypeKind} → k ≡ kindOf (f .value) → isNamed k ≡ true → type n s at ≡ namedAt n s (f .next .at)
+  pub type-named : {k : TypeKind} → k ≡ kindOf (f .value) → isNamedKind k ≡ true → type n s at ≡ namedAt n s (f .next .at)
   type-named {k} e b =
       type-rest ∙ ap (λ (z : TypeKind). typeBody z n (typeAt n 7) s (f .next .at)) (sym e)
       ∙ named-body n (typeAt n 7) s (f .next .at) k b
 
-  pub yields-named : {k : TypeKind} → k ≡ kindOf (f .value) → isNamed k ≡ true →
+  pub yields-named : {k : TypeKind} → k ≡ kindOf (f .value) → isNamedKind k ≡ true →
       Yields (namedAt n s (f .next .at)) (valueOr str (namedAt n s (f .next .at)))
   yields-named e b = let q = type-named e b in record { is = rw (sym q ∙ y .is) }
 
-  pub tells-by-name : {items : List Item} {k : TypeKind} {h : Held} → k ≡ kindOf (f .value) → isNamed k ≡ true →
+  pub tells-by-name : {items : List Item} {k : TypeKind} {h : FieldView} → k ≡ kindOf (f .value) → isNamedKind k ≡ true →
       Tells items (namedAt n s (f .next .at)) h → Tells items (type n s at) h
   tells-by-name e b t = rw (type-named e b) t
 
-  pub tells-other : (items : List Item) {k : TypeKind} {c : Cursor} → k ≡ kindOf (f .value) → isNamed k ≡ false →
+  pub tells-other : (items : List Item) {k : TypeKind} {c : Cursor} → k ≡ kindOf (f .value) → isNamedKind k ≡ false →
       c .at ≡ nextOf (type n s at) → Tells items (type n s at) (record { found = false; number = 0; next = c })
   unfolding typeHere
   tells-other items {k} e b c = record {
@@ -196,7 +197,7 @@ module _ (items : List Item) (n : ℕ) (s : List ℕ) (all : List Ty) (start : �
       unfolding typeHere
       walk-type = record { is = rw (next-field .reads) }
 
-      pub walk-next : {f : Held} {r : ℕ} {after : List ℕ} → Tells items (type n s at) f →
+      pub walk-next : {f : FieldView} {r : ℕ} {after : List ℕ} → Tells items (type n s at) f →
           Puts (counted (f .found) (f .number)) end held r after → Walking j (f .next .at) r after
       walk-next {f} {r} {after} t p =
           let a = next-field in
@@ -269,8 +270,8 @@ module _ (n : ℕ) (s : List ℕ) (at : ℕ) {b : Body} (y : Yields (structBody 
 
   pub struct-puts : (items : List Item) (i : ℕ) {start r : ℕ} {before after : List ℕ} → itemAt items i .body ≡ b →
       Puts (gather (heldBy items) (fieldsHere n (k .value) s (k .next .at))) start before r after →
-      Puts (holds items i) start before r after × (r ≤ start + 63)
-  unfolding holds
+      Puts (heldStructs items i) start before r after × (r ≤ start + mostFields)
+  unfolding heldStructs
   struct-puts items i {start} {r} {before} {after} e q =
       let l : length (fieldsOf b) ≡ k .value = many-length (type n) s (k .value) (k .next .at) (fields-read .1) in
       let p : Puts (gather (heldBy items) (fieldsOf b)) start before r after = rw (← fields-are) q in

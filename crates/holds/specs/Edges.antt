@@ -11,12 +11,10 @@ use Rattle.format.specs.Sheet.{Item}
 use Rattle.format.specs.Decoding.{type}
 use Rattle.format.specs.declared.ItemKind.{ItemKind}
 use Rattle.format.specs.declared.ItemKind.the-variants.{Struct, Enum, CxxType, RustType, RustFunction, Bad}
-use Rattle.format.specs.declared.TypeKind.{TypeKind}
-use Rattle.format.specs.declared.TypeKind.the-variants as Kind
-use Rattle.toposort.specs.Table.{graphOf, Table}
-use Rattle.rules.specs.Rules.{heldBy, holds, structs}
+use Rattle.toposort.specs.Adjacency.{graphOf, Adjacency}
+use Rattle.rules.specs.Rules.{heldBy, heldStructs, structs}
 use Rattle.view.specs.Values.{valueOr, nextOf}
-use Rattle.holds.specs.declared.Held.{Held}
+use Rattle.holds.specs.declared.FieldView.{FieldView}
 
 abbrev pub isStructKind : ItemKind → Bool
 isStructKind Struct = true
@@ -25,16 +23,6 @@ isStructKind CxxType = false
 isStructKind RustType = false
 isStructKind RustFunction = false
 isStructKind Bad = false
-
-abbrev pub isNamed : TypeKind → Bool
-isNamed Kind.Named = true
-isNamed Kind.Atom = false
-isNamed (Kind.Template k) = false
-isNamed (Kind.Pointer k) = false
-isNamed Kind.Str = false
-isNamed Kind.Fn = false
-isNamed Kind.Array = false
-isNamed Kind.Bad = false
 
 -- a number, if it counts
 abbrev pub counted : Bool → ℕ → List ℕ
@@ -47,7 +35,7 @@ pub record Puts (xs : List ℕ) (at : ℕ) (before : List ℕ) (r : ℕ) (after 
   pub kept : length after ≡ length before
 
 -- f tells of a field that is the decoder's p: the struct that it holds by its name, and the position behind it
-pub record Tells (items : List Item) (p : Got Ty) (f : Held) : Type 0 where
+pub record Tells (items : List Item) (p : Got Ty) (f : FieldView) : Type 0 where
   pub held : counted (f .found) (f .number) ≡ heldBy items (valueOr str p)
   pub next : f .next .at ≡ nextOf p
 
@@ -61,10 +49,10 @@ fieldsHere items n s at = valueOr [] (many n (type items) s at)
 
 -- the table says of every item which structs it holds
 pub record Edges (items : List Item) (starts held : List ℕ) : Type 0 where
-  pub graph : (i : ℕ) → graphOf starts held i ≡ holds items i
-  pub table : Table starts held
+  pub graph : (i : ℕ) → graphOf starts held i ≡ heldStructs items i
+  pub table : Adjacency starts held
 
 -- the first n are the numbers of the structs
-pub record Lists (items : List Item) (n : ℕ) (numbers : List ℕ) : Type 0 where
+pub record StructNumbers (items : List Item) (n : ℕ) (numbers : List ℕ) : Type 0 where
   pub front : take n numbers ≡ structs items
   pub inside : n ≤ length numbers

@@ -3,29 +3,33 @@
 use cursor::Cursor;
 use cursor::width;
 use format::ItemKind;
-use format::TypeKind;
+use format::Outline;
+use toposort::Traversal;
 use types::kind_of;
 use view::ItemView;
 use view::field;
+use view::is_named;
 use view::item;
 use view::kind_at;
 use view::past_type;
 ghost use mathlib.Core.Path.{_≡_};
 ghost use Prim.Native.Nat.{_+_, _*_, _≤_, _<_};
 ghost use lib.ListN.{length};
+ghost use Rattle.format.specs.Limits.{mostFields};
 ghost use Rattle.format.specs.Decode.{many};
 ghost use Rattle.format.specs.Types.{str};
 ghost use Rattle.format.specs.Decoding.{type};
 ghost use Rattle.format.specs.declared.ItemKind.the-variants.{Struct};
 ghost use Rattle.syntax.specs.Items.{itemAt, isStruct};
-ghost use Rattle.rules.specs.Rules.{gather, heldBy, holds};
+ghost use Rattle.toposort.specs.Adjacency.{itemNumbers, mostHeld};
+ghost use Rattle.rules.specs.Rules.{gather, heldBy, heldStructs};
 ghost use Rattle.view.specs.Values.{valueOr, Yields, typeHere, itemsAt, Whole};
 ghost use Rattle.view.specs.Views.{ItemAt};
-ghost use Rattle.holds.specs.Edges.{isStructKind, isNamed, counted, Puts, Tells, namedAt, fieldsHere};
-ghost use Rattle.holds.specs.Edges.{Edges, Lists};
+ghost use Rattle.holds.specs.Edges.{isStructKind, counted, Puts, Tells, namedAt, fieldsHere};
+ghost use Rattle.holds.specs.Edges.{Edges, StructNumbers};
 
 // What a field holds by its name: a struct's number if it is one, and the position behind the field.
-pub struct Held {
+pub struct FieldView {
     pub found: bool,
     pub number: u8,
     pub next: Cursor,
@@ -43,21 +47,6 @@ fn is_struct(k: ItemKind) -> bool
         ItemKind::RustType => false,
         ItemKind::RustFunction => false,
         ItemKind::Bad => false,
-    }
-}
-
-fn is_named(k: TypeKind) -> bool
-    ensures { λ r. ⌜ r ≡ isNamed k ⌝ }
-{
-    match k {
-        TypeKind::Named => true,
-        TypeKind::Atom => false,
-        TypeKind::Template(_) => false,
-        TypeKind::Pointer(_) => false,
-        TypeKind::Str => false,
-        TypeKind::Fn => false,
-        TypeKind::Array => false,
-        TypeKind::Bad => false,
     }
 }
 
@@ -89,7 +78,7 @@ fn put(list: &mut [u8], at: usize, counts: bool, number: u8) -> usize
 // ---- fields
 
 // What a field holds whose type is named by the index at c.
-fn named_at(s: &[u8], names: &[u32], items: &[u32], c: Cursor) -> Held
+fn named_at(s: &[u8], names: &[u32], items: &[u32], c: Cursor) -> FieldView
     requires { ⌜ Whole (now s) (now names) (now items) × Yields (namedAt (length (now items)) (now s) (c .at))
         (valueOr str (namedAt (length (now items)) (now s) (c .at))) ⌝ }
     ensures { λ r. ⌜ Tells (itemsAt (now (s .entry)) (now (names .entry)) (now (items .entry)))
@@ -101,7 +90,7 @@ fn named_at(s: &[u8], names: &[u32], items: &[u32], c: Cursor) -> Held
     let found = struct_at(s, names, items, i);
     let number = i as u8;
     let next = index.next;
-    Held {
+    FieldView {
         found,
         number,
         next,
@@ -109,7 +98,7 @@ fn named_at(s: &[u8], names: &[u32], items: &[u32], c: Cursor) -> Held
 }
 
 // What the field at c holds.
-fn held_at(s: &[u8], names: &[u32], items: &[u32], c: Cursor) -> Held
+fn held_at(s: &[u8], names: &[u32], items: &[u32], c: Cursor) -> FieldView
     requires { ⌜ Whole (now s) (now names) (now items) × Yields (type (length (now items)) (now s) (c .at))
         (typeHere (length (now items)) (now s) (c .at)) ⌝ }
     ensures { λ r. ⌜ Tells (itemsAt (now (s .entry)) (now (names .entry)) (now (items .entry)))
@@ -122,7 +111,7 @@ fn held_at(s: &[u8], names: &[u32], items: &[u32], c: Cursor) -> Held
         return named_at(s, names, items, f.next);
     }
     let next = past_type(s, c, items.len() as u32);
-    Held {
+    FieldView {
         found: false,
         number: 0,
         next,
@@ -167,9 +156,10 @@ fn put_struct(
     at: usize,
 ) -> usize
     requires { ⌜ Whole (now s) (now names) (now items) × ItemAt (now s) (now names) (now items) v × (v .kind ≡ Struct) ×
-        (at + 63 ≤ length (now held)) ⌝ }
-    ensures { λ r. ⌜ Puts (holds (itemsAt (now (s .entry)) (now (names .entry)) (now (items .entry))) (v .number)) at
-        (now (held .entry)) r (now (held .exit)) × (r ≤ at + 63) ⌝ }
+        (at + mostFields ≤ length (now held)) ⌝ }
+    ensures { λ r. ⌜ Puts
+        (heldStructs (itemsAt (now (s .entry)) (now (names .entry)) (now (items .entry))) (v .number)) at
+        (now (held .entry)) r (now (held .exit)) × (r ≤ at + mostFields) ⌝ }
 {
     let bit = field(s, v.body, 1);
     let count = field(s, bit.next, 6);
@@ -178,17 +168,18 @@ fn put_struct(
 
 // Puts what item i holds behind the first `at`: nothing, unless it is a struct.
 fn put_item(s: &[u8], names: &[u32], items: &[u32], i: usize, held: &mut [u8], at: usize) -> usize
-    requires { ⌜ Whole (now s) (now names) (now items) × (at ≤ 63 * i) × (at ≤ 16065) × (length (now held) ≡ 16065) ⌝ }
-    ensures { λ r. ⌜ Puts (holds (itemsAt (now (s .entry)) (now (names .entry)) (now (items .entry))) i) at
-        (now (held .entry)) r (now (held .exit)) × (r ≤ at + 63) × (r ≤ 16065) ⌝ }
+    requires { ⌜ Whole (now s) (now names) (now items) × (at ≤ mostFields * i) × (at ≤ mostHeld) ×
+        (length (now held) ≡ mostHeld) ⌝ }
+    ensures { λ r. ⌜ Puts (heldStructs (itemsAt (now (s .entry)) (now (names .entry)) (now (items .entry))) i) at
+        (now (held .entry)) r (now (held .exit)) × (r ≤ at + mostFields) × (r ≤ mostHeld) ⌝ }
 {
     if items.len() <= i {
         return at;
     }
     let v = item(s, names, items, i as u32);
     let kind = v.kind;
-    let holds = is_struct(kind);
-    if holds {
+    let found = is_struct(kind);
+    if found {
         return put_struct(s, names, items, v, held, at);
     }
     at
@@ -198,14 +189,15 @@ fn put_item(s: &[u8], names: &[u32], items: &[u32], i: usize, held: &mut [u8], a
 
 // Puts what every item holds: item i what stands in `held` from starts[i] up to starts[i + 1].
 fn fill_rows(s: &[u8], names: &[u32], items: &[u32], starts: &mut [u16], held: &mut [u8])
-    requires { ⌜ Whole (now s) (now names) (now items) × (length (now starts) ≡ 257) × (length (now held) ≡ 16065) ⌝ }
+    requires { ⌜ Whole (now s) (now names) (now items) × (length (now starts) ≡ itemNumbers + 1) ×
+        (length (now held) ≡ mostHeld) ⌝ }
     ensures { λ r. ⌜ Edges (itemsAt (now (s .entry)) (now (names .entry)) (now (items .entry))) (now (starts .exit))
         (now (held .exit)) ⌝ }
 {
     starts[0] = 0;
     let mut end: usize = 0;
     let mut i: usize = 0;
-    while i < 256 {
+    while i < Traversal::NUMBERS {
         end = put_item(s, names, items, i, held, end);
         i = i + 1;
         starts[i] = end as u16;
@@ -217,8 +209,8 @@ pub fn fill_edges(
     s: &[u8],
     names: &[u32],
     items: &[u32],
-    starts: &mut [u16; 257],
-    held: &mut [u8; 16065],
+    starts: &mut [u16; Traversal::STARTS],
+    held: &mut [u8; Traversal::HELD],
 )
     requires { ⌜ Whole (now s) (now names) (now items) ⌝ }
     ensures { λ r. ⌜ Edges (itemsAt (now (s .entry)) (now (names .entry)) (now (items .entry))) (now (starts .exit))
@@ -228,9 +220,14 @@ pub fn fill_edges(
 }
 
 // The numbers of the structs, in the sheet's order, put in front of `numbers`; how many there are.
-pub fn list_structs(s: &[u8], names: &[u32], items: &[u32], numbers: &mut [u8; 255]) -> usize
+pub fn list_structs(
+    s: &[u8],
+    names: &[u32],
+    items: &[u32],
+    numbers: &mut [u8; Outline::ITEMS],
+) -> usize
     requires { ⌜ Whole (now s) (now names) (now items) ⌝ }
-    ensures { λ r. ⌜ Lists (itemsAt (now (s .entry)) (now (names .entry)) (now (items .entry))) r
+    ensures { λ r. ⌜ StructNumbers (itemsAt (now (s .entry)) (now (names .entry)) (now (items .entry))) r
         (now (numbers .exit)) ⌝ }
 {
     let mut n: usize = 0;

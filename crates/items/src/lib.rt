@@ -22,7 +22,7 @@ ghost use Rattle.format.specs.Types.{Ret};
 ghost use Rattle.format.specs.Sheet.{Argument, Body};
 ghost use Rattle.format.specs.Decoding.{argument, form, functionBody, structBody, enumBody};
 ghost use Rattle.format.specs.Decoding.{partOf, isBad, itemBody, namespace, item};
-ghost use Rattle.cursor.specs.Checking.{Limited, Checks, placed, Fills};
+ghost use Rattle.cursor.specs.Checking.{Limited, Checks, positionOf, Fills};
 ghost use Rattle.items.specs.Parts.{ForNames, signature};
 
 // ---- functions
@@ -179,7 +179,7 @@ const KINDS: [ItemKind; 8] = [
 ];
 
 // What the number k of a kind says.
-pub fn kind_of(k: u32) -> ItemKind
+pub fn part_of(k: u32) -> ItemKind
     ensures { λ r. ⌜ r ≡ partOf k ⌝ }
 {
     if 7 < k {
@@ -258,7 +258,7 @@ fn check_item(s: &[u8], c: Cursor, names: u32, items: u32) -> Step
     match f {
         Field::Cut => Step::Fault(Refusal::CutSheet),
         Field::Value(k, c1) => {
-            let kind = kind_of(k);
+            let kind = part_of(k);
             let bad = is_bad(kind);
             if bad {
                 return Step::Fault(Refusal::BadKind);
@@ -282,7 +282,7 @@ fn check_item(s: &[u8], c: Cursor, names: u32, items: u32) -> Step
 pub fn check_items(s: &[u8], c: Cursor, names: u32, items: u32, offsets: &mut [u32]) -> Step
     requires { ⌜ Limited (now s) × (items ≤ length (now offsets)) ⌝ }
     ensures { λ r. ⌜ ForNames names (λ ns.
-        Fills (many items (placed (item ns items)) (now (s .entry)) (c .at)) r items (now (offsets .exit))) ⌝ }
+        Fills (many items (positionOf (item ns items)) (now (s .entry)) (c .at)) r items (now (offsets .exit))) ⌝ }
 {
     let mut next = c;
     let mut i: u32 = 0;

@@ -5,6 +5,7 @@ use mathlib.Core.Bool.{Bool, true, false, _||_, false≢true}
 use Prim.Native.Nat.{ℕ, zero, suc, _<_, _≤_}
 use native.Mathlib.Omega.{arith}
 use lib.ListN.{length}
+use Rattle.format.specs.Limits.{mostLevels}
 use Rattle.format.specs.Decode.{Got, got, Dec, after, many}
 use Rattle.format.specs.Bits.{bits, bit, widthOf}
 use Rattle.format.specs.Types.{Ty, Ret, none, gives}
@@ -30,7 +31,7 @@ sees-found h y = ap (λ (z : Seen). z .found) (h .there _ _ (y .is))
 
 module _ (test : ℕ → Bool) (n : ℕ) (s : List ℕ) (at : ℕ) where
   pub struct-seen : {p k : Found} {r : Seen} → Finds (bits 1 s at) 1 p → Finds (bits 6 s (p .next .at)) 6 k →
-      Sees (any (anyNamed test)) (many (k .value) (typeAt n 8) s (k .next .at)) r →
+      Sees (any (anyNamed test)) (many (k .value) (typeAt n mostLevels) s (k .next .at)) r →
       Sees (anyIndex test) (structBody n s at) r
   unfolding structBody type
   struct-seen {p} {k} fp fk h = record {
@@ -43,7 +44,7 @@ module _ (test : ℕ → Bool) (n : ℕ) (s : List ℕ) (at : ℕ) where
   }
 
   pub argument-seen : (names : List ℕ) {w : ℕ} {i : Found} {r : Seen} → w ≡ widthOf (length names) →
-      Finds (bits w s at) w i → Sees (anyNamed test) (typeAt n 8 s (i .next .at)) r →
+      Finds (bits w s at) w i → Sees (anyNamed test) (typeAt n mostLevels s (i .next .at)) r →
       Sees (λ x. anyNamed test (x .type)) (argument (namesAt s names) n s at) r
   unfolding argument type
   argument-seen names z f h = record {
@@ -54,10 +55,10 @@ module _ (test : ℕ → Bool) (n : ℕ) (s : List ℕ) (at : ℕ) where
   }
 
   pub result-seen : {b : Bool} {x : Ret} {r : Seen} → Yields (returnOf b (type n) s at) x → b ≡ true →
-      Sees (anyNamed test) (typeAt n 8 s at) r → r .found ≡ anyNamedRet test x
+      Sees (anyNamed test) (typeAt n mostLevels s at) r → r .found ≡ anyNamedRet test x
   unfolding type anyNamed
   result-seen {b} {x} y e h =
-      let q : after (typeAt n 8 s at) (λ t k. got (gives t) k) ≡ got x _ =
+      let q : after (typeAt n mostLevels s at) (λ t k. got (gives t) k) ≡ got x _ =
       ap (λ (u : Bool). returnOf u (type n) s at) (sym e) ∙ y .is in
       ap (λ (z : Seen). z .found) (sees-map {hasB = anyNamedRet test} gives (λ t. refl) h .there x _ q)
 

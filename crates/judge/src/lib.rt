@@ -193,14 +193,7 @@ fn see_struct(s: &[u8], names: &[u32], items: &[u32], c: Cursor) -> Seen
 {
     let p = field(s, c, 1);
     let n = field(s, p.next, 6);
-    see_types(
-        s,
-        names,
-        items,
-        n.next,
-        Levels { left: Levels::MOST },
-        n.value,
-    )
+    see_types(s, names, items, n.next, Levels::new(), n.value)
 }
 
 // Past an argument.
@@ -212,7 +205,7 @@ fn see_argument(s: &[u8], names: &[u32], items: &[u32], c: Cursor) -> Seen
         (now (s .entry)) (c .at)) r ⌝ }
 {
     let name = field(s, c, width(names.len() as u32));
-    see_type(s, names, items, name.next, Levels { left: Levels::MOST })
+    see_type(s, names, items, name.next, Levels::new())
 }
 
 // Past n arguments.
@@ -255,7 +248,7 @@ fn wrong_result(s: &[u8], names: &[u32], items: &[u32], f: FunctionView) -> bool
         (functionAt (now (s .entry)) (now (names .entry)) (now (items .entry)) (f .number) .return) ⌝ }
 {
     if f.returns {
-        let t = see_type(s, names, items, f.result, Levels { left: Levels::MOST });
+        let t = see_type(s, names, items, f.result, Levels::new());
         return t.found;
     }
     false
@@ -350,7 +343,7 @@ fn is_vector(kind: TypeKind) -> bool
     }
 }
 
-fn is_method(form: u32) -> bool
+fn is_method_form(form: u32) -> bool
     ensures { λ r. ⌜ r ≡ isMethodForm form ⌝ }
 {
     if form == 1 {
@@ -360,12 +353,12 @@ fn is_method(form: u32) -> bool
 }
 
 // Whether the name of a method's argument is `self`.
-fn own_name(s: &[u8], names: &[u32], form: u32, name: u32) -> bool
+fn self_name(s: &[u8], names: &[u32], form: u32, name: u32) -> bool
     requires { ⌜ Named (now s) (now names) × (name < length (now names)) ⌝ }
     ensures { λ r. ⌜ r ≡ (isMethodForm form &&
         same (nameAt (now (s .entry)) (getD (now (names .entry)) name 0)) (bytes "self")) ⌝ }
 {
-    let method = is_method(form);
+    let method = is_method_form(form);
     if method {
         return name_is(s, names, name, b"self");
     }
@@ -418,7 +411,7 @@ fn unfit_at(
     if vector {
         return true;
     }
-    let own = own_name(s, names, f.form, a.name);
+    let own = self_name(s, names, f.form, a.name);
     if own {
         return true;
     }

@@ -11,9 +11,10 @@ ghost use Prim.Native.Nat.{_≤_};
 ghost use lib.ListN.{length};
 ghost use Rattle.lexical.specs.Bytes.{every, member};
 ghost use Rattle.lexical.specs.Names.{letter, nameStart, nameChar, reserved, isName};
+ghost use Rattle.format.specs.Limits.{longestName};
 ghost use Rattle.format.specs.Decode.{many};
 ghost use Rattle.format.specs.Decoding.{name};
-ghost use Rattle.cursor.specs.Checking.{Limited, Checks, placed, Fills};
+ghost use Rattle.cursor.specs.Checking.{Limited, Checks, positionOf, Fills};
 ghost use Rattle.names.specs.Words.{wordsOf, total};
 ghost use Rattle.names.specs.Fetching.{Fetched};
 
@@ -73,7 +74,7 @@ fn all_name_chars(w: &[u8]) -> bool
     true
 }
 
-fn wide(b: u8) -> usize
+fn to_usize(b: u8) -> usize
     ensures { λ r. ⌜ r ≡ b ⌝ }
 {
     b as usize
@@ -87,7 +88,7 @@ pub fn listed(lengths: &[u8], bytes: &[u8], w: &[u8]) -> bool
     let mut at: usize = 0;
     let mut i: usize = 0;
     while i < lengths.len() {
-        let n = wide(lengths[i]);
+        let n = to_usize(lengths[i]);
         let end = at + n;
         let found = equal(w, &bytes[at..end]);
         if found {
@@ -148,7 +149,7 @@ fn check_name(s: &[u8], c: Cursor) -> Step
 // Past n names, with the position of each in offsets.
 pub fn check_names(s: &[u8], c: Cursor, n: u32, offsets: &mut [u32]) -> Step
     requires { ⌜ Limited (now s) × (n ≤ length (now offsets)) ⌝ }
-    ensures { λ r. ⌜ Fills (many n (placed name) (now (s .entry)) (c .at)) r n (now (offsets .exit)) ⌝ }
+    ensures { λ r. ⌜ Fills (many n (positionOf name) (now (s .entry)) (c .at)) r n (now (offsets .exit)) ⌝ }
 {
     let mut next = c;
     let mut i: u32 = 0;
@@ -172,7 +173,7 @@ pub fn check_names(s: &[u8], c: Cursor, n: u32, offsets: &mut [u32]) -> Step
 
 // The name at a position, into the front of buf.
 pub fn fetch(s: &[u8], at: u32, buf: &mut [u8]) -> Name
-    requires { ⌜ Limited (now s) × (63 ≤ length (now buf)) ⌝ }
+    requires { ⌜ Limited (now s) × (longestName ≤ length (now buf)) ⌝ }
     ensures { λ r. ⌜ Fetched (name (now (s .entry)) at) (r .length) (now (buf .exit)) ⌝ }
 {
     let f = read_text(s, Cursor::new(at), 6, buf);

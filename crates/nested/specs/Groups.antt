@@ -13,12 +13,8 @@ use Rattle.syntax.specs.Items.{itemAt}
 use Rattle.rules.specs.Rules.{any}
 use Rattle.bridge.specs.Nested.{filter, nestedNames}
 use Rattle.bridge.specs.Write.{needsForwardDeclaration}
-use Rattle.view.specs.Values.{itemsAt}
+pub use Rattle.view.specs.Values.{itemNo}
 use Rattle.nested.specs.declared.EnumView.{EnumView}
-
--- item i of a decoded sheet
-abbrev pub itemNo : List ℕ → List ℕ → List ℕ → ℕ → Item
-itemNo s names items i = itemAt (itemsAt s names items) i
 
 -- v is a view of an enum
 pub record EnumOf (body : Body) (v : EnumView) : Type 0 where

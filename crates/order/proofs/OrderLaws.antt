@@ -5,17 +5,18 @@ use mathlib.Core.Bool.{Bool, true, false}
 use Prim.Native.Nat.{ℕ, _≤_}
 use native.Mathlib.Omega.{arith}
 use lib.ListN.{length, take}
+use Rattle.format.specs.Limits.{mostItems}
 use Rattle.format.specs.Sheet.{Item}
-use Rattle.toposort.specs.declared.Step.{Step}
-use Rattle.toposort.specs.declared.Step.the-variants.{Done, Ring}
+use Rattle.toposort.specs.declared.Traversal.{Traversal}
+use Rattle.toposort.specs.declared.Traversal.the-variants.{Done, Cycle}
 use Rattle.toposort.specs.Graph.{Graph}
-use Rattle.toposort.specs.Sort.{Walk, ring, done, sort, isRing, sortedOf, ringed, order}
-use Rattle.toposort.specs.Table.{graphOf, Sorted, endOf}
+use Rattle.toposort.specs.Sort.{Walk, cycle, done, sort, isRing, sortedOf, ringed, order}
+use Rattle.toposort.specs.Adjacency.{graphOf, Sorted, endOf}
 use Rattle.toposort.proofs.TableLaws.{told-ring, told-order}
 use Rattle.rules.specs.Rules as rules
-use Rattle.rules.specs.Rules.{holds, structs}
+use Rattle.rules.specs.Rules.{heldStructs, structs}
 use Rattle.rules.proofs.RingRule.{sheet-structs}
-use Rattle.holds.specs.Edges.{Edges, Lists}
+use Rattle.holds.specs.Edges.{Edges, StructNumbers}
 use Rattle.order.specs.Ordered.{endsAtRing, Ordered}
 
 -- where the sort meets a ring there is no list
@@ -24,30 +25,30 @@ unfolding ringed order
 ringed-none g n js e = by-walk (sort g n js) e
   where
     by-walk : (w : Walk) → isRing w ≡ true → [] ≡ sortedOf w
-    by-walk ring e = refl
+    by-walk cycle e = refl
     by-walk (done m o) e = absurd (let z : _≡_ {A = ℕ} 0 1 = cc in omega arith)
 
-sorted-sheet : {items : List Item} {starts held numbers m₁ o₁ : List ℕ} {n : ℕ} {r : Step} → Edges items starts held →
-    Lists items n numbers → Sorted (graphOf starts held) (take n numbers) r m₁ o₁ → Sorted (holds items) (structs items) r m₁ o₁
+sorted-sheet : {items : List Item} {starts held numbers m₁ o₁ : List ℕ} {n : ℕ} {r : Traversal} → Edges items starts held →
+    StructNumbers items n numbers → Sorted (graphOf starts held) (take n numbers) r m₁ o₁ → Sorted (heldStructs items) (structs items) r m₁ o₁
 sorted-sheet {items} {starts} {held} {numbers} {m₁} {o₁} {n} {r} e l s =
-    let g : graphOf starts held ≡ holds items = fun-ext (e .graph) in
+    let g : graphOf starts held ≡ heldStructs items = fun-ext (e .graph) in
     rw (← g, ← l .front) s
 
-pub ordered : {items : List Item} {starts held numbers m₁ o₁ : List ℕ} {n : ℕ} {r : Step} → length items ≤ 255 →
-    Edges items starts held → Lists items n numbers → Sorted (graphOf starts held) (take n numbers) r m₁ o₁ →
+pub ordered : {items : List Item} {starts held numbers m₁ o₁ : List ℕ} {n : ℕ} {r : Traversal} → length items ≤ mostItems →
+    Edges items starts held → StructNumbers items n numbers → Sorted (graphOf starts held) (take n numbers) r m₁ o₁ →
     Ordered items r o₁
 unfolding rules.ring
 ordered {items} {m₁ = m₁} {o₁ = o₁} {r = r} few e l s = by-step r (sorted-sheet e l s)
   where
-    by-step : (r : Step) → Sorted (holds items) (structs items) r m₁ o₁ → Ordered items r o₁
-    by-step Ring s =
+    by-step : (r : Traversal) → Sorted (heldStructs items) (structs items) r m₁ o₁ → Ordered items r o₁
+    by-step Cycle s =
         let t = told-ring (sheet-structs items) (omega arith) s in
-        record { rings = sym t; list = ringed-none (holds items) (length items) (structs items) t; inside = s .inside }
+        record { rings = sym t; list = ringed-none (heldStructs items) (length items) (structs items) t; inside = s .inside }
     by-step (Done end) s =
         let t = told-order (sheet-structs items) (omega arith) s in
         record { rings = sym (t .0); list = t .1; inside = s .inside }
 
 -- ---- the answer is known
 
-pub answered : {items : List Item} {r s : Step} {out : List ℕ} → Ordered items r out → r ≡ s → Ordered items s out
+pub answered : {items : List Item} {r s : Traversal} {out : List ℕ} → Ordered items r out → r ≡ s → Ordered items s out
 answered {items} {r} {s} {out} o e = rw e at o

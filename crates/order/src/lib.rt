@@ -1,24 +1,31 @@
 // The structs of a sheet in the order of toposort.rs, and whether they hold one another in a ring.
+use format::Outline;
 use holds::fill_edges;
 use holds::list_structs;
-use toposort::Step;
+use toposort::Traversal;
 use toposort::sort;
 ghost use mathlib.Core.Path.{_≡_};
 ghost use lib.ListN.{length};
+ghost use Rattle.toposort.specs.Adjacency.{itemNumbers};
 ghost use Rattle.rules.specs.Rules.{ring as ringOf};
 ghost use Rattle.view.specs.Values.{itemsAt, Whole};
 ghost use Rattle.order.specs.Ordered.{Ordered};
 
 // Puts the structs in order in front of `out`, and answers where they end, or that there is a ring.
-pub fn order_of(s: &[u8], names: &[u32], items: &[u32], out: &mut [u8; 256]) -> Step
-    requires { ⌜ Whole (now s) (now names) (now items) × (length (now out) ≡ 256) ⌝ }
+pub fn order_of(
+    s: &[u8],
+    names: &[u32],
+    items: &[u32],
+    out: &mut [u8; Traversal::NUMBERS],
+) -> Traversal
+    requires { ⌜ Whole (now s) (now names) (now items) × (length (now out) ≡ itemNumbers) ⌝ }
     ensures { λ r. ⌜ Ordered (itemsAt (now (s .entry)) (now (names .entry)) (now (items .entry))) r
         (now (out .exit)) ⌝ }
 {
-    let mut starts = [0u16; 257];
-    let mut held = [0u8; 16065];
-    let mut numbers = [0u8; 255];
-    let mut marks = [0u8; 256];
+    let mut starts = [0u16; Traversal::STARTS];
+    let mut held = [0u8; Traversal::HELD];
+    let mut numbers = [0u8; Outline::ITEMS];
+    let mut marks = [0u8; Traversal::NUMBERS];
     fill_edges(s, names, items, &mut starts, &mut held);
     let n = list_structs(s, names, items, &mut numbers);
     sort(&starts, &held, &numbers[..n], &mut marks, out)
@@ -29,10 +36,10 @@ pub fn ring(s: &[u8], names: &[u32], items: &[u32]) -> bool
     requires { ⌜ Whole (now s) (now names) (now items) ⌝ }
     ensures { λ r. ⌜ r ≡ ringOf (itemsAt (now (s .entry)) (now (names .entry)) (now (items .entry))) ⌝ }
 {
-    let mut out = [0u8; 256];
+    let mut out = [0u8; Traversal::NUMBERS];
     let r = order_of(s, names, items, &mut out);
     match r {
-        Step::Ring => true,
-        Step::Done(_) => false,
+        Traversal::Cycle => true,
+        Traversal::Done(_) => false,
     }
 }

@@ -13,7 +13,7 @@ use Rattle.format.specs.Sheet.{Item}
 use Rattle.syntax.specs.Items.{itemAt, isStruct}
 use Rattle.toposort.specs.Graph.{_∈_, Structs}
 use Rattle.toposort.proofs.Theorems.{ringed-iff-ring}
-use Rattle.rules.specs.Rules.{gather, heldBy, fieldsOf, holds, structsFrom, structs, RingOf, ring}
+use Rattle.rules.specs.Rules.{gather, heldBy, fieldsOf, heldStructs, structsFrom, structs, RingOf, ring}
 
 -- a struct's number is listed, and only numbers of items are
 listed : (items : List Item) (n i : ℕ) → isStruct (itemAt items i .body) ≡ true → (n + i) ∈ structsFrom n items
@@ -57,8 +57,8 @@ fields-struct items [] c d = absurd (List·Memᴰ·not-nil d)
 fields-struct items (t ∷ ts) c d =
     ⊎-elim (λ a. held-struct items t c a) (λ a. fields-struct items ts c a) (List·Memᴰ·append-cases (heldBy items t) d)
 
-pub sheet-structs : (items : List Item) → Structs (holds items) (length items) (structs items)
-unfolding holds
+pub sheet-structs : (items : List Item) → Structs (heldStructs items) (length items) (structs items)
+unfolding heldStructs
 sheet-structs items = record {
   below = λ i d. omega (arith, below items 0 i d);
   held = λ i c d. struct-listed items c (fields-struct items (fieldsOf (itemAt items i .body)) c d);

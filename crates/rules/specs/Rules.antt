@@ -89,12 +89,15 @@ typeName x = pick (isFunction (x .body)) [] (fullName x ∷ [])
 abbrev pub symbol : List Item → Item → List (List ℕ)
 symbol items x = map (externFn items (x .namespace)) (functionOf (x .body))
 
+abbrev pub argumentNames : Function → List Name
+argumentNames f = map (λ a. a .name) (f .arguments)
+
 -- "two types with the same full name; two functions with the same symbol; two equal argument names in a function"
 unfoldable pub taken : List Item → Bool
 taken items =
     any (λ x. reservedNamespace (x .namespace)) items || twice same (gather typeName items)
     || twice same (gather (symbol items) items)
-    || any (λ f. twice same (map (λ a. a .name) (f .arguments))) (functions items)
+    || any (λ f. twice same (argumentNames f)) (functions items)
 
 -- ---- 11: unfit argument
 
@@ -150,8 +153,8 @@ fieldsOf (rustType p) = []
 fieldsOf (function f) = []
 
 -- the structs that item i holds by named fields, in the order of its fields
-unfoldable pub holds : List Item → Graph
-holds items i = gather (heldBy items) (fieldsOf (itemAt items i .body))
+unfoldable pub heldStructs : List Item → Graph
+heldStructs items i = gather (heldBy items) (fieldsOf (itemAt items i .body))
 
 -- the numbers of the structs, counted from n
 unfoldable pub structsFrom : ℕ → List Item → List ℕ
@@ -163,8 +166,8 @@ structs items = structsFrom 0 items
 
 -- "a struct holds itself by named fields, over any number of structs"
 abbrev pub RingOf : List Item → Type 0
-RingOf items = Ring (holds items) (structs items)
+RingOf items = Ring (heldStructs items) (structs items)
 
 -- the same as a test: theorem `ring-rule` shows that it is RingOf
 unfoldable pub ring : List Item → Bool
-ring items = ringed (holds items) (length items) (structs items)
+ring items = ringed (heldStructs items) (length items) (structs items)

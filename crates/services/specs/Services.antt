@@ -12,7 +12,7 @@ use Rattle.refusal.specs.Refusal.{numberOf}
 use Rattle.format.specs.Decode.{pick}
 use Rattle.format.specs.Sheet.{Sheet}
 use Rattle.toposort.specs.Sort.{order}
-use Rattle.rules.specs.Rules.{holds, structs}
+use Rattle.rules.specs.Rules.{heldStructs, structs}
 use Rattle.rules.specs.declared.Checked.{Checked}
 use Rattle.rules.specs.declared.Checked.the-variants.{Accepted, Refused}
 use Rattle.rules.specs.Judge.{Judged, refused, accepted, judge, check}
@@ -22,7 +22,7 @@ use Rattle.services.specs.declared.Written.the-variants as Written
 
 -- the struct order of an accepted sheet: `sort` of toposort.rs
 unfoldable pub structOrder : Sheet → List ℕ
-structOrder x = order (holds (x .items)) (length (x .items)) (structs (x .items))
+structOrder x = order (heldStructs (x .items)) (length (x .items)) (structs (x .items))
 
 -- 13: "the answer is longer than the buffer"
 abbrev pub fitted : List ℕ → ℕ → Written

@@ -14,7 +14,7 @@ use Rattle.toposort.specs.Graph.{_∈_, times, LegalOrder}
 use Rattle.toposort.specs.Crate.{crateOrder}
 use Rattle.toposort.proofs.Theorems.{sorted-legal}
 use Rattle.toposort.proofs.CrateLaws.{same-as-crate}
-use Rattle.rules.specs.Rules.{gather, heldBy, fieldsOf, holds, structs, ring}
+use Rattle.rules.specs.Rules.{gather, heldBy, fieldsOf, heldStructs, structs, ring}
 use Rattle.rules.specs.Judge.{accepted, judge}
 use Rattle.rules.proofs.RingRule.{sheet-structs, struct-listed}
 use Rattle.decoded.proofs.Accepted.{judge-accepted}
@@ -33,7 +33,7 @@ field-holds items c (t ∷ ts) e d =
     held q = rw (← q, e) (List·Memᴰ·head refl)
 
 module _ (s : List ℕ) (x : Sheet) (h : judge s ≡ accepted x) where
-  pub struct-order-legal : LegalOrder (holds (x .items)) (structs (x .items)) (structOrder x)
+  pub struct-order-legal : LegalOrder (heldStructs (x .items)) (structs (x .items)) (structOrder x)
   unfolding structOrder ring
   struct-order-legal = sorted-legal (sheet-structs (x .items)) (judge-accepted s x h .noRing)
 
@@ -45,11 +45,11 @@ module _ (s : List ℕ) (x : Sheet) (h : judge s ≡ accepted x) where
   pub held-before : (i c : ℕ) (before behind : List ℕ) → structOrder x ≡ before ++ (i ∷ behind) →
       List·Memᴰ (named c) (fieldsOf (itemAt (x .items) i .body)) → isStruct (itemAt (x .items) c .body) ≡ true →
       c ∈ before
-  unfolding holds
+  unfolding heldStructs
   held-before i c before behind o f e =
       struct-order-legal .after i c before behind o (field-holds (x .items) c (fieldsOf (itemAt (x .items) i .body)) e f)
 
   -- it is the list that toposort.rs' own `sort` returns
-  pub crate-order : structOrder x ≡ crateOrder (holds (x .items)) (length (x .items)) (structs (x .items))
+  pub crate-order : structOrder x ≡ crateOrder (heldStructs (x .items)) (length (x .items)) (structs (x .items))
   unfolding structOrder ring
   crate-order = sym (same-as-crate (sheet-structs (x .items)) .1 (judge-accepted s x h .noRing))

@@ -9,8 +9,8 @@ use lib.Seq.{length-take-le}
 use borrow.Author.Tests.{le-leb, lt-leb}
 use Rattle.refusal.specs.declared.Refusal.the-variants as Refusal
 use Rattle.format.specs.Sheet.{Item}
-use Rattle.toposort.specs.declared.Step.{Step}
-use Rattle.toposort.specs.declared.Step.the-variants.{Done, Ring}
+use Rattle.toposort.specs.declared.Traversal.{Traversal}
+use Rattle.toposort.specs.declared.Traversal.the-variants.{Done, Cycle}
 use Rattle.rules.specs.Rules.{ring}
 use Rattle.services.specs.declared.Written.the-variants.{Length, Refused}
 use Rattle.sink.specs.Sink.{Sink, sink, Wrote}
@@ -19,12 +19,12 @@ use Rattle.order.specs.Ordered.{Ordered}
 use Rattle.order.proofs.OrderLaws.{answered}
 use Rattle.struct_order.specs.Lists.{orderOf, Lists}
 
-pub list-inside : {items : List Item} {r : Step} {out : List ℕ} {end : ℕ} → Ordered items r out → r ≡ Done end →
+pub list-inside : {items : List Item} {r : Traversal} {out : List ℕ} {end : ℕ} → Ordered items r out → r ≡ Done end →
     end ≤ length out
 list-inside o e = answered o e .inside
 
-module _ {items : List Item} {r : Step} {out : List ℕ} (o : Ordered items r out) (buffer : List ℕ) where
-  pub list-ring : r ≡ Ring → Lists items buffer (Refused Refusal.Ring) buffer
+module _ {items : List Item} {r : Traversal} {out : List ℕ} (o : Ordered items r out) (buffer : List ℕ) where
+  pub list-ring : r ≡ Cycle → Lists items buffer (Refused Refusal.Ring) buffer
   list-ring e =
       let a = answered o e in
       record { answers = rw (← a .rings); leaves = rw (← a .rings) }

@@ -10,10 +10,11 @@ use lib.ListN.{length, take}
 use borrow.Author.Tests.{leb-true}
 use Rattle.refusal.specs.declared.Refusal.{Refusal}
 use Rattle.refusal.specs.declared.Refusal.the-variants.{WrongPart, Taken, UnfitArgument, Ring, Overrun}
+use Rattle.format.specs.Limits.{mostNames, mostItems}
 use Rattle.format.specs.Decode.{fault, got, pick}
 use Rattle.format.specs.Sheet.{Item, Sheet}
 use Rattle.format.specs.Decoding.{decode}
-use Rattle.decode.specs.declared.Outline.{Outline}
+use Rattle.format.specs.declared.Outline.{Outline}
 use Rattle.decode.specs.Tables.{Tables}
 use Rattle.view.specs.Values.{itemsAt}
 use Rattle.view.proofs.WholeLaws.{items-are}
@@ -31,7 +32,7 @@ use Rattle.struct_order.specs.Lists.{orderOf, Lists, Decodes}
 -- ---- a sheet that was decoded, with its tables cut to their lengths
 
 pub decodes : (s : List ℕ) {o : Outline} {names items : List ℕ} → Tables s (decode s) o names items →
-    1023 ≤ length names → 255 ≤ length items → Decodes s (take (o .names) names) (take (o .items) items)
+    mostNames ≤ length names → mostItems ≤ length items → Decodes s (take (o .names) names) (take (o .items) items)
 decodes s t a b = record {
   whole = whole-tables s t a b;
   sheet = t .items .sheet;

@@ -9,14 +9,14 @@ use Rattle.format.specs.Sheet.{Item, Sheet}
 use Rattle.format.specs.Decoding.{decode}
 use Rattle.view.specs.Values.{itemsAt, Whole}
 use Rattle.toposort.specs.Sort.{order}
-use Rattle.rules.specs.Rules.{holds, structs, ring}
+use Rattle.rules.specs.Rules.{heldStructs, structs, ring}
 use Rattle.services.specs.declared.Written.{Written}
 use Rattle.services.specs.declared.Written.the-variants as Written
 use Rattle.services.specs.Services.{fitted, overlaid}
 
 -- the structs in order, by item number
 abbrev pub orderOf : List Item → List ℕ
-orderOf items = order (holds items) (length items) (structs items)
+orderOf items = order (heldStructs items) (length items) (structs items)
 
 -- 12, else 13, else the list, and every byte of the buffer
 pub record Lists (items : List Item) (buffer : List ℕ) (answer : Written) (after : List ℕ) : Type 0 where

@@ -1,16 +1,17 @@
 // The struct order service: one byte per item number, counted from 0.
 use check_sheet::judge_parts;
 use decode::Decoded;
-use decode::Outline;
 use decode::decode;
+use format::Outline;
 use order::order_of;
 use refusal::Refusal;
 use rules::Checked;
 use services::Written;
 use sink::put_bytes;
-use toposort::Step;
+use toposort::Traversal;
 ghost use Prim.Native.Nat.{_≤_};
 ghost use lib.ListN.{length};
+ghost use Rattle.format.specs.Limits.{mostNames, mostItems};
 ghost use Rattle.format.specs.Decoding.{decode as decodeOf};
 ghost use Rattle.decode.specs.Tables.{Tables, Answers};
 ghost use Rattle.services.specs.Services.{Orders};
@@ -23,11 +24,11 @@ pub fn list_order(s: &[u8], names: &[u32], items: &[u32], buf: &mut [u8]) -> Wri
     ensures { λ r. ⌜ Lists (itemsAt (now (s .entry)) (now (names .entry)) (now (items .entry))) (now (buf .entry)) r
         (now (buf .exit)) ⌝ }
 {
-    let mut out = [0u8; 256];
+    let mut out = [0u8; Traversal::NUMBERS];
     let r = order_of(s, names, items, &mut out);
     match r {
-        Step::Ring => Written::Refused(Refusal::Ring),
-        Step::Done(end) => {
+        Traversal::Cycle => Written::Refused(Refusal::Ring),
+        Traversal::Done(end) => {
             if buf.len() < end {
                 return Written::Refused(Refusal::Overrun);
             }
@@ -52,7 +53,7 @@ fn order_ruled(s: &[u8], names: &[u32], items: &[u32], buf: &mut [u8]) -> Writte
 // A decoded sheet, with the two tables that its decoding filled.
 fn order_decoded(sheet: &[u8], o: Outline, names: &[u32], items: &[u32], buf: &mut [u8]) -> Written
     requires { ⌜ Tables (now sheet) (decodeOf (now sheet)) o (now names) (now items) ×
-        (1023 ≤ length (now names)) × (255 ≤ length (now items)) ⌝ }
+        (mostNames ≤ length (now names)) × (mostItems ≤ length (now items)) ⌝ }
     ensures { λ r. ⌜ Orders (now (sheet .entry)) (now (buf .entry)) r (now (buf .exit)) ⌝ }
 {
     let n = o.names as usize;

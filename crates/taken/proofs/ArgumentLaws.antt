@@ -9,16 +9,15 @@ use Rattle.lexical.specs.Bytes.{same}
 use Rattle.format.specs.Types.{str}
 use Rattle.format.specs.Sheet.{Name, Argument, Function, Body, struct, enum, cxxType, rustType, function, Item}
 use Rattle.syntax.specs.Items.{isFunction}
-use Rattle.rules.specs.Rules.{any, twice, gather, functionOf, functions}
+use Rattle.rules.specs.Rules.{any, twice, gather, functionOf, functions, argumentNames}
 use Rattle.view.specs.declared.ItemView.{ItemView}
 use Rattle.view.specs.declared.FunctionView.{FunctionView}
 use Rattle.view.specs.declared.ArgumentView.{ArgumentView}
-use Rattle.view.specs.Values.{nameAt, itemsAt, functionIn, functionAt, argumentAt}
+use Rattle.view.specs.Values.{nameAt, itemsAt, functionIn, functionAt, argumentAt, itemNo}
 use Rattle.view.specs.Views.{isFunctionKind, ItemAt, FunctionAt, ArgumentsAt, ArgumentOf}
-use Rattle.clash.specs.Clashes.{itemNo}
 use Rattle.clash.proofs.SearchLaws.{any-turn, any-hit, any-end, twice-turn, twice-hit, twice-end}
 use Rattle.clash.proofs.ViewLaws.{callable}
-use Rattle.taken.specs.Arguments.{argumentNames, repeatsName, ArgumentNames}
+use Rattle.taken.specs.Arguments.{repeatsName, ArgumentNames}
 
 or-false : (a : Bool) → (a || false) ≡ a
 or-false true = refl

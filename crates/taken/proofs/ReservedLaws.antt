@@ -10,7 +10,7 @@ use Rattle.format.specs.Sheet.{Name}
 use Rattle.rules.specs.Rules.{reservedNamespace}
 use Rattle.view.specs.declared.ItemView.{ItemView}
 use Rattle.view.specs.Views.{ItemAt}
-use Rattle.clash.specs.Clashes.{itemNo}
+use Rattle.view.specs.Values.{itemNo}
 
 none-here : (ns : List Name) → length ns ≡ 0 → reservedNamespace ns ≡ false
 none-here [] h = refl

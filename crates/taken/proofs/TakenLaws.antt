@@ -4,8 +4,7 @@ use mathlib.Core.List.{List}
 use mathlib.Core.Bool.{Bool, true, false, _||_}
 use Rattle.lexical.specs.Bytes.{same}
 use Rattle.format.specs.Sheet.{Item}
-use Rattle.rules.specs.Rules.{any, twice, gather, functions, reservedNamespace, typeName, symbol, taken}
-use Rattle.taken.specs.Arguments.{argumentNames}
+use Rattle.rules.specs.Rules.{any, twice, gather, functions, reservedNamespace, typeName, symbol, argumentNames, taken}
 
 module _ (items : List Item) {a : Bool} (ha : a ≡ any (λ x. reservedNamespace (x .namespace)) items) where
   pub taken-reserved : a ≡ true → true ≡ taken items

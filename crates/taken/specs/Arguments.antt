@@ -1,17 +1,14 @@
 -- The names of a function's arguments.
 use mathlib.Core.Path.{_≡_}
-use mathlib.Core.List.{List, [], map}
+use mathlib.Core.List.{List, []}
 use mathlib.Core.Bool.{Bool}
 use Prim.Native.Nat.{ℕ, _<_, _≤_}
 use lib.ListN.{length, getD}
 use Rattle.lexical.specs.Bytes.{same}
-use Rattle.format.specs.Sheet.{Name, Function, Body}
-use Rattle.rules.specs.Rules.{any, twice, functionOf}
+use Rattle.format.specs.Sheet.{Body}
+use Rattle.rules.specs.Rules.{any, twice, functionOf, argumentNames}
 use Rattle.view.specs.declared.FunctionView.{FunctionView}
 use Rattle.view.specs.Values.{nameAt, functionAt}
-
-abbrev pub argumentNames : Function → List Name
-argumentNames f = map (λ a. a .name) (f .arguments)
 
 -- "two equal argument names in a function"
 unfoldable pub repeatsName : Body → Bool

@@ -13,12 +13,12 @@ ghost use mathlib.Core.Path.{_≡_};
 ghost use Prim.Native.Nat.{_<_, _≤_};
 ghost use lib.ListN.{length};
 ghost use Rattle.lexical.specs.Bytes.{same};
-ghost use Rattle.rules.specs.Rules.{any, twice, functions, reservedNamespace, taken as takenOf};
-ghost use Rattle.view.specs.Values.{itemsAt, functionAt, Whole};
+ghost use Rattle.rules.specs.Rules.{any, twice, functions, reservedNamespace, argumentNames, taken as takenOf};
+ghost use Rattle.view.specs.Values.{itemsAt, itemNo, functionAt, Whole};
 ghost use Rattle.view.specs.Digests.{digestsAt};
 ghost use Rattle.view.specs.Views.{FunctionAt, ArgumentsAt};
-ghost use Rattle.clash.specs.Clashes.{Ready, itemNo};
-ghost use Rattle.taken.specs.Arguments.{argumentNames, repeatsName, ArgumentNames};
+ghost use Rattle.clash.specs.Clashes.{Ready};
+ghost use Rattle.taken.specs.Arguments.{repeatsName, ArgumentNames};
 
 // ---- reserved namespaces
 
@@ -41,7 +41,7 @@ fn reserved_at(s: &[u8], names: &[u32], items: &[u32], i: u32) -> bool
 }
 
 // Whether some item's first namespace is.
-fn reserved(s: &[u8], names: &[u32], items: &[u32]) -> bool
+fn any_reserved(s: &[u8], names: &[u32], items: &[u32]) -> bool
     requires { ⌜ Whole (now s) (now names) (now items) ⌝ }
     ensures { λ r. ⌜ r ≡ any (λ x. reservedNamespace (x .namespace))
         (itemsAt (now (s .entry)) (now (names .entry)) (now (items .entry))) ⌝ }
@@ -169,7 +169,7 @@ pub fn taken(s: &[u8], names: &[u32], items: &[u32], digests: &[u32]) -> bool
     requires { ⌜ Whole (now s) (now names) (now items) × (now digests ≡ digestsAt (now s) (now names)) ⌝ }
     ensures { λ r. ⌜ r ≡ takenOf (itemsAt (now (s .entry)) (now (names .entry)) (now (items .entry))) ⌝ }
 {
-    let outside = reserved(s, names, items);
+    let outside = any_reserved(s, names, items);
     if outside {
         return true;
     }

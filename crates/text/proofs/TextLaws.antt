@@ -14,7 +14,7 @@ use Rattle.cursor.specs.declared.Cursor.{Cursor}
 use Rattle.cursor.specs.declared.Field.{Field}
 use Rattle.cursor.specs.declared.Field.the-variants.{Value, Cut}
 use Rattle.cursor.proofs.FieldLaws.{field-lt, field-fault}
-use Rattle.text.specs.Text.{ruled, textOf, Spelled}
+use Rattle.text.specs.Text.{ruledText, textOf, Spelled}
 
 -- fields in a row are refused in one way only
 fields-cut : (w n : ℕ) (s : List ℕ) (at : ℕ) {e : Refusal} → many n (bits w) s at ≡ fault e → e ≡ CutSheet
@@ -36,27 +36,27 @@ module _ (w : ℕ) (s : List ℕ) (at : ℕ) {b : List ℕ} where
   -- what the code answers is the text
 
   pub text-cut : bits w s at ≡ fault CutSheet → Spelled w s at Cut b
-  unfolding ruled
+  unfolding ruledText
   text-cut q = record { text = λ rule e. rw q; short = pow-pos w }
 
   pub text-short : {n m : ℕ} {f : Refusal} → bits w s at ≡ got n m → many n (bits 7) s m ≡ fault f → Spelled w s at Cut b
-  unfolding ruled
+  unfolding ruledText
   text-short {n} {m} q h = record { text = λ rule e. rw (q, h, fields-cut 7 n s m h); short = pow-pos w }
 
   pub text-whole : {n m : ℕ} {c : Cursor} → bits w s at ≡ got n m → many n (bits 7) s m ≡ got (take n b) (c .at) →
       Spelled w s at (Value n c) b
-  unfolding ruled
+  unfolding ruledText
   text-whole q f = record { text = λ rule e. rw (q, f); short = field-lt w s at q }
 
   -- what the answer says
 
   pub text-value : {r : Field} {n : ℕ} {c : Cursor} → Spelled w s at r b → r ≡ Value n c →
       (rule : List ℕ → Bool) (e : Refusal) →
-      ruled w rule e s at ≡ pick (rule (take n b)) (got (take n b) (c .at)) (fault e)
+      ruledText w rule e s at ≡ pick (rule (take n b)) (got (take n b) (c .at)) (fault e)
   text-value h t rule e = h .text rule e ∙ ap (λ (x : Field). textOf x b rule e) t
 
   pub text-none : {r : Field} → Spelled w s at r b → r ≡ Cut → (rule : List ℕ → Bool) (e : Refusal) →
-      ruled w rule e s at ≡ fault CutSheet
+      ruledText w rule e s at ≡ fault CutSheet
   text-none h t rule e = h .text rule e ∙ ap (λ (x : Field). textOf x b rule e) t
 
   pub text-lt : {r : Field} {n : ℕ} {c : Cursor} → Spelled w s at r b → r ≡ Value n c → n < 2 ^ w

@@ -12,19 +12,19 @@ use Rattle.cursor.specs.declared.Field.{Field}
 use Rattle.cursor.specs.declared.Field.the-variants.{Value, Cut}
 
 -- a text with a length of w bits; `name` and `line` of the format are such
-unfoldable pub ruled : ℕ → (List ℕ → Bool) → Refusal → Dec (List ℕ)
-ruled w rule e = bits w >> λ n. many n (bits 7) >> λ cs. unless (rule cs) e (pure cs)
+unfoldable pub ruledText : ℕ → (List ℕ → Bool) → Refusal → Dec (List ℕ)
+ruledText w rule e = bits w >> λ n. many n (bits 7) >> λ cs. unless (rule cs) e (pure cs)
 
 -- what r says of it, where the characters were to be put into the front of b
 abbrev pub textOf : Field → List ℕ → (List ℕ → Bool) → Refusal → Got (List ℕ)
 textOf Cut b rule e = fault CutSheet
 textOf (Value n c) b rule e = pick (rule (take n b)) (got (take n b) (c .at)) (fault e)
 
-abbrev pub lengthOf : Field → ℕ
-lengthOf Cut = 0
-lengthOf (Value n c) = n
+abbrev pub fieldLength : Field → ℕ
+fieldLength Cut = 0
+fieldLength (Value n c) = n
 
 -- the text's length is r's, and its characters stand in the front of b, whatever the rule
 pub record Spelled (w : ℕ) (s : List ℕ) (at : ℕ) (r : Field) (b : List ℕ) : Type 0 where
-  pub text : (rule : List ℕ → Bool) (e : Refusal) → ruled w rule e s at ≡ textOf r b rule e
-  pub short : lengthOf r < 2 ^ w
+  pub text : (rule : List ℕ → Bool) (e : Refusal) → ruledText w rule e s at ≡ textOf r b rule e
+  pub short : fieldLength r < 2 ^ w

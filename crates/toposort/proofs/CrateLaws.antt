@@ -7,7 +7,7 @@ use Prim.Native.Nat.{ℕ, zero, suc, _<_}
 use native.Mathlib.Omega.{arith}
 use lib.ListN.{length, getD, set, replicate, length-replicate}
 use Rattle.toposort.specs.Graph.{Graph, _∈_, Within, Structs}
-use Rattle.toposort.specs.Sort.{Walk, ring, done, andThen, finish, byMark, visitAll, visit, sort, isRing, sortedOf, ringed, order}
+use Rattle.toposort.specs.Sort.{Walk, cycle, done, andThen, finish, byMark, visitAll, visit, sort, isRing, sortedOf, ringed, order}
 use Rattle.toposort.specs.Crate.{Out, out, onOut, crateMark, crateFields, crateFinish, crateVisit, crateStructs, crateSort, reportedOf, listOf, crateError, crateOrder}
 use Rattle.toposort.proofs.Marks.{blank}
 use Rattle.toposort.proofs.Visits.{Moves, visit-moves}
@@ -77,12 +77,12 @@ fields-fail one (j ∷ js) m o r = go (one j m o r) (λ m₁ o₁ r₁. fields-f
 
 -- a visit: Err at a ring, else the same marks and order
 abbrev Like : Walk → Out → Type 0
-Like ring x = failedOf x ≡ true
+Like cycle x = failedOf x ≡ true
 Like (done m o) x = x ≡ out m o false false
 
 -- over the fields: at a ring the error is reported too
 abbrev Likes : Walk → Out → Type 0
-Likes ring x = (reportedOf x ≡ true) × (failedOf x ≡ true)
+Likes cycle x = (reportedOf x ≡ true) × (failedOf x ≡ true)
 Likes (done m o) x = x ≡ out m o false false
 
 fields-like : (g : Graph) (levels : ℕ) →
@@ -99,7 +99,7 @@ fields-like g levels like (j ∷ js) m o =
         ((m₁ o₁ : List ℕ) → Likes (visitAll (visit g levels) js m₁ o₁) (crateFields (crateVisit g levels) js m₁ o₁ false false)) →
         Likes (andThen w (λ m₁ o₁. visitAll (visit g levels) js m₁ o₁))
         (onOut x (λ m₁ o₁ r₁ f₁. crateFields (crateVisit g levels) js m₁ o₁ (f₁ || r₁) (f₁ || false)))
-    go ring (out m₁ o₁ r₁ f₁) h rest =
+    go cycle (out m₁ o₁ r₁ f₁) h rest =
         rw h (fields-keep (crateVisit g levels) (λ i m₂ o₂. visit-keeps g levels i m₂ o₂) js m₁ o₁ true, fields-fail (crateVisit g levels) js m₁ o₁ true)
     go (done m₁ o₁) x h rest = rw h (rest m₁ o₁)
 
@@ -108,7 +108,7 @@ visit-like : (g : Graph) (levels i : ℕ) (m o : List ℕ) →
 unfolding visit crateVisit
 visit-like g zero i m o = go (getD m i 0)
   where
-    go : (b : ℕ) → Like (byMark b m o ring) (crateMark b m o false (out m o false true))
+    go : (b : ℕ) → Like (byMark b m o cycle) (crateMark b m o false (out m o false true))
     go zero = refl
     go (suc zero) = refl
     go (suc (suc b)) = refl
@@ -118,7 +118,7 @@ visit-like g (suc levels) i m o =
     (fields-like g levels (λ j m₁ o₁. visit-like g levels j m₁ o₁) (g i) (set m i 1) o)
   where
     go : (b : ℕ) (w : Walk) (x : Out) → Likes w x → Like (byMark b m o (finish i w)) (crateMark b m o false (crateFinish i x))
-    go zero ring (out m₁ o₁ r₁ f₁) h = h .1
+    go zero cycle (out m₁ o₁ r₁ f₁) h = h .1
     go zero (done m₁ o₁) x h = rw h refl
     go (suc zero) w x h = refl
     go (suc (suc b)) w x h = refl
@@ -135,14 +135,14 @@ visit-reports g (suc levels) i m o idle h =
   where
     go : (b : ℕ) → getD m i 0 ≡ b → (w : Walk) (x : Out) → Likes w x →
         Likes (byMark b m o (finish i w)) (crateMark b m o false (crateFinish i x))
-    go zero e ring (out m₁ o₁ r₁ f₁) h = h
+    go zero e cycle (out m₁ o₁ r₁ f₁) h = h
     go zero e (done m₁ o₁) x h = rw h refl
     go (suc zero) e w x h = absurd (idle e)
     go (suc (suc b)) e w x h = refl
 
 -- the whole sort
 abbrev Agrees : Walk → Out → Type 0
-Agrees ring x = reportedOf x ≡ true
+Agrees cycle x = reportedOf x ≡ true
 Agrees (done m o) x = x ≡ out m o false false
 
 structs-agree : (g : Graph) (n : ℕ) → Within g n → (js : List ℕ) → ((c : ℕ) → c ∈ js → c < n) → (m o : List ℕ) →
@@ -160,7 +160,7 @@ structs-agree g n inside (j ∷ js) below m o size idle =
         ((m₁ o₁ : List ℕ) → length m₁ ≡ n → ((i : ℕ) → getD m₁ i 0 ≡ 1 → ⊥) → Agrees (visitAll (visit g n) js m₁ o₁) (crateStructs (crateVisit g n) js m₁ o₁ false)) →
         Agrees (andThen w (λ m₁ o₁. visitAll (visit g n) js m₁ o₁))
         (onOut x (λ m₁ o₁ r₁ f₁. crateStructs (crateVisit g n) js m₁ o₁ r₁))
-    go ring (out m₁ o₁ r₁ f₁) h moves rest = rw (h .0) (structs-keep g n js m₁ o₁)
+    go cycle (out m₁ o₁ r₁ f₁) h moves rest = rw (h .0) (structs-keep g n js m₁ o₁)
     go (done m₁ o₁) x h moves rest = rw h (rest m₁ o₁ (moves .size ∙ size) (λ i e. idle i (moves .no-more i e)))
 
 module _ {g : Graph} {n : ℕ} {js : List ℕ} (among : Structs g n js) where
@@ -175,5 +175,5 @@ module _ {g : Graph} {n : ℕ} {js : List ℕ} (among : Structs g n js) where
   same-as-crate = go (sort g n js) (crateSort g n js) sort-agrees
     where
       go : (w : Walk) (x : Out) → Agrees w x → (reportedOf x ≡ isRing w) × (isRing w ≡ false → listOf x ≡ sortedOf w)
-      go ring x h = (h, λ e. absurd (false≢true (sym e)))
+      go cycle x h = (h, λ e. absurd (false≢true (sym e)))
       go (done m o) x h = rw h (refl, λ e. refl)

@@ -7,7 +7,7 @@ use lib.ListN.{getD}
 use Rattle.toposort.specs.Graph.{Graph}
 use Rattle.toposort.specs.Sort.{visitAll, visit, sort, ringed, order}
 use Rattle.toposort.specs.Crate.{crateFields, crateVisit, crateStructs, crateSort, crateError, crateOrder}
-use Rattle.toposort.specs.Table.{graphOf}
+use Rattle.toposort.specs.Adjacency.{graphOf}
 
 -- what each struct holds, from struct 0 on
 abbrev holding : List (List ℕ) → Graph

@@ -6,8 +6,8 @@ use Prim.Native.Nat.{ℕ, zero, suc, _<_, _≤_}
 use native.Mathlib.Omega.{arith}
 use lib.ListN.{length, getD, set, replicate, length-set, length-replicate}
 use Rattle.toposort.specs.Graph.{Graph, _∈_, Within, Structs}
-use Rattle.toposort.specs.Sort.{Walk, ring, done, andThen, finish, byMark, visitAll, visit, sort}
-use Rattle.toposort.specs.Table.{unmarked}
+use Rattle.toposort.specs.Sort.{Walk, cycle, done, andThen, finish, byMark, visitAll, visit, sort}
+use Rattle.toposort.specs.Adjacency.{unmarked}
 use Rattle.toposort.specs.Crate.{Out, out, onOut, crateMark, crateFields, crateFinish, crateVisit, crateStructs, crateSort}
 use Rattle.toposort.proofs.Marks.{unmarked-first, unmarked-set, unmarked-some, unmarked-blank}
 use Rattle.toposort.proofs.Visits.{Moves, visit-moves}
@@ -34,7 +34,7 @@ module _ (g : Graph) (n : ℕ) (inside : Within g n) where
       go : (w : Walk) → Moves m o w →
           ((m₁ o₁ : List ℕ) → length m₁ ≡ n → unmarked m₁ ≤ k → unmarked m₁ ≤ l → visitAll (visit g k) js m₁ o₁ ≡ visitAll (visit g l) js m₁ o₁) →
           andThen w (λ m₁ o₁. visitAll (visit g k) js m₁ o₁) ≡ andThen w (λ m₁ o₁. visitAll (visit g l) js m₁ o₁)
-      go ring moves rest = refl
+      go cycle moves rest = refl
       go (done m₁ o₁) moves rest = rest m₁ o₁ (moves .size ∙ size) (omega arith) (omega arith)
 
   pub visit-levels : (k l i : ℕ) (m o : List ℕ) → i < n → length m ≡ n → unmarked m ≤ k → unmarked m ≤ l →

@@ -9,7 +9,7 @@ use lib.ListN.{length, getD, set, replicate}
 use lib.Seq.{getD-set-same, getD-set-other}
 use lib.Dec.{eqb}
 use borrow.Author.Tests.{eqb-true, eqb-false}
-use Rattle.toposort.specs.Table.{unmarked}
+use Rattle.toposort.specs.Adjacency.{unmarked}
 
 -- the mark of j after a store at i
 pub set-cases : (m : List ℕ) (i v j : ℕ) → i < length m →

@@ -6,14 +6,14 @@ use native.Mathlib.Omega.{arith}
 use lib.ListN.{length, getD, set, replicate, length-set, length-replicate, replicate-append-replicate, List·getD-append}
 use lib.Seq.{set-append-left}
 use Rattle.toposort.specs.Graph.{Graph, _∈_, Within, Structs}
-use Rattle.toposort.specs.Sort.{Walk, ring, done, andThen, finish, byMark, visitAll, visit, sort, isRing, sortedOf, ringed, order}
+use Rattle.toposort.specs.Sort.{Walk, cycle, done, andThen, finish, byMark, visitAll, visit, sort, isRing, sortedOf, ringed, order}
 use Rattle.toposort.proofs.Visits.{Moves, visit-moves, visits-move}
 use Rattle.toposort.proofs.Soundness.{within}
 use Rattle.toposort.proofs.Levels.{sort-levels}
 
 -- a walk with d items more
 abbrev padded : ℕ → Walk → Walk
-padded d ring = ring
+padded d cycle = cycle
 padded d (done m o) = done (m ++ replicate d 0) o
 
 byMark-padded : (d b : ℕ) (m o : List ℕ) (w : Walk) →
@@ -24,7 +24,7 @@ byMark-padded d (suc (suc b)) m o w = refl
 
 finish-padded : (d i : ℕ) (m o : List ℕ) (w : Walk) → Moves m o w → i < length m →
     finish i (padded d w) ≡ padded d (finish i w)
-finish-padded d i m o ring moves h = refl
+finish-padded d i m o cycle moves h = refl
 finish-padded d i m o (done m₁ o₁) moves h =
     let l : i < length m₁ = omega (arith, moves .size) in rw (set-append-left m₁ (replicate d 0) i 2 l) refl
 
@@ -43,14 +43,14 @@ module _ (g : Graph) (n : ℕ) (inside : Within g n) (d : ℕ) where
       go : (w : Walk) → Moves m o w →
           ((m₁ o₁ : List ℕ) → length m₁ ≡ n → visitAll (visit g levels) js (m₁ ++ replicate d 0) o₁ ≡ padded d (visitAll (visit g levels) js m₁ o₁)) →
           andThen (padded d w) (λ m₁ o₁. visitAll (visit g levels) js m₁ o₁) ≡ padded d (andThen w (λ m₁ o₁. visitAll (visit g levels) js m₁ o₁))
-      go ring moves rest = refl
+      go cycle moves rest = refl
       go (done m₁ o₁) moves rest = rest m₁ o₁ (moves .size ∙ size)
 
   visit-padded : (levels i : ℕ) (m o : List ℕ) → i < n → length m ≡ n →
       visit g levels i (m ++ replicate d 0) o ≡ padded d (visit g levels i m o)
   unfolding visit
   visit-padded zero i m o h size =
-      rw (List·getD-append m (replicate d 0) 0 i (omega arith)) (byMark-padded d (getD m i 0) m o ring)
+      rw (List·getD-append m (replicate d 0) 0 i (omega arith)) (byMark-padded d (getD m i 0) m o cycle)
   visit-padded (suc levels) i m o h size =
       let l : i < length m = omega arith in
       let sized : length (set m i 1) ≡ n = length-set m i 1 ∙ size in
@@ -75,5 +75,5 @@ module _ {g : Graph} {n : ℕ} {js : List ℕ} (among : Structs g n js) where
       rw same (go (k - n) (sort g n js))
     where
       go : (d : ℕ) (w : Walk) → (isRing (padded d w) ≡ isRing w) × (sortedOf (padded d w) ≡ sortedOf w)
-      go d ring = (refl, refl)
+      go d cycle = (refl, refl)
       go d (done m o) = (refl, refl)

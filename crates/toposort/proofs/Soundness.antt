@@ -7,8 +7,8 @@ use Prim.Native.Nat.{ℕ, zero, suc, _+_, _<_, _≤_}
 use native.Mathlib.Omega.{arith}
 use lib.ListN.{length, getD, set, length-set, length-append}
 use Rattle.toposort.specs.Graph.{Graph, _∈_, Within, Structs, Chain, Ring}
-use Rattle.toposort.specs.Sort.{Walk, ring, done, andThen, finish, byMark, visitAll, visit}
-use Rattle.toposort.specs.Table.{unmarked}
+use Rattle.toposort.specs.Sort.{Walk, cycle, done, andThen, finish, byMark, visitAll, visit}
+use Rattle.toposort.specs.Adjacency.{unmarked}
 use Rattle.toposort.proofs.Marks.{set-cases, unmarked-first, unmarked-some, unmarked-most}
 use Rattle.toposort.proofs.Visits.{Moved, Moves, visit-moves, visits-move}
 use Rattle.toposort.proofs.Orders.{Ordered, next, chain-more, last-cases}
@@ -39,7 +39,7 @@ pub record ShortRing (g : Graph) (js : List ℕ) (n : ℕ) : Type 0 where
   pub short : length (ring .others) < n
 
 abbrev pub Sound : Graph → List ℕ → ℕ → List ℕ → Walk → Type 0
-Sound g js n ks ring = ShortRing g js n
+Sound g js n ks cycle = ShortRing g js n
 Sound g js n ks (done m₁ o₁) = Left g js ks m₁ o₁
 
 module _ {g : Graph} {n : ℕ} {js : List ℕ} (among : Structs g n js) where
@@ -69,7 +69,7 @@ module _ {g : Graph} {n : ℕ} {js : List ℕ} (among : Structs g n js) where
 
   both : {j : ℕ} {m₁ o₁ : List ℕ} (ks : List ℕ) (w : Walk) → Left g js (j ∷ []) m₁ o₁ → Moves m₁ o₁ w → Sound g js n ks w →
       Sound g js n (j ∷ ks) w
-  both ks ring a moves b = b
+  both ks cycle a moves b = b
   both ks (done m₂ o₂) a moves b = record {
     good = b .good;
     all = λ c h. ⊎-elim (λ e. moves .visited c (a .all c (List·Memᴰ·head e))) (λ d. b .all c d) (List·Memᴰ·cases-cons h);
@@ -103,7 +103,7 @@ module _ {g : Graph} {n : ℕ} {js : List ℕ} (among : Structs g n js) where
   -- and the struct is visited when they are
   leaves : (levels i : ℕ) (m o : List ℕ) (w : Walk) → Start g js n (suc levels) (i ∷ []) m o → Moves (set m i 1) o w →
       Sound g js n (g i) w → Sound g js n (i ∷ []) (finish i w)
-  leaves levels i m o ring s moves r = r
+  leaves levels i m o cycle s moves r = r
   leaves levels i m o (done m₁ o₁) s moves r =
       let h : i < length m = inside s in
       let h₁ : i < length m₁ = omega (arith, moves .size, length-set m i 1) in
@@ -120,7 +120,7 @@ module _ {g : Graph} {n : ℕ} {js : List ℕ} (among : Structs g n js) where
 
   -- a struct that has a mark: it is being visited and closes a ring, or it is visited
   stands : (levels i b : ℕ) (m o : List ℕ) → getD m i 0 ≡ suc b → Start g js n levels (i ∷ []) m o →
-      Sound g js n (i ∷ []) (byMark (suc b) m o ring)
+      Sound g js n (i ∷ []) (byMark (suc b) m o cycle)
   stands levels i zero m o e s =
       let q = s .reach i i e (List·Memᴰ·head refl) in
       record {
@@ -145,7 +145,7 @@ module _ {g : Graph} {n : ℕ} {js : List ℕ} (among : Structs g n js) where
       go : (w : Walk) → Moves m o w → Sound g js n (j ∷ []) w →
           ((m₁ o₁ : List ℕ) → Start g js n levels ks m₁ o₁ → Sound g js n ks (visitAll (visit g levels) ks m₁ o₁)) →
           Sound g js n (j ∷ ks) (andThen w (λ m₁ o₁. visitAll (visit g levels) ks m₁ o₁))
-      go ring moves a rest = a
+      go cycle moves a rest = a
       go (done m₁ o₁) moves a rest =
           let then : Start g js n levels ks m₁ o₁ = others s moves (a .good) in
           both ks (visitAll (visit g levels) ks m₁ o₁) a
@@ -157,7 +157,7 @@ module _ {g : Graph} {n : ℕ} {js : List ℕ} (among : Structs g n js) where
   unfolding visit
   visit-sound zero i m o s = go (getD m i 0) refl
     where
-      go : (b : ℕ) → getD m i 0 ≡ b → Sound g js n (i ∷ []) (byMark b m o ring)
+      go : (b : ℕ) → getD m i 0 ≡ b → Sound g js n (i ∷ []) (byMark b m o cycle)
       go zero e = absurd (omega (arith, unmarked-some m i (inside s) e, s .enough))
       go (suc b) e = stands zero i b m o e s
   visit-sound (suc levels) i m o s =

@@ -8,26 +8,26 @@ use native.Mathlib.Omega.{arith}
 use native.Mathlib.Numerals.{add-one}
 use lib.ListN.{length, getD, set, take, drop, replicate, length-set, length-replicate}
 use lib.Seq.{length-take-le, take-suc-set, drop-cons}
-use Rattle.toposort.specs.declared.Step.{Step}
-use Rattle.toposort.specs.declared.Step.the-variants.{Done, Ring}
+use Rattle.toposort.specs.declared.Traversal.{Traversal}
+use Rattle.toposort.specs.declared.Traversal.the-variants.{Done, Cycle}
 use Rattle.toposort.specs.Graph.{Graph, Within, Structs}
-use Rattle.toposort.specs.Sort.{Walk, ring, done, andThen, finish, byMark, visitAll, visit, sort, isRing, sortedOf, ringed, order}
-use Rattle.toposort.specs.Table.{graphOf, Table, Room, Visited, VisitedAll, Sorted, unmarked}
+use Rattle.toposort.specs.Sort.{Walk, cycle, done, andThen, finish, byMark, visitAll, visit, sort, isRing, sortedOf, ringed, order}
+use Rattle.toposort.specs.Adjacency.{itemNumbers, graphOf, Adjacency, Room, Visited, VisitedAll, Sorted, unmarked}
 use Rattle.toposort.proofs.Marks.{unmarked-first, unmarked-blank}
 use Rattle.toposort.proofs.Visits.{Moved, Moves, visit-moves, visits-move}
 use Rattle.toposort.proofs.MoreItems.{more-items}
 
 -- ---- the answer is known
 
-pub visited-as : {g : Graph} {levels i at : ℕ} {m o m₁ o₁ : List ℕ} {r s : Step} → r ≡ s →
+pub visited-as : {g : Graph} {levels i at : ℕ} {m o m₁ o₁ : List ℕ} {r s : Traversal} → r ≡ s →
     Visited g levels i m o at r m₁ o₁ → Visited g levels i m o at s m₁ o₁
 visited-as {g} {levels} {i} {at} {m} {o} {m₁} {o₁} {r} {s} e a = rw e at a
 
-pub all-as : {g : Graph} {levels at : ℕ} {js m o m₁ o₁ : List ℕ} {r s : Step} → r ≡ s →
+pub all-as : {g : Graph} {levels at : ℕ} {js m o m₁ o₁ : List ℕ} {r s : Traversal} → r ≡ s →
     VisitedAll g levels js m o at r m₁ o₁ → VisitedAll g levels js m o at s m₁ o₁
 all-as {g} {levels} {at} {js} {m} {o} {m₁} {o₁} {r} {s} e a = rw e at a
 
-pub sorted-as : {g : Graph} {js m₁ o₁ : List ℕ} {r s : Step} → r ≡ s → Sorted g js r m₁ o₁ → Sorted g js s m₁ o₁
+pub sorted-as : {g : Graph} {js m₁ o₁ : List ℕ} {r s : Traversal} → r ≡ s → Sorted g js r m₁ o₁ → Sorted g js s m₁ o₁
 sorted-as {g} {js} {m₁} {o₁} {r} {s} e a = rw e at a
 
 -- ---- room in the order
@@ -48,8 +48,8 @@ no-mark (suc zero) h e = absurd (e refl)
 no-mark (suc (suc b)) h e = absurd (omega arith)
 
 -- with its first mark a struct gets a place, behind which there is room for the others
-room-inner : {i at : ℕ} {m o : List ℕ} → Room m o at → i < 256 → getD m i 0 ≡ 0 →
-    Room (set m i 1) o at × (at + unmarked (set m i 1) < 256)
+room-inner : {i at : ℕ} {m o : List ℕ} → Room m o at → i < itemNumbers → getD m i 0 ≡ 0 →
+    Room (set m i 1) o at × (at + unmarked (set m i 1) < itemNumbers)
 room-inner {i} {at} {m} {o} r h e =
     let fewer = unmarked-first m i 0 (omega (arith, r .marks)) e in (
       record {
@@ -60,17 +60,17 @@ room-inner {i} {at} {m} {o} r h e =
       omega (arith, r .places),
     )
 
-pub room-marked : {i at : ℕ} {m o : List ℕ} → Room m o at → i < 256 → getD m i 0 ≡ 0 → Room (set m i 1) o at
+pub room-marked : {i at : ℕ} {m o : List ℕ} → Room m o at → i < itemNumbers → getD m i 0 ≡ 0 → Room (set m i 1) o at
 room-marked r h e = room-inner r h e .0
 
 -- the place is free when those that the struct holds are visited
-pub place-free : {g : Graph} {levels i at x : ℕ} {m o m₁ o₁ : List ℕ} → Within g 256 → Room m o at → i < 256 →
-    getD m i 0 ≡ 0 → VisitedAll g levels (g i) (set m i 1) o at (Done x) m₁ o₁ → x < 256
+pub place-free : {g : Graph} {levels i at x : ℕ} {m o m₁ o₁ : List ℕ} → Within g itemNumbers → Room m o at → i < itemNumbers →
+    getD m i 0 ≡ 0 → VisitedAll g levels (g i) (set m i 1) o at (Done x) m₁ o₁ → x < itemNumbers
 place-free {g} {levels} {i} {at} {x} {m} {o} {m₁} {o₁} within r h e a =
     let inner = room-inner r h e in
     let after =
     room-after (visitAll (visit g levels) (g i) (set m i 1) (take at o)) (inner .0) (a .same)
-    (visits-move g 256 within levels (g i) (within i) (set m i 1) (take at o) (inner .0 .marks)) (a .inside) (a .kept) in
+    (visits-move g itemNumbers within levels (g i) (within i) (set m i 1) (take at o) (inner .0 .marks)) (a .inside) (a .kept) in
     omega (arith, inner .1, after .1)
 
 -- ---- a loop over structs: js are left of the whole walk w
@@ -87,21 +87,21 @@ then-done : {w : Walk} (v : Walk) (next : List ℕ → List ℕ → Walk) {m o :
     next m o ≡ w
 then-done {w} v next e h = rw (sym e) at h
 
-then-ring : {w : Walk} (v : Walk) (next : List ℕ → List ℕ → Walk) → ring ≡ v → andThen v next ≡ w → ring ≡ w
+then-ring : {w : Walk} (v : Walk) (next : List ℕ → List ℕ → Walk) → cycle ≡ v → andThen v next ≡ w → cycle ≡ w
 then-ring {w} v next e h = rw (sym e) at h
 
-pub going-next : {g : Graph} {levels : ℕ} {w : Walk} {js m o m₁ o₁ : List ℕ} {j e x : ℕ} → Within g 256 → j < 256 →
+pub going-next : {g : Graph} {levels : ℕ} {w : Walk} {js m o m₁ o₁ : List ℕ} {j e x : ℕ} → Within g itemNumbers → j < itemNumbers →
     Going g levels w (j ∷ js) m o e → Visited g levels j m o e (Done x) m₁ o₁ → Going g levels w js m₁ o₁ x
 unfolding visitAll
 going-next {g} {levels} {w} {js} {m} {o} {m₁} {o₁} {j} {e} {x} within h a b = record {
   left = then-done (visit g levels j m (take e o)) (λ m₂ o₂. visitAll (visit g levels) js m₂ o₂) (b .same) (a .left);
   room =
       room-after (visit g levels j m (take e o)) (a .room) (b .same)
-      (visit-moves g 256 within levels j m (take e o) h (a .room .marks)) (b .inside) (b .kept) .0;
+      (visit-moves g itemNumbers within levels j m (take e o) h (a .room .marks)) (b .inside) (b .kept) .0;
 }
 
 at-ring : {g : Graph} {levels : ℕ} {w : Walk} {js m o m₁ o₁ : List ℕ} {j e : ℕ} → Going g levels w (j ∷ js) m o e →
-    Visited g levels j m o e Ring m₁ o₁ → ring ≡ w
+    Visited g levels j m o e Cycle m₁ o₁ → cycle ≡ w
 unfolding visitAll
 at-ring {g} {levels} {w} {js} {m} {o} {m₁} {o₁} {j} {e} a b =
     then-ring (visit g levels j m (take e o)) (λ m₂ o₂. visitAll (visit g levels) js m₂ o₂) (b .same) (a .left)
@@ -110,10 +110,10 @@ at-end : {g : Graph} {levels : ℕ} {w : Walk} {m o : List ℕ} {e : ℕ} → Go
 unfolding visitAll
 at-end a = a .left
 
-module _ {g : Graph} {levels at : ℕ} {ks m₀ o₀ : List ℕ} (size : length o₀ ≡ 256) where
+module _ {g : Graph} {levels at : ℕ} {ks m₀ o₀ : List ℕ} (size : length o₀ ≡ itemNumbers) where
   pub all-ring : {js m o m₁ o₁ : List ℕ} {j e : ℕ} →
       Going g levels (visitAll (visit g levels) ks m₀ (take at o₀)) (j ∷ js) m o e →
-      Visited g levels j m o e Ring m₁ o₁ → VisitedAll g levels ks m₀ o₀ at Ring m₁ o₁
+      Visited g levels j m o e Cycle m₁ o₁ → VisitedAll g levels ks m₀ o₀ at Cycle m₁ o₁
   all-ring a b = record { same = at-ring a b; inside = omega arith; kept = b .kept ∙ a .room .order ∙ sym size }
 
   pub all-done : {m o : List ℕ} {e : ℕ} → Going g levels (visitAll (visit g levels) ks m₀ (take at o₀)) [] m o e →
@@ -122,21 +122,21 @@ module _ {g : Graph} {levels at : ℕ} {ks m₀ o₀ : List ℕ} (size : length 
       let r = a .room in record { same = at-end a; inside = omega arith; kept = r .order ∙ sym size }
 
 module _ {g : Graph} {ks : List ℕ} where
-  pub sorted-ring : {js m o m₁ o₁ : List ℕ} {j e : ℕ} → Going g 256 (sort g 256 ks) (j ∷ js) m o e →
-      Visited g 256 j m o e Ring m₁ o₁ → Sorted g ks Ring m₁ o₁
+  pub sorted-ring : {js m o m₁ o₁ : List ℕ} {j e : ℕ} → Going g itemNumbers (sort g itemNumbers ks) (j ∷ js) m o e →
+      Visited g itemNumbers j m o e Cycle m₁ o₁ → Sorted g ks Cycle m₁ o₁
   sorted-ring a b = record { same = at-ring a b; inside = omega arith; kept = b .kept ∙ a .room .order }
 
-  pub sorted-done : {m o : List ℕ} {e : ℕ} → Going g 256 (sort g 256 ks) [] m o e → Sorted g ks (Done e) m o
+  pub sorted-done : {m o : List ℕ} {e : ℕ} → Going g itemNumbers (sort g itemNumbers ks) [] m o e → Sorted g ks (Done e) m o
   sorted-done a = let r = a .room in record { same = at-end a; inside = omega arith; kept = r .order }
 
-  pub sort-start : {m o : List ℕ} → m ≡ replicate 256 0 → length o ≡ 256 → Going g 256 (sort g 256 ks) ks m o 0
+  pub sort-start : {m o : List ℕ} → m ≡ replicate itemNumbers 0 → length o ≡ itemNumbers → Going g itemNumbers (sort g itemNumbers ks) ks m o 0
   unfolding sort
   sort-start {m} {o} blank size = record {
-    left = ap (λ (l : List ℕ). visitAll (visit g 256) ks l []) blank;
+    left = ap (λ (l : List ℕ). visitAll (visit g itemNumbers) ks l []) blank;
     room = record {
-      marks = ap length blank ∙ length-replicate {A = ℕ} 256 0;
+      marks = ap length blank ∙ length-replicate {A = ℕ} itemNumbers 0;
       order = size;
-      places = omega (arith, ap unmarked blank, unmarked-blank 256);
+      places = omega (arith, ap unmarked blank, unmarked-blank itemNumbers);
     };
   }
 
@@ -160,33 +160,33 @@ module _ {g : Graph} {levels i : ℕ} {m o : List ℕ} {at : ℕ} where
   visited-already h l = record { same = go levels; inside = l; kept = refl }
     where
       go : (k : ℕ) → done m (take at o) ≡ visit g k i m (take at o)
-      go zero = marked-two (getD m i 0) m (take at o) ring h
+      go zero = marked-two (getD m i 0) m (take at o) cycle h
       go (suc k) =
           marked-two (getD m i 0) m (take at o) (finish i (visitAll (visit g k) (g i) (set m i 1) (take at o))) h
 
-  pub visited-ring : getD m i 0 ≡ 1 → Visited g levels i m o at Ring m o
+  pub visited-ring : getD m i 0 ≡ 1 → Visited g levels i m o at Cycle m o
   unfolding visit
   visited-ring h = record { same = go levels; inside = omega arith; kept = refl }
     where
-      go : (k : ℕ) → ring ≡ visit g k i m (take at o)
+      go : (k : ℕ) → cycle ≡ visit g k i m (take at o)
       go zero = rw h refl
       go (suc k) = rw h refl
 
-  pub visited-deep : getD m i 0 ≡ 0 → levels ≡ 0 → Visited g levels i m o at Ring m o
+  pub visited-deep : getD m i 0 ≡ 0 → levels ≡ 0 → Visited g levels i m o at Cycle m o
   unfolding visit
   visited-deep e z = record { same = rw (z, e) refl; inside = omega arith; kept = refl }
 
   module _ (e : getD m i 0 ≡ 0) (some : levels ≡ 0 → ⊥) where
-    pub visited-below : {m₁ o₁ : List ℕ} → VisitedAll g (levels - 1) (g i) (set m i 1) o at Ring m₁ o₁ →
-        Visited g levels i m o at Ring m₁ o₁
+    pub visited-below : {m₁ o₁ : List ℕ} → VisitedAll g (levels - 1) (g i) (set m i 1) o at Cycle m₁ o₁ →
+        Visited g levels i m o at Cycle m₁ o₁
     visited-below a = record {
       same = ap (finish i) (a .same) ∙ inner-visit g levels i m (take at o) e some;
       inside = omega arith;
       kept = a .kept;
     }
 
-    pub visited-done : {x : ℕ} {m₁ o₁ : List ℕ} → length o ≡ 256 →
-        VisitedAll g (levels - 1) (g i) (set m i 1) o at (Done x) m₁ o₁ → x < 256 →
+    pub visited-done : {x : ℕ} {m₁ o₁ : List ℕ} → length o ≡ itemNumbers →
+        VisitedAll g (levels - 1) (g i) (set m i 1) o at (Done x) m₁ o₁ → x < itemNumbers →
         Visited g levels i m o at (Done (x + 1)) (set m₁ i 2) (set o₁ x i)
     visited-done {x} {m₁} {o₁} size a l =
         let h : x < length o₁ = omega (arith, a .kept) in
@@ -219,17 +219,17 @@ module _ (starts held : List ℕ) (i : ℕ) {from to : ℕ} (a : from ≡ getD s
   unfolding graphOf
   table-part = rw (a, b) refl
 
-  pub table-inside : Table starts held → i < 256 → to ≤ length held
+  pub table-inside : Adjacency starts held → i < itemNumbers → to ≤ length held
   table-inside t h = rw b (t .inside i h)
 
 -- ---- what a caller of `sort` learns
 
-module _ {g : Graph} {n : ℕ} {js m₁ o₁ : List ℕ} (among : Structs g n js) (few : n ≤ 256) where
-  pub told-ring : Sorted g js Ring m₁ o₁ → ringed g n js ≡ true
+module _ {g : Graph} {n : ℕ} {js m₁ o₁ : List ℕ} (among : Structs g n js) (few : n ≤ itemNumbers) where
+  pub told-ring : Sorted g js Cycle m₁ o₁ → ringed g n js ≡ true
   unfolding ringed
-  told-ring a = sym (more-items among 256 few .0) ∙ sym (ap isRing (a .same))
+  told-ring a = sym (more-items among itemNumbers few .0) ∙ sym (ap isRing (a .same))
 
   pub told-order : {e : ℕ} → Sorted g js (Done e) m₁ o₁ → (ringed g n js ≡ false) × (take e o₁ ≡ order g n js)
   unfolding ringed order
   told-order a =
-      (sym (more-items among 256 few .0) ∙ sym (ap isRing (a .same)), ap sortedOf (a .same) ∙ more-items among 256 few .1)
+      (sym (more-items among itemNumbers few .0) ∙ sym (ap isRing (a .same)), ap sortedOf (a .same) ∙ more-items among itemNumbers few .1)

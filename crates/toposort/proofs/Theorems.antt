@@ -7,7 +7,7 @@ use Prim.Native.Nat.{ℕ, _≤_}
 use native.Mathlib.Omega.{arith}
 use lib.ListN.{length, replicate, length-replicate}
 use Rattle.toposort.specs.Graph.{Graph, Structs, Ring, LegalOrder}
-use Rattle.toposort.specs.Sort.{Walk, ring, done, sort, isRing, sortedOf, ringed, order}
+use Rattle.toposort.specs.Sort.{Walk, cycle, done, sort, isRing, sortedOf, ringed, order}
 use Rattle.toposort.proofs.Marks.{blank, unmarked-blank}
 use Rattle.toposort.proofs.Visits.{Moves, visits-move}
 use Rattle.toposort.proofs.Orders.{none, no-ring, ordered-legal}
@@ -42,7 +42,7 @@ module _ {g : Graph} {n : ℕ} {js : List ℕ} (among : Structs g n js) where
   ringed-short e = go (sort g n js) e sort-sound
     where
       go : (w : Walk) → isRing w ≡ true → Sound g js n js w → ShortRing g js n
-      go ring e s = s
+      go cycle e s = s
       go (done m o) e s = absurd (false≢true e)
 
   pub ringed-iff-ring : (ringed g n js ≡ true) ↔ Ring g js
@@ -50,7 +50,7 @@ module _ {g : Graph} {n : ℕ} {js : List ℕ} (among : Structs g n js) where
   ringed-iff-ring = ((λ e. ringed-short e .ring), λ r. go r (sort g n js) sort-sound)
     where
       go : Ring g js → (w : Walk) → Sound g js n js w → isRing w ≡ true
-      go r ring s = refl
+      go r cycle s = refl
       go r (done m o) s =
           absurd (no-ring (r .start) (r .others) (s .good .ordered) (s .good .listed (r .start) (s .all (r .start) (r .struct))) (r .closes))
 
@@ -59,7 +59,7 @@ module _ {g : Graph} {n : ℕ} {js : List ℕ} (among : Structs g n js) where
   sorted-legal e = go (sort g n js) e sort-sound
     where
       go : (w : Walk) → isRing w ≡ false → Sound g js n js w → LegalOrder g js (sortedOf w)
-      go ring e s = absurd (false≢true (sym e))
+      go cycle e s = absurd (false≢true (sym e))
       go (done m o) e s =
           ordered-legal (s .good .ordered) (λ i x. s .good .listed i (s .all i x)) (s .good .structs)
 
@@ -76,5 +76,5 @@ module _ {g : Graph} {n : ℕ} {js : List ℕ} (among : Structs g n js) where
   order-fits = go (sort g n js) sort-moves
     where
       go : (w : Walk) → Moves (replicate n 0) [] w → length (sortedOf w) ≤ n
-      go ring s = omega arith
+      go cycle s = omega arith
       go (done m o) s = omega (arith, s .count, unmarked-blank n)

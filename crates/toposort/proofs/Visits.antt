@@ -6,8 +6,8 @@ use Prim.Native.Nat.{ℕ, zero, suc, _+_, _<_, _≤_}
 use native.Mathlib.Omega.{arith}
 use lib.ListN.{length, getD, set, length-set, length-append}
 use Rattle.toposort.specs.Graph.{Graph, _∈_, Within}
-use Rattle.toposort.specs.Sort.{Walk, ring, done, andThen, finish, byMark, visitAll, visit}
-use Rattle.toposort.specs.Table.{unmarked}
+use Rattle.toposort.specs.Sort.{Walk, cycle, done, andThen, finish, byMark, visitAll, visit}
+use Rattle.toposort.specs.Adjacency.{unmarked}
 use Rattle.toposort.proofs.Marks.{set-cases, unmarked-first, unmarked-again}
 
 -- the same structs are being visited, those visited stay so, and the order grows by one struct for each new mark
@@ -21,7 +21,7 @@ pub record Moved (m o m₁ o₁ : List ℕ) : Type 0 where
 
 -- the same of a visit that may have met a ring
 abbrev pub Moves : List ℕ → List ℕ → Walk → Type 0
-Moves m o ring = Unit {0}
+Moves m o cycle = Unit {0}
 Moves m o (done m₁ o₁) = Moved m o m₁ o₁
 
 unmoved : (m o : List ℕ) → Moved m o m o
@@ -35,7 +35,7 @@ unmoved m o = record {
 }
 
 joined : {m o m₁ o₁ : List ℕ} (w : Walk) → Moved m o m₁ o₁ → Moves m₁ o₁ w → Moves m o w
-joined ring a b = tt
+joined cycle a b = tt
 joined (done m₂ o₂) a b = record {
   size = b .size ∙ a .size;
   visiting = λ j h. b .visiting j (a .visiting j h);
@@ -48,7 +48,7 @@ joined (done m₂ o₂) a b = record {
 -- a struct without a mark, from its first mark to its place in the order
 finished : (m o : List ℕ) (i : ℕ) (w : Walk) → i < length m → getD m i 0 ≡ 0 → Moves (set m i 1) o w →
     Moves m o (finish i w)
-finished m o i ring h e s = tt
+finished m o i cycle h e s = tt
 finished m o i (done m₁ o₁) h e s =
     let same : length m₁ ≡ length m = s .size ∙ length-set m i 1 in
     let begun : getD m₁ i 0 ≡ 1 =
@@ -79,14 +79,14 @@ module _ (g : Graph) (n : ℕ) (within : Within g n) where
       go : (w : Walk) → Moves m o w →
           ((m₁ o₁ : List ℕ) → length m₁ ≡ n → Moves m₁ o₁ (visitAll one js m₁ o₁)) →
           Moves m o (andThen w (λ m₁ o₁. visitAll one js m₁ o₁))
-      go ring s rest = tt
+      go cycle s rest = tt
       go (done m₁ o₁) s rest = joined (visitAll one js m₁ o₁) s (rest m₁ o₁ (s .size ∙ l))
 
   pub visit-moves : (levels i : ℕ) (m o : List ℕ) → i < n → length m ≡ n → Moves m o (visit g levels i m o)
   unfolding visit
   visit-moves zero i m o h l = go (getD m i 0)
     where
-      go : (b : ℕ) → Moves m o (byMark b m o ring)
+      go : (b : ℕ) → Moves m o (byMark b m o cycle)
       go zero = tt
       go (suc zero) = tt
       go (suc (suc b)) = unmoved m o

@@ -1,4 +1,4 @@
 pub mod Graph
 pub mod Sort
 pub mod Crate
-pub mod Table
+pub mod Adjacency

@@ -8,23 +8,23 @@ use Rattle.toposort.specs.Graph.{Graph}
 
 -- how a visit ends: at a ring, or with the marks and the order so far
 pub data Walk : Type 0 where
-  ring : Walk
+  cycle : Walk
   done : List ℕ → List ℕ → Walk
 
 -- the next step, where there was no ring
 abbrev pub andThen : Walk → (List ℕ → List ℕ → Walk) → Walk
-andThen ring next = ring
+andThen cycle next = cycle
 andThen (done marks sorted) next = next marks sorted
 
 -- `marks.insert(strct, Mark::Visited); sorted.push(strct);`
 abbrev pub finish : ℕ → Walk → Walk
-finish i ring = ring
+finish i cycle = cycle
 finish i (done marks sorted) = done (set marks i 2) (sorted ++ (i ∷ []))
 
 -- `match marks.entry(strct)`; fresh is what follows at a struct without a mark
 abbrev pub byMark : ℕ → List ℕ → List ℕ → Walk → Walk
 byMark zero marks sorted fresh = fresh
-byMark (suc zero) marks sorted fresh = ring
+byMark (suc zero) marks sorted fresh = cycle
 byMark (suc (suc m)) marks sorted fresh = done marks sorted
 
 -- one struct of the list after the other
@@ -34,7 +34,7 @@ visitAll one (j ∷ js) marks sorted = andThen (one j marks sorted) (λ m o. vis
 
 -- `visit`, so many levels deep: as many as there are items are enough
 unfoldable pub visit : Graph → ℕ → ℕ → List ℕ → List ℕ → Walk
-visit g zero i marks sorted = byMark (getD marks i 0) marks sorted ring
+visit g zero i marks sorted = byMark (getD marks i 0) marks sorted cycle
 visit g (suc levels) i marks sorted =
     byMark (getD marks i 0) marks sorted
     (finish i (visitAll (λ j m o. visit g levels j m o) (g i) (set marks i 1) sorted))
@@ -44,11 +44,11 @@ unfoldable pub sort : Graph → ℕ → List ℕ → Walk
 sort g n js = visitAll (λ j m o. visit g n j m o) js (replicate n 0) []
 
 abbrev pub isRing : Walk → Bool
-isRing ring = true
+isRing cycle = true
 isRing (done marks sorted) = false
 
 abbrev pub sortedOf : Walk → List ℕ
-sortedOf ring = []
+sortedOf cycle = []
 sortedOf (done marks sorted) = sorted
 
 -- the sort meets a ring

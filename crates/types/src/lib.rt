@@ -10,6 +10,7 @@ use format::Template;
 use format::TypeKind;
 use refusal::Refusal;
 ghost use mathlib.Core.Path.{_≡_};
+ghost use Rattle.format.specs.Limits.{mostLevels};
 ghost use Rattle.format.specs.Decode.{many};
 ghost use Rattle.format.specs.Decoding.{kindOf, tooDeep, typeBody, typeAt, type, optional};
 ghost use Rattle.format.specs.declared.TypeKind.the-variants.{Fn};
@@ -23,6 +24,13 @@ pub struct Levels {
 impl Levels {
     // The depth of the deepest type.
     pub const MOST: u32 = 8;
+
+    // Those of an outermost type.
+    pub fn new() -> Levels
+        ensures { λ r. ⌜ r ≡ record { left = mostLevels } ⌝ }
+    {
+        Levels { left: Levels::MOST }
+    }
 }
 
 const KINDS: [TypeKind; 16] = [
@@ -181,7 +189,7 @@ pub fn check_type(s: &[u8], c: Cursor, items: u32) -> Step
     requires { ⌜ Limited (now s) ⌝ }
     ensures { λ r. ⌜ Checks (type items (now (s .entry)) (c .at)) r ⌝ }
 {
-    walk_type(s, c, items, Levels { left: Levels::MOST })
+    walk_type(s, c, items, Levels::new())
 }
 
 // Past n outermost types.
@@ -189,7 +197,7 @@ pub fn check_types(s: &[u8], c: Cursor, items: u32, n: u32) -> Step
     requires { ⌜ Limited (now s) ⌝ }
     ensures { λ r. ⌜ Checks (many n (type items) (now (s .entry)) (c .at)) r ⌝ }
 {
-    walk_types(s, c, items, Levels { left: Levels::MOST }, n)
+    walk_types(s, c, items, Levels::new(), n)
 }
 
 // Past an outermost type that a bit may leave out.
@@ -197,5 +205,5 @@ pub fn check_return(s: &[u8], c: Cursor, items: u32) -> Step
     requires { ⌜ Limited (now s) ⌝ }
     ensures { λ r. ⌜ Checks (optional (type items) (now (s .entry)) (c .at)) r ⌝ }
 {
-    walk_return(s, c, items, Levels { left: Levels::MOST })
+    walk_return(s, c, items, Levels::new())
 }

@@ -13,7 +13,7 @@ use Rattle.format.specs.Sheet.{Name, Argument, Function}
 use Rattle.format.specs.Decoding.{nameOf, type, argument}
 use Rattle.cursor.specs.declared.Cursor.{Cursor}
 use Rattle.cursor.specs.declared.Step.the-variants.{At}
-use Rattle.cursor.specs.Checking.{placed, Fills, Table}
+use Rattle.cursor.specs.Checking.{positionOf, Fills, Table}
 use Rattle.cursor.proofs.CheckLaws.{many-length}
 use Rattle.cursor.proofs.TableLaws.{Filling, fill-none, fill-turn, fill-done, placed-got, Located, located}
 use Rattle.view.specs.declared.Found.{Found}
@@ -28,12 +28,12 @@ use Rattle.view.proofs.NameLaws.{Read, name-read}
 module _ {A : Type 0} (d : Dec A) (s : List ℕ) (n at₀ : ℕ) (xs : List A) (e : ℕ) where
   -- i positions stand in b, and the rest of the values stands at the position
   pub record Placing (i : ℕ) (b : List ℕ) (at : ℕ) : Type 0 where
-    pub filling : Filling (placed d) s n at₀ i b at
+    pub filling : Filling (positionOf d) s n at₀ i b at
     pub rest : many (n - i) d s at ≡ got (drop i xs) e
 
   pub place-none : (b : List ℕ) → many n d s at₀ ≡ got xs e → Placing 0 b at₀
   place-none b h = record {
-    filling = fill-none (placed d) s n at₀ b;
+    filling = fill-none (positionOf d) s n at₀ b;
     rest = (let z : n - 0 ≡ n = omega arith in rw z h);
   }
 
@@ -61,7 +61,7 @@ module _ {A : Type 0} (d : Dec A) (s : List ℕ) (n at₀ : ℕ) (xs : List A) (
   place-turn {i} {b} at {m} z q p l k h =
       let a = ahead at z q p l in
       record {
-        filling = rw h (fill-turn (placed d) s n at₀ (p .filling) l k (placed-got d (a .0)));
+        filling = rw h (fill-turn (positionOf d) s n at₀ (p .filling) l k (placed-got d (a .0)));
         rest = rw h (a .1);
       }
 
@@ -69,7 +69,7 @@ module _ {A : Type 0} (d : Dec A) (s : List ℕ) (n at₀ : ℕ) (xs : List A) (
       Table d s n b xs × (c .at ≡ e)
   unfolding many
   place-done {i} {b} {c} h p l k =
-      let t = located d s n at₀ {b = b} {c = c} (fill-done (placed d) s n at₀ {c = c} (p .filling) l k) refl in
+      let t = located d s n at₀ {b = b} {c = c} (fill-done (positionOf d) s n at₀ {c = c} (p .filling) l k) refl in
       let v : t .values ≡ xs = got-value (sym (t .decoded) ∙ h) in
       (rw (← v) (t .table), got-next (sym (t .decoded) ∙ h))
 

@@ -5,6 +5,7 @@ use Prim.Native.Nat.{ℕ, _+_, _*_, _<_, _≤_}
 use native.Mathlib.Omega.{arith}
 use native.Mathlib.Nat.{mul-le-mul-left, mul-comm}
 use lib.ListN.{length, getD}
+use Rattle.format.specs.Limits.{mostNamespaces}
 use Rattle.format.specs.Decode.{Got, got, many}
 use Rattle.format.specs.Bits.{bits, widthOf}
 use Rattle.format.specs.Sheet.{Name, Item}
@@ -19,9 +20,9 @@ use Rattle.view.proofs.ValueLaws.{yields, found-value, found-next}
 use Rattle.view.proofs.PartLaws.{ItemParts, item-parts, body-kind}
 use Rattle.view.proofs.NameLaws.{Read, name-read, spaces-next, spaces-each}
 
--- the bits of at most seven indexes
-pub span : (d w : ℕ) → d ≤ 7 → w ≤ 32 → d * w ≤ 224
-span d w h l = omega (arith, mul-le-mul-left w h, mul-comm d w, mul-comm w 7)
+-- the bits of an item's namespaces
+pub span : (d w : ℕ) → d ≤ mostNamespaces → w ≤ 32 → d * w ≤ 224
+span d w h l = omega (arith, mul-le-mul-left w h, mul-comm d w, mul-comm w mostNamespaces)
 
 module _ (s names : List ℕ) (n at : ℕ) (x : Item) where
   module _ (p : ItemParts (namesAt s names) n s at x) {k : Found} (fk : Finds (bits 3 s at) 3 k) where

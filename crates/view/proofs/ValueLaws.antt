@@ -17,7 +17,7 @@ use Rattle.cursor.specs.declared.Field.{Field}
 use Rattle.cursor.specs.declared.Field.the-variants.{Value, Cut}
 use Rattle.cursor.specs.declared.Step.{Step}
 use Rattle.cursor.specs.declared.Step.the-variants.{At, Fault}
-use Rattle.cursor.specs.Checking.{Limited, Reads, Checks}
+use Rattle.cursor.specs.Checking.{Limited, ReadsField, Checks}
 use Rattle.cursor.proofs.CheckLaws.{stepped, stopped}
 use Rattle.cursor.proofs.FieldLaws.{value, cut, field-lt}
 use Rattle.view.specs.declared.Found.{Found}
@@ -61,14 +61,14 @@ module _ (n : ℕ) (s : List ℕ) (at : ℕ) where
       by-test true t e = let z : at + n ≡ m = cc in omega (arith, leb-true (at + n) (8 * length s) t)
       by-test false t e = absurd (let z : _≡_ {A = ℕ} 0 1 = cc in omega arith)
 
-  pub finds-value : {r : Field} {v : ℕ} {c : Cursor} → Limited s → Reads (bits n s at) r → r ≡ Value v c →
+  pub finds-value : {r : Field} {v : ℕ} {c : Cursor} → Limited s → ReadsField (bits n s at) r → r ≡ Value v c →
       Finds (bits n s at) n (record { value = v; next = c })
   finds-value {c} l h t =
       let e = value h t in
       let f = field-end e in
       record { value = rw e; next = rw e; low = field-lt n s at e; near = omega arith }
 
-  pub finds-none : {r : Field} → Reads (bits n s at) r → r ≡ Cut →
+  pub finds-none : {r : Field} → ReadsField (bits n s at) r → r ≡ Cut →
       Finds (bits n s at) n (record { value = 0; next = record { at = 0 } })
   finds-none h t =
       let e = cut n s at h t in record { value = rw e; next = rw e; low = pow-pos n; near = omega arith }

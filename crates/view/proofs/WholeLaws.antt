@@ -11,7 +11,7 @@ use Rattle.format.specs.Sheet.{Name, cxxType, Item, Sheet}
 use Rattle.format.specs.Decoding.{name, item}
 use Rattle.syntax.specs.Items.{itemAt}
 use Rattle.cursor.specs.Checking.{Limited, Table}
-use Rattle.decode.specs.declared.Outline.{Outline}
+use Rattle.format.specs.declared.Outline.{Outline}
 use Rattle.decode.specs.Tables.{Items, Tables}
 use Rattle.view.specs.Values.{valueOr, nextOf, Yields, nameAt, namesAt, oneItemAt, itemsAt, Named, Whole}
 use Rattle.view.proofs.ValueLaws.{yields, yielded}

@@ -4,6 +4,7 @@ use mathlib.Core.List.{List, [], map}
 use mathlib.Core.Bool.{false}
 use Prim.Native.Nat.{ℕ, _<_, _≤_}
 use lib.ListN.{length, getD}
+use Rattle.format.specs.Limits.{mostNames, mostItems}
 use Rattle.format.specs.Decode.{Got, fault, got}
 use Rattle.format.specs.Types.{Ty, str, none}
 use Rattle.format.specs.Sheet.{Name, free, Argument, Function, Body, struct, enum, cxxType, rustType, function, Item}
@@ -48,6 +49,10 @@ oneItemAt s names items at =
 unfoldable pub itemsAt : List ℕ → List ℕ → List ℕ → List Item
 itemsAt s names items = map (oneItemAt s names items) items
 
+-- item i of the sheet
+abbrev pub itemNo : List ℕ → List ℕ → List ℕ → ℕ → Item
+itemNo s names items i = itemAt (itemsAt s names items) i
+
 -- the function of a body that is one
 abbrev pub functionIn : Body → Function
 functionIn (function f) = f
@@ -73,12 +78,12 @@ typeHere n s at = valueOr str (type n s at)
 -- at each position of the table stands a name
 pub record Named (s names : List ℕ) : Type 0 where
   pub limited : Limited s
-  pub few : length names ≤ 1023
+  pub few : length names ≤ mostNames
   pub each : (i : ℕ) → i < length names → Yields (name s (getD names i 0)) (nameAt s (getD names i 0))
 
 -- and at each position of the other table the item of that number
 pub record Whole (s names items : List ℕ) : Type 0 where
   pub named : Named s names
-  pub few : length items ≤ 255
+  pub few : length items ≤ mostItems
   pub each : (i : ℕ) → i < length items →
       Yields (item (namesAt s names) (length items) s (getD items i 0)) (itemAt (itemsAt s names items) i)

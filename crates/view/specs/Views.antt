@@ -4,6 +4,7 @@ use mathlib.Core.List.{List, []}
 use mathlib.Core.Bool.{Bool, true, false}
 use Prim.Native.Nat.{ℕ, _^_, _<_, _≤_}
 use lib.ListN.{length, getD}
+use Rattle.format.specs.Limits.{mostBits, mostNamespaces, mostArguments}
 use Rattle.format.specs.Decode.{Got, fault, got, Dec, pick, _>>_, pure, many}
 use Rattle.format.specs.Bits.{bits}
 use Rattle.format.specs.Types.{Ty, atom, named, template, pointer, str, fn, array, Ret, none, gives}
@@ -28,7 +29,7 @@ pub record Finds (p : Got ℕ) (n : ℕ) (r : Found) : Type 0 where
   pub value : r .value ≡ valueOr 0 p
   pub next : r .next .at ≡ nextOf p
   pub low : r .value < 2 ^ n
-  pub near : r .next .at ≤ 262144
+  pub near : r .next .at ≤ mostBits
 
 -- what a body's kind is
 abbrev pub kindOfBody : Body → ItemKind
@@ -51,8 +52,8 @@ pub record ViewOf (s names : List ℕ) (n : ℕ) (x : Item) (v : ItemView) : Typ
   pub kind : v .kind ≡ kindOfBody (x .body)
   pub depth : v .depth ≡ length (x .namespace)
   pub spaces : Yields (many (v .depth) (nameOf (namesAt s names)) s (v .spaces .at)) (x .namespace)
-  pub shallow : v .depth ≤ 7
-  pub near : v .spaces .at ≤ 262144
+  pub shallow : v .depth ≤ mostNamespaces
+  pub near : v .spaces .at ≤ mostBits
   pub named : v .name < length names
   pub cxx : nameAt s (getD names (v .name) 0) ≡ x .cxx
   pub body : Yields (itemBody (v .kind) (namesAt s names) n s (v .body .at)) (x .body)
@@ -92,7 +93,7 @@ pub record FunctionOf (s names : List ℕ) (n : ℕ) (f : Function) (v : Functio
   pub owner : (v .form ≡ 0 → ⊥) → v .owner < n
   pub throws : v .throws ≡ f .throws
   pub result : Yields (returnOf (v .returns) (type n) s (v .result .at)) (f .return)
-  pub few : v .arguments ≤ 31
+  pub few : v .arguments ≤ mostArguments
   pub arguments : Yields (many (v .arguments) (argument (namesAt s names) n) s (v .first .at)) (f .arguments)
   pub comment :
       Yields (commentLines s (nextOf (many (v .arguments) (argument (namesAt s names) n) s (v .first .at))))

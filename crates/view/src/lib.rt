@@ -8,7 +8,7 @@ use cursor::width;
 use format::ItemKind;
 use format::Template;
 use format::TypeKind;
-use items::kind_of;
+use items::part_of;
 use names::Name;
 use names::fetch;
 use text::equal;
@@ -19,6 +19,7 @@ ghost use mathlib.Core.List.{[]};
 ghost use Prim.Native.Nat.{ℕ, _≤_, _<_};
 ghost use lib.ListN.{length, getD};
 ghost use Rattle.lexical.specs.Bytes.{same};
+ghost use Rattle.format.specs.Limits.{mostArguments};
 ghost use Rattle.format.specs.Bits.{bits, widthOf};
 ghost use Rattle.format.specs.Decode.{many};
 ghost use Rattle.format.specs.Decoding.{name, type, optional, argument as argumentOf, form};
@@ -50,7 +51,7 @@ pub fn field(s: &[u8], c: Cursor, n: u32) -> Found
         Field::Value(value, next) => Found { value, next },
         Field::Cut => Found {
             value: 0,
-            next: Cursor { at: 0 },
+            next: Cursor::new(0),
         },
     }
 }
@@ -101,13 +102,13 @@ pub fn name_is(s: &[u8], names: &[u32], i: u32, text: &[u8]) -> bool
 
 // ---- digests
 
-fn wide(c: u8) -> u32
+fn to_u32(c: u8) -> u32
     ensures { λ r. ⌜ r ≡ c ⌝ }
 {
     c as u32
 }
 
-fn wider(c: u32) -> u64
+fn to_u64(c: u32) -> u64
     ensures { λ r. ⌜ r ≡ c ⌝ }
 {
     c as u64
@@ -117,7 +118,7 @@ fn wider(c: u32) -> u64
 pub fn mix(h: u32, c: u32) -> u32
     ensures { λ r. ⌜ r ≡ mixOf h c ⌝ }
 {
-    let sum = wider(h) * 31 + wider(c);
+    let sum = to_u64(h) * 31 + to_u64(c);
     (sum % 4294967296) as u32
 }
 
@@ -128,7 +129,7 @@ fn digest(w: &[u8]) -> u32
     let mut h: u32 = 0;
     let mut i: usize = 0;
     while i < w.len() {
-        h = mix(h, wide(w[i]));
+        h = mix(h, to_u32(w[i]));
         i = i + 1;
     }
     h
@@ -176,14 +177,14 @@ pub fn item(s: &[u8], names: &[u32], items: &[u32], i: u32) -> ItemView
 {
     let k = i as usize;
     let at = items[k];
-    let kind = field(s, Cursor { at }, 3);
+    let kind = field(s, Cursor::new(at), 3);
     let depth = field(s, kind.next, 3);
     let w = width(names.len() as u32);
     let spaces = depth.next;
     let title = spaces.at + depth.value * w;
-    let name = field(s, Cursor { at: title }, w);
+    let name = field(s, Cursor::new(title), w);
     let body = name.next;
-    let of = kind_of(kind.value);
+    let of = part_of(kind.value);
     ItemView {
         number: i,
         kind: of,
@@ -202,8 +203,8 @@ pub fn kind_at(s: &[u8], names: &[u32], items: &[u32], i: u32) -> ItemKind
 {
     let k = i as usize;
     let at = items[k];
-    let kind = field(s, Cursor { at }, 3);
-    kind_of(kind.value)
+    let kind = field(s, Cursor::new(at), 3);
+    part_of(kind.value)
 }
 
 // The index of an item's namespace d, counted from the outermost.
@@ -215,7 +216,7 @@ pub fn namespace(s: &[u8], names: &[u32], items: &[u32], v: ItemView, d: u32) ->
 {
     let w = width(names.len() as u32);
     let at = v.spaces.at + d * w;
-    let name = field(s, Cursor { at }, w);
+    let name = field(s, Cursor::new(at), w);
     name.value
 }
 
@@ -287,7 +288,7 @@ pub fn past_type(s: &[u8], c: Cursor, items: u32) -> Cursor
     let r = check_type(s, c, items);
     match r {
         Step::At(next) => next,
-        Step::Fault(_) => Cursor { at: 0 },
+        Step::Fault(_) => Cursor::new(0),
     }
 }
 
@@ -299,7 +300,7 @@ fn past_return(s: &[u8], c: Cursor, items: u32) -> Cursor
     let r = check_return(s, c, items);
     match r {
         Step::At(next) => next,
-        Step::Fault(_) => Cursor { at: 0 },
+        Step::Fault(_) => Cursor::new(0),
     }
 }
 
@@ -358,7 +359,7 @@ pub fn fill_arguments(
     offsets: &mut [u32],
 ) -> Cursor
     requires { ⌜ Whole (now s) (now names) (now items) × FunctionAt (now s) (now names) (now items) v ×
-        (31 ≤ length (now offsets)) ⌝ }
+        (mostArguments ≤ length (now offsets)) ⌝ }
     ensures { λ r. ⌜ ArgumentsAt (now (s .entry)) (now (names .entry)) (now (items .entry)) v (now (offsets .exit)) ×
         (r .at ≡ nextOf (many (v .arguments)
         (argumentOf (namesAt (now (s .entry)) (now (names .entry))) (length (now (items .entry))))
@@ -401,7 +402,7 @@ pub fn argument(
 {
     let k = j as usize;
     let at = offsets[k];
-    let name = field(s, Cursor { at }, width(names.len() as u32));
+    let name = field(s, Cursor::new(at), width(names.len() as u32));
     let of = name.next;
     ArgumentView {
         name: name.value,
@@ -436,7 +437,7 @@ fn is_atom(kind: TypeKind) -> bool
     }
 }
 
-fn is_named(kind: TypeKind) -> bool
+pub fn is_named(kind: TypeKind) -> bool
     ensures { λ r. ⌜ r ≡ isNamedKind kind ⌝ }
 {
     match kind {

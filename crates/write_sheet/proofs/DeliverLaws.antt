@@ -12,7 +12,7 @@ use Rattle.refusal.specs.declared.Refusal.the-variants.{Overrun, WrongPart, Tak
 use Rattle.format.specs.Decode.{fault, got, pick}
 use Rattle.format.specs.Sheet.{Sheet}
 use Rattle.format.specs.Decoding.{decode}
-use Rattle.decode.specs.declared.Outline.{Outline}
+use Rattle.format.specs.declared.Outline.{Outline}
 use Rattle.decode.specs.Tables.{Tables}
 use Rattle.view.specs.Values.{itemsAt}
 use Rattle.view.proofs.WholeLaws.{items-are}

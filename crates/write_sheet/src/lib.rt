@@ -1,8 +1,8 @@
 // The write service: the text of any bytes that document 01 accepts.
 use check_sheet::judge;
 use decode::Decoded;
-use decode::Outline;
 use decode::decode;
+use format::Outline;
 use refusal::Refusal;
 use rules::Checked;
 use services::Written;

@@ -1,11 +1,11 @@
--- Written by tools/proofkit from answers/clash_behind.tpl (c025216b 23ea27dc).
+-- Written by tools/proofkit from answers/clash_behind.tpl (f76e60a9 ef9e823e).
 use native.Mathlib.Omega.{arith}
 use mathlib.Core.Path.{_≡_, refl, sym, _∙_}
 use Prim.Native.Nat.{_+_, _<_, _≤_, _-_}
 use lib.ListN.{length, drop}
 use Rattle.rules.specs.Rules.{any}
-use Rattle.view.specs.Values.{itemsAt}
-use Rattle.clash.specs.Clashes.{itemNo, clashes}
+use Rattle.view.specs.Values.{itemsAt, itemNo}
+use Rattle.clash.specs.Clashes.{clashes}
 use Rattle.clash.proofs.ListLaws.{items-turn, items-hit, items-end}
 use Rattle.clash.proofs.clash_behind.Statement.{statement}
 use Rattle.clash.proofs.clash_behind.Tie as tie

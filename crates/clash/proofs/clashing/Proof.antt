@@ -1,11 +1,11 @@
--- Written by tools/proofkit from answers/clashing.tpl (96e4f5cf 27d113bb).
+-- Written by tools/proofkit from answers/clashing.tpl (badad86e bf708eac).
 use native.Mathlib.Omega.{arith}
 use mathlib.Core.Path.{_≡_, refl, sym, ap, _∙_}
 use Prim.Native.Nat.{_+_, _<_, _≤_, _-_}
 use lib.ListN.{length, drop}
 use Rattle.rules.specs.Rules.{twice}
-use Rattle.view.specs.Values.{itemsAt}
-use Rattle.clash.specs.Clashes.{itemNo, clashes}
+use Rattle.view.specs.Values.{itemsAt, itemNo}
+use Rattle.clash.specs.Clashes.{clashes}
 use Rattle.clash.proofs.ListLaws.{pairs-turn, pairs-hit, pairs-end}
 use Rattle.clash.proofs.clashing.Statement.{statement}
 use Rattle.clash.proofs.clashing.Tie as tie

@@ -1,4 +1,4 @@
--- Written by tools/proofkit from answers/fill_keys.tpl (595f109f 06a1cedd).
+-- Written by tools/proofkit from answers/fill_keys.tpl (def1acee 1658ec6e).
 use borrow.Author.Needs.{needs}
 use native.Mathlib.Omega.{arith}
 use mathlib.Core.Path.{_≡_, refl, sym, ap, _∙_}
@@ -6,7 +6,8 @@ use Prim.Native.Nat.{ℕ, _≤_, _<_, _-_}
 use lib.ListN.{length, length-set, getD}
 use Rattle.view.specs.Digests.{digest}
 use Rattle.view.proofs.NameLaws.{digests-length, digest-there}
-use Rattle.clash.specs.Clashes.{itemNo, ownName}
+use Rattle.view.specs.Values.{itemNo}
+use Rattle.clash.specs.Clashes.{ownName}
 use Rattle.clash.proofs.SearchLaws.{filled-turn}
 use Rattle.clash.proofs.ViewLaws.{key-there}
 use Rattle.clash.proofs.fill_keys.Statement.{statement}

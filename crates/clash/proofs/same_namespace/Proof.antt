@@ -1,10 +1,11 @@
--- Written by tools/proofkit from answers/same_namespace.tpl (d53b71dd 6dad5fef).
+-- Written by tools/proofkit from answers/same_namespace.tpl (12f65184 9e4680e2).
 use native.Mathlib.Omega.{arith}
 use mathlib.Core.Path.{_≡_, refl, sym, _∙_}
 use Prim.Native.Nat.{_≤_, _-_}
 use lib.ListN.{drop}
 use Rattle.lexical.proofs.BoolLaws.{not-true, not-false}
-use Rattle.clash.specs.Clashes.{itemNo, sameNames}
+use Rattle.clash.specs.Clashes.{sameNames}
+use Rattle.view.specs.Values.{itemNo}
 use Rattle.clash.proofs.ViewLaws.{depths-differ, spaces-turn, spaces-differ, spaces-end}
 use Rattle.clash.proofs.same_namespace.Statement.{statement}
 use Rattle.clash.proofs.same_namespace.Tie as tie

@@ -1,4 +1,4 @@
--- Written by tools/proofkit from answers/check_line.tpl (dc60253e 1c494d03).
+-- Written by tools/proofkit from answers/check_line.tpl (e3101dba 85d77796).
 use borrow.Author.Needs.{needs}
 use native.Mathlib.Omega.{arith}
 use mathlib.Core.Path.{refl, sym}
@@ -6,7 +6,7 @@ use lib.Seq.{length-take-le}
 use Rattle.refusal.specs.declared.Refusal.the-variants.{BadComment}
 use Rattle.format.specs.Decoding.{line, lineOk}
 use Rattle.cursor.proofs.CheckLaws.{known}
-use Rattle.text.specs.Text.{ruled}
+use Rattle.text.specs.Text.{ruledText}
 use Rattle.text.proofs.TextLaws.{text-value, text-none, text-lt}
 use Rattle.comments.proofs.check_line.Statement.{statement}
 use Rattle.comments.proofs.check_line.Tie as tie
@@ -18,15 +18,15 @@ slice-aggregate-is-line : tie.Need-slice-aggregate-is-line
 slice-aggregate-is-line c = sym (length-take-le _ _ (omega (arith, text-lt 7 _ _ (c .before .before .before .before .before .read-text .ensures) (c .before .before .f .given .1), c .before .before .before .before .before .read-text .kept .1 .1 .1 .0)))
 
 returns : tie.Need-returns
-unfolding line ruled
+unfolding line ruledText
 returns c = rw (text-value 7 _ _ (c .before .before .before .before .before .before .before .read-text .ensures) (c .before .before .before .before .f .given .1) lineOk BadComment, known (c .before .is-line .ensures) (c .if1 .taken)) record { step = refl }
 
 returns-2 : tie.Need-returns-2
-unfolding line ruled
+unfolding line ruledText
 returns-2 c = rw (text-none 7 _ _ (c .before .before .before .read-text .ensures) (c .enum-told .given .1) lineOk BadComment) record { step = refl }
 
 returns-3 : tie.Need-returns-3
-unfolding line ruled
+unfolding line ruledText
 returns-3 c = rw (text-value 7 _ _ (c .before .before .before .before .before .before .before .read-text .ensures) (c .before .before .before .before .f .given .1) lineOk BadComment, known (c .before .is-line .ensures) (c .if1 .left)) record { step = refl }
 
 pub check-line-spec : {M : Type 1} → statement M

@@ -1,4 +1,4 @@
--- Written by tools/proofkit from answers/byte_at.tpl (9c5e86ff 97aab170).
+-- Written by tools/proofkit from answers/byte_at.tpl (a3d0d975 8744476f).
 use borrow.Author.Needs.{needs}
 use mathlib.Core.Path.{sym}
 use native.Mathlib.Omega.{arith}
@@ -7,7 +7,7 @@ use Rattle.cursor.proofs.byte_at.Statement.{statement}
 use Rattle.cursor.proofs.byte_at.Tie as tie
 
 returns : tie.Need-returns
-returns c = (c .wide .ensures, omega (arith, c .wide .ensures, c .before .shared-slice-known2 .given (c .before .before .before .before .args .i)))
+returns c = (c .to-u64 .ensures, omega (arith, c .to-u64 .ensures, c .before .shared-slice-known2 .given (c .before .before .before .before .args .i)))
 
 returns-2 : tie.Need-returns-2
 returns-2 c = (sym (List·getD-eq-default (c .before .before .args .s .now) 0 (c .if1 .left)), omega arith)

@@ -1,11 +1,11 @@
--- Written by tools/proofkit from answers/byte_in.tpl (ac0df9d0 01b28397).
+-- Written by tools/proofkit from answers/byte_in.tpl (f054591f 3bb91089).
 use borrow.Author.Needs.{needs}
 use native.Mathlib.Omega.{arith}
 use Rattle.cursor.proofs.byte_in.Statement.{statement}
 use Rattle.cursor.proofs.byte_in.Tie as tie
 
 returns : tie.Need-returns
-returns c = (c .wide .ensures, omega (arith, c .wide .ensures, c .before .shared-slice-known2 .given (c .before .before .before .args .i)))
+returns c = (c .to-u64 .ensures, omega (arith, c .to-u64 .ensures, c .before .shared-slice-known2 .given (c .before .before .before .args .i)))
 
 pub byte-in-spec : {M : Type 1} → statement M
 byte-in-spec =

@@ -1,4 +1,4 @@
--- Written by tools/proofkit from answers/read.tpl (76899222 45bc4fe5).
+-- Written by tools/proofkit from answers/read.tpl (7c4c051d 29a9c22f).
 use borrow.Author.Needs.{needs}
 use native.Mathlib.Omega.{arith}
 use Rattle.cursor.proofs.FieldLaws.{field-past, field-cut, field-whole}
@@ -12,7 +12,7 @@ returns-2 : tie.Need-returns-2
 returns-2 c = field-cut _ (c .before .before .before .args .s .now) _ (omega arith)
 
 returns-3 : tie.Need-returns-3
-returns-3 c = field-whole (c .before .before .before .before .args .n) (c .before .before .before .before .args .s .now) (c .before .before .before .before .args .c .at) (omega arith) (c .gather .ensures)
+returns-3 c = field-whole (c .before .before .before .before .args .n) (c .before .before .before .before .args .s .now) (c .before .before .before .before .args .c .at) (omega arith) (c .extract .ensures)
 
 pub read-spec : {M : Type 1} → statement M
 read-spec =

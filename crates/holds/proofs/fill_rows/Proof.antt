@@ -1,16 +1,17 @@
--- Written by tools/proofkit from answers/fill_rows.tpl (9803b912 7f4360a4).
+-- Written by tools/proofkit from answers/fill_rows.tpl (9819989e e2a52700).
 use native.Mathlib.Omega.{arith}
 use Prim.Native.Nat.{_-_, _≤_}
+use Rattle.toposort.specs.Adjacency.{itemNumbers}
 use Rattle.view.specs.Values.{itemsAt}
 use Rattle.holds.proofs.EdgeLaws.{items-passed, Filling, fill-none, fill-next, filling-all, fill-done}
 use Rattle.holds.proofs.fill_rows.Statement.{statement}
 use Rattle.holds.proofs.fill_rows.Tie as tie
 
 abbrev Inv-loop : tie.InvT-loop
-Inv-loop s names items starts₀ held₀ end₀ i₀ starts held end i = (i ≤ 256) × Filling (itemsAt s names items) i end starts held
+Inv-loop s names items starts₀ held₀ end₀ i₀ starts held end i = (i ≤ itemNumbers) × Filling (itemsAt s names items) i end starts held
 
 abbrev μ-loop : tie.MeasureT-loop
-μ-loop s names items starts₀ held₀ end₀ i₀ starts held end i = 256 - i
+μ-loop s names items starts₀ held₀ end₀ i₀ starts held end i = itemNumbers - i
 
 slice-write-starts : tie.Need-slice-write-starts Inv-loop μ-loop
 slice-write-starts c = omega (arith, c .before .before .before .before .before .pre .1)

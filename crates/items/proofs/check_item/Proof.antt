@@ -1,4 +1,4 @@
--- Written by tools/proofkit from answers/check_item.tpl (427270a9 94cc574e).
+-- Written by tools/proofkit from answers/check_item.tpl (37d9ebcf 559c7cbf).
 use borrow.Author.Needs.{needs}
 use mathlib.Core.Path.{refl}
 use Rattle.format.specs.Decoding.{item}
@@ -10,7 +10,7 @@ use Rattle.items.proofs.check_item.Tie as tie
 
 returns : tie.Need-returns
 unfolding item
-returns c = λ ns e. rw (value (c .before .before .before .before .before .before .read .ensures) (c .before .before .before .before .f .given .1), bad-is (c .before .before .kind-of .ensures) (c .before .is-bad .ensures) (c .if1 .taken)) record { step = refl }
+returns c = λ ns e. rw (value (c .before .before .before .before .before .before .read .ensures) (c .before .before .before .before .f .given .1), bad-is (c .before .before .part-of .ensures) (c .before .is-bad .ensures) (c .if1 .taken)) record { step = refl }
 
 returns-2 : tie.Need-returns-2
 unfolding item
@@ -18,15 +18,15 @@ returns-2 c = λ ns e. rw (cut _ _ _ (c .before .before .read .ensures) (c .enum
 
 returns-3 : tie.Need-returns-3
 unfolding item
-returns-3 c = λ ns e. rw (value (c .before .before .before .before .before .before .before .before .before .before .read .ensures) (c .before .before .before .before .before .before .before .before .f .given .1), bad-is (c .before .before .before .before .before .before .kind-of .ensures) (c .before .before .before .before .before .is-bad .ensures) (c .before .before .before .before .if1 .left), stopped (c .before .before .before .check-namespace .ensures ns e) (c .before .a .given .1)) record { step = refl }
+returns-3 c = λ ns e. rw (value (c .before .before .before .before .before .before .before .before .before .before .read .ensures) (c .before .before .before .before .before .before .before .before .f .given .1), bad-is (c .before .before .before .before .before .before .part-of .ensures) (c .before .before .before .before .before .is-bad .ensures) (c .before .before .before .before .if1 .left), stopped (c .before .before .before .check-namespace .ensures ns e) (c .before .a .given .1)) record { step = refl }
 
 returns-4 : tie.Need-returns-4
 unfolding item
-returns-4 c = λ ns e. rw (value (c .before .before .before .before .before .before .before .before .before .before .before .before .before .before .read .ensures) (c .before .before .before .before .before .before .before .before .before .before .before .before .f .given .1), bad-is (c .before .before .before .before .before .before .before .before .before .before .kind-of .ensures) (c .before .before .before .before .before .before .before .before .before .is-bad .ensures) (c .before .before .before .before .before .before .before .before .if1 .left), stepped (c .before .before .before .before .before .before .before .check-namespace .ensures ns e) (c .before .before .before .before .before .a2 .given .1) .1, stopped (name-of ns e _ _ (c .before .before .before .check-index .ensures)) (c .before .b .given .1)) record { step = refl }
+returns-4 c = λ ns e. rw (value (c .before .before .before .before .before .before .before .before .before .before .before .before .before .before .read .ensures) (c .before .before .before .before .before .before .before .before .before .before .before .before .f .given .1), bad-is (c .before .before .before .before .before .before .before .before .before .before .part-of .ensures) (c .before .before .before .before .before .before .before .before .before .is-bad .ensures) (c .before .before .before .before .before .before .before .before .if1 .left), stepped (c .before .before .before .before .before .before .before .check-namespace .ensures ns e) (c .before .before .before .before .before .a2 .given .1) .1, stopped (name-of ns e _ _ (c .before .before .before .check-index .ensures)) (c .before .b .given .1)) record { step = refl }
 
 returns-5 : tie.Need-returns-5
 unfolding item
-returns-5 c = λ ns e. rw (value (c .before .before .before .before .before .before .before .before .before .before .before .before .before .before .before .read .ensures) (c .before .before .before .before .before .before .before .before .before .before .before .before .before .f .given .1), bad-is (c .before .before .before .before .before .before .before .before .before .before .before .kind-of .ensures) (c .before .before .before .before .before .before .before .before .before .before .is-bad .ensures) (c .before .before .before .before .before .before .before .before .before .if1 .left), stepped (c .before .before .before .before .before .before .before .before .check-namespace .ensures ns e) (c .before .before .before .before .before .before .a2 .given .1) .1, stepped (name-of ns e _ _ (c .before .before .before .before .check-index .ensures)) (c .before .before .b2 .given .1) .1, ← c .before .before .before .before .before .before .before .before .before .before .before .kind-of .ensures) (tail _ (c .check-body .ensures ns e))
+returns-5 c = λ ns e. rw (value (c .before .before .before .before .before .before .before .before .before .before .before .before .before .before .before .read .ensures) (c .before .before .before .before .before .before .before .before .before .before .before .before .before .f .given .1), bad-is (c .before .before .before .before .before .before .before .before .before .before .before .part-of .ensures) (c .before .before .before .before .before .before .before .before .before .before .is-bad .ensures) (c .before .before .before .before .before .before .before .before .before .if1 .left), stepped (c .before .before .before .before .before .before .before .before .check-namespace .ensures ns e) (c .before .before .before .before .before .before .a2 .given .1) .1, stepped (name-of ns e _ _ (c .before .before .before .before .check-index .ensures)) (c .before .before .b2 .given .1) .1, ← c .before .before .before .before .before .before .before .before .before .before .before .part-of .ensures) (tail _ (c .check-body .ensures ns e))
 
 pub check-item-spec : {M : Type 1} → statement M
 check-item-spec =

@@ -1,11 +1,11 @@
--- Written by tools/proofkit from answers/check_items.tpl (18b4c058 6c7748a8).
+-- Written by tools/proofkit from answers/check_items.tpl (a5ec191d a1cd5b07).
 use borrow.Author.Needs.{needs}
 use native.Mathlib.Omega.{arith}
 use mathlib.Core.Path.{_≡_, refl}
 use Prim.Native.Nat.{_-_, _≤_}
 use lib.ListN.{length, length-set}
 use Rattle.format.specs.Decoding.{item}
-use Rattle.cursor.specs.Checking.{placed}
+use Rattle.cursor.specs.Checking.{positionOf}
 use Rattle.cursor.proofs.CheckLaws.{stepped, stopped}
 use Rattle.cursor.proofs.TableLaws.{placed-got, placed-fault, Filling, fill-none, fill-turn, fill-stop, fill-done}
 use Rattle.items.specs.Parts.{ForNames}
@@ -13,7 +13,7 @@ use Rattle.items.proofs.check_items.Statement.{statement}
 use Rattle.items.proofs.check_items.Tie as tie
 
 abbrev Inv-loop : tie.InvT-loop
-Inv-loop s names items offsets₀ next₀ i₀ offsets next i = (i ≤ items) × (length offsets ≡ length offsets₀) × ForNames names (λ ns. Filling (placed (item ns items)) s items (next₀ .at) i offsets (next .at))
+Inv-loop s names items offsets₀ next₀ i₀ offsets next i = (i ≤ items) × (length offsets ≡ length offsets₀) × ForNames names (λ ns. Filling (positionOf (item ns items)) s items (next₀ .at) i offsets (next .at))
 
 abbrev μ-loop : tie.MeasureT-loop
 μ-loop s names items offsets₀ next₀ i₀ offsets next i = items - i
@@ -28,7 +28,7 @@ slice-write-offsets : tie.Need-slice-write-offsets Inv-loop μ-loop
 slice-write-offsets c = omega arith
 
 returns : tie.Need-returns Inv-loop μ-loop
-returns c = λ ns e. fill-stop (placed (item ns _)) _ _ _ (c .before .before .before .before .before .loop .inv .2 ns e) (c .before .before .before .before .loop-test .taken) (placed-fault (item ns _) (stopped (c .before .before .before .check-item .ensures ns e) (c .before .r2 .given .1)))
+returns c = λ ns e. fill-stop (positionOf (item ns _)) _ _ _ (c .before .before .before .before .before .loop .inv .2 ns e) (c .before .before .before .before .loop-test .taken) (placed-fault (item ns _) (stopped (c .before .before .before .check-item .ensures ns e) (c .before .r2 .given .1)))
 
 add-i : tie.Need-add-i Inv-loop μ-loop
 add-i c = omega arith
@@ -37,10 +37,10 @@ loop-less : tie.Need-loop-less Inv-loop μ-loop
 loop-less c = omega arith
 
 loop-again : tie.Need-loop-again Inv-loop μ-loop
-loop-again c = (omega arith, simp length-set (omega arith), λ ns e. fill-turn (placed (item ns _)) _ _ _ (c .before .before .before .before .before .loop .inv .2 ns e) (c .before .before .before .before .loop-test .taken) (omega arith) (placed-got (item ns _) (stepped (c .before .before .before .check-item .ensures ns e) (c .before .r .given .1) .1)))
+loop-again c = (omega arith, simp length-set (omega arith), λ ns e. fill-turn (positionOf (item ns _)) _ _ _ (c .before .before .before .before .before .loop .inv .2 ns e) (c .before .before .before .before .loop-test .taken) (omega arith) (placed-got (item ns _) (stepped (c .before .before .before .check-item .ensures ns e) (c .before .r .given .1) .1)))
 
 returns-2 : tie.Need-returns-2 Inv-loop μ-loop
-returns-2 c = λ ns e. fill-done (placed (item ns _)) _ _ _ (c .before .loop .inv .2 ns e) (omega arith) (omega arith)
+returns-2 c = λ ns e. fill-done (positionOf (item ns _)) _ _ _ (c .before .loop .inv .2 ns e) (omega arith) (omega arith)
 
 pub check-items-spec : {M : Type 1} → statement M
 check-items-spec =

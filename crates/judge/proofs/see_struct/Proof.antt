@@ -1,4 +1,5 @@
--- Written by tools/proofkit from answers/see_struct.tpl (db5b17eb 59760d11).
+-- Written by tools/proofkit from answers/see_struct.tpl (b1a16e0d b40db756).
+use borrow.Author.Needs.{needs}
 use native.Mathlib.Omega.{arith}
 use Rattle.judge.proofs.WrongLaws.{struct-seen}
 use Rattle.judge.proofs.see_struct.Statement.{statement}
@@ -11,10 +12,10 @@ field-requires-2 : tie.Need-field-requires-2
 field-requires-2 c κs = (c .before .before .before .before .pre .named .limited, omega arith)
 
 see-types-requires : tie.Need-see-types-requires
-see-types-requires c κs = c .before .before .before .before .before .pre
+see-types-requires c κs = c .before .before .before .before .before .before .pre
 
 returns : tie.Need-returns
-returns c = struct-seen _ _ _ _ (c .before .before .field .ensures) (c .before .field2 .ensures) (c .see-types .ensures)
+returns c = struct-seen _ _ _ _ (c .before .before .before .field .ensures) (c .before .before .field2 .ensures) (rw (c .before .new .ensures) at (c .see-types .ensures))
 
 pub see-struct-spec : {M : Type 1} → statement M
 see-struct-spec =
@@ -22,5 +23,6 @@ see-struct-spec =
     (tie.spec
     field-requires
     field-requires-2
+    (λ c κs. search needs)
     see-types-requires
     returns)

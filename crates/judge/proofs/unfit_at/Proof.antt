@@ -1,4 +1,4 @@
--- Written by tools/proofkit from answers/unfit_at.tpl (a4e9a718 7f6b267f).
+-- Written by tools/proofkit from answers/unfit_at.tpl (d1b99dd0 82c5b10e).
 use borrow.Author.Needs.{needs}
 use Rattle.cursor.proofs.CheckLaws.{known}
 use Rattle.judge.proofs.UnfitLaws.{type-yields, unfit-vector, unfit-self, unfit-error}
@@ -14,17 +14,17 @@ type-kind-requires c κs = (c .before .before .before .before .before .pre .0 .n
 returns : tie.Need-returns
 returns c = unfit-vector _ _ _ (c .before .before .before .before .before .before .before .before .pre .1 .view) (c .before .before .before .argument .ensures) (c .before .before .type-kind .ensures) (known (c .before .is-vector .ensures) (c .if1 .taken))
 
-own-name-requires : tie.Need-own-name-requires
-own-name-requires c κs = (c .before .before .before .before .before .before .before .before .pre .0 .named, c .before .before .before .argument .ensures .named)
+self-name-requires : tie.Need-self-name-requires
+self-name-requires c κs = (c .before .before .before .before .before .before .before .before .pre .0 .named, c .before .before .before .argument .ensures .named)
 
 returns-2 : tie.Need-returns-2
-returns-2 c = unfit-self _ _ _ (c .before .before .before .before .before .before .before .before .before .before .pre .1 .view) (c .before .before .before .before .before .argument .ensures) (c .before .before .before .before .type-kind .ensures) (known (c .before .before .before .is-vector .ensures) (c .before .before .if1 .left)) (known (c .before .own-name .ensures) (c .if2 .taken))
+returns-2 c = unfit-self _ _ _ (c .before .before .before .before .before .before .before .before .before .before .pre .1 .view) (c .before .before .before .before .before .argument .ensures) (c .before .before .before .before .type-kind .ensures) (known (c .before .before .before .is-vector .ensures) (c .before .before .if1 .left)) (known (c .before .self-name .ensures) (c .if2 .taken))
 
 error-name-requires : tie.Need-error-name-requires
 error-name-requires c κs = (c .before .before .before .before .before .before .before .before .before .before .pre .0, c .before .before .before .before .before .argument .ensures .named, type-yields _ _ _ (c .before .before .before .before .before .argument .ensures .of))
 
 returns-3 : tie.Need-returns-3
-returns-3 c = unfit-error _ _ _ (c .before .before .before .before .before .before .before .before .before .before .before .pre .1 .view) (c .before .before .before .before .before .before .argument .ensures) (c .before .before .before .before .before .type-kind .ensures) (known (c .before .before .before .before .is-vector .ensures) (c .before .before .before .if1 .left)) (known (c .before .before .own-name .ensures) (c .before .if2 .left)) (c .error-name .ensures)
+returns-3 c = unfit-error _ _ _ (c .before .before .before .before .before .before .before .before .before .before .before .pre .1 .view) (c .before .before .before .before .before .before .argument .ensures) (c .before .before .before .before .before .type-kind .ensures) (known (c .before .before .before .before .is-vector .ensures) (c .before .before .before .if1 .left)) (known (c .before .before .self-name .ensures) (c .before .if2 .left)) (c .error-name .ensures)
 
 pub unfit-at-spec : {M : Type 1} → statement M
 unfit-at-spec =
@@ -34,7 +34,7 @@ unfit-at-spec =
     type-kind-requires
     (λ c κs. search needs)
     returns
-    own-name-requires
+    self-name-requires
     returns-2
     error-name-requires
     returns-3)

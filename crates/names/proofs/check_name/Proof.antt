@@ -1,4 +1,4 @@
--- Written by tools/proofkit from answers/check_name.tpl (712130b5 057a35a0).
+-- Written by tools/proofkit from answers/check_name.tpl (057d638d 8ff30fa8).
 use borrow.Author.Needs.{needs}
 use native.Mathlib.Omega.{arith}
 use mathlib.Core.Path.{refl, sym}
@@ -7,7 +7,7 @@ use Rattle.lexical.specs.Names.{isName}
 use Rattle.refusal.specs.declared.Refusal.the-variants.{BadName}
 use Rattle.format.specs.Decoding.{name}
 use Rattle.cursor.proofs.CheckLaws.{known}
-use Rattle.text.specs.Text.{ruled}
+use Rattle.text.specs.Text.{ruledText}
 use Rattle.text.proofs.TextLaws.{text-value, text-none, text-lt}
 use Rattle.names.proofs.check_name.Statement.{statement}
 use Rattle.names.proofs.check_name.Tie as tie
@@ -19,15 +19,15 @@ slice-aggregate-is-name : tie.Need-slice-aggregate-is-name
 slice-aggregate-is-name c = sym (length-take-le _ _ (omega (arith, text-lt 6 _ _ (c .before .before .before .before .before .read-text .ensures) (c .before .before .f .given .1), c .before .before .before .before .before .read-text .kept .1 .1 .1 .0)))
 
 returns : tie.Need-returns
-unfolding name ruled
+unfolding name ruledText
 returns c = rw (text-value 6 _ _ (c .before .before .before .before .before .before .before .read-text .ensures) (c .before .before .before .before .f .given .1) isName BadName, known (c .before .is-name .ensures) (c .if1 .taken)) record { step = refl }
 
 returns-2 : tie.Need-returns-2
-unfolding name ruled
+unfolding name ruledText
 returns-2 c = rw (text-none 6 _ _ (c .before .before .before .read-text .ensures) (c .enum-told .given .1) isName BadName) record { step = refl }
 
 returns-3 : tie.Need-returns-3
-unfolding name ruled
+unfolding name ruledText
 returns-3 c = rw (text-value 6 _ _ (c .before .before .before .before .before .before .before .read-text .ensures) (c .before .before .before .before .f .given .1) isName BadName, known (c .before .is-name .ensures) (c .if1 .left)) record { step = refl }
 
 pub check-name-spec : {M : Type 1} → statement M

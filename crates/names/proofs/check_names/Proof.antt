@@ -1,10 +1,10 @@
--- Written by tools/proofkit from answers/check_names.tpl (a9721384 3e2134d4).
+-- Written by tools/proofkit from answers/check_names.tpl (1f286bc3 9132d333).
 use borrow.Author.Needs.{needs}
 use native.Mathlib.Omega.{arith}
 use mathlib.Core.Path.{_≡_, refl}
 use Prim.Native.Nat.{_-_, _≤_}
 use lib.ListN.{length, length-set}
-use Rattle.cursor.specs.Checking.{placed}
+use Rattle.cursor.specs.Checking.{positionOf}
 use Rattle.cursor.proofs.CheckLaws.{stepped, stopped}
 use Rattle.cursor.proofs.TableLaws.{placed-got, placed-fault, Filling, fill-none, fill-turn, fill-stop, fill-done}
 use Rattle.format.specs.Decoding.{name}
@@ -12,7 +12,7 @@ use Rattle.names.proofs.check_names.Statement.{statement}
 use Rattle.names.proofs.check_names.Tie as tie
 
 abbrev Inv-loop : tie.InvT-loop
-Inv-loop s n offsets₀ next₀ i₀ offsets next i = (i ≤ n) × (length offsets ≡ length offsets₀) × Filling (placed name) s n (next₀ .at) i offsets (next .at)
+Inv-loop s n offsets₀ next₀ i₀ offsets next i = (i ≤ n) × (length offsets ≡ length offsets₀) × Filling (positionOf name) s n (next₀ .at) i offsets (next .at)
 
 abbrev μ-loop : tie.MeasureT-loop
 μ-loop s n offsets₀ next₀ i₀ offsets next i = n - i
@@ -27,7 +27,7 @@ slice-write-offsets : tie.Need-slice-write-offsets Inv-loop μ-loop
 slice-write-offsets c = omega arith
 
 returns : tie.Need-returns Inv-loop μ-loop
-returns c = fill-stop (placed name) _ _ _ (c .before .before .before .before .before .loop .inv .2) (c .before .before .before .before .loop-test .taken) (placed-fault name (stopped (c .before .before .before .check-name .ensures) (c .before .r2 .given .1)))
+returns c = fill-stop (positionOf name) _ _ _ (c .before .before .before .before .before .loop .inv .2) (c .before .before .before .before .loop-test .taken) (placed-fault name (stopped (c .before .before .before .check-name .ensures) (c .before .r2 .given .1)))
 
 add-i : tie.Need-add-i Inv-loop μ-loop
 add-i c = omega arith
@@ -36,10 +36,10 @@ loop-less : tie.Need-loop-less Inv-loop μ-loop
 loop-less c = omega arith
 
 loop-again : tie.Need-loop-again Inv-loop μ-loop
-loop-again c = (omega arith, simp length-set (omega arith), fill-turn (placed name) _ _ _ (c .before .before .before .before .before .loop .inv .2) (c .before .before .before .before .loop-test .taken) (omega arith) (placed-got name (stepped (c .before .before .before .check-name .ensures) (c .before .r .given .1) .1)))
+loop-again c = (omega arith, simp length-set (omega arith), fill-turn (positionOf name) _ _ _ (c .before .before .before .before .before .loop .inv .2) (c .before .before .before .before .loop-test .taken) (omega arith) (placed-got name (stepped (c .before .before .before .check-name .ensures) (c .before .r .given .1) .1)))
 
 returns-2 : tie.Need-returns-2 Inv-loop μ-loop
-returns-2 c = fill-done (placed name) _ _ _ (c .before .loop .inv .2) (omega arith) (omega arith)
+returns-2 c = fill-done (positionOf name) _ _ _ (c .before .loop .inv .2) (omega arith) (omega arith)
 
 pub check-names-spec : {M : Type 1} → statement M
 check-names-spec =

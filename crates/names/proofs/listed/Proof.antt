@@ -1,4 +1,4 @@
--- Written by tools/proofkit from answers/listed.tpl (56c24536 4ad184b5).
+-- Written by tools/proofkit from answers/listed.tpl (43c9549e 1214a50e).
 use borrow.Author.Needs.{needs}
 use native.Mathlib.Omega.{arith}
 use mathlib.Core.Path.{_≡_, refl, sym, ap, _∙_}
@@ -19,11 +19,11 @@ abbrev μ-loop : tie.MeasureT-loop
 loop-holds : tie.Need-loop-holds Inv-loop μ-loop
 loop-holds c = (omega arith, omega (arith, c .before .before .before .pre), refl)
 
-shared-slice-read-wide : tie.Need-shared-slice-read-wide Inv-loop μ-loop
-shared-slice-read-wide c = omega arith
+shared-slice-read-to-usize : tie.Need-shared-slice-read-to-usize Inv-loop μ-loop
+shared-slice-read-to-usize c = omega arith
 
 add-end : tie.Need-add-end Inv-loop μ-loop
-add-end c = omega (arith, total-step (c .before .before .before .before .before .before .before .args .lengths .now) (c .before .before .before .loop .i) (c .before .before .loop-test .taken), c .wide .ensures)
+add-end c = omega (arith, total-step (c .before .before .before .before .before .before .before .args .lengths .now) (c .before .before .before .loop .i) (c .before .before .loop-test .taken), c .to-usize .ensures)
 
 sub-equal : tie.Need-sub-equal Inv-loop μ-loop
 sub-equal c = omega arith
@@ -32,10 +32,10 @@ part-equal-start : tie.Need-part-equal-start Inv-loop μ-loop
 part-equal-start c = omega arith
 
 part-equal-end : tie.Need-part-equal-end Inv-loop μ-loop
-part-equal-end c = omega (arith, total-step (c .before .before .before .before .before .before .before .args .lengths .now) (c .before .before .before .loop .i) (c .before .before .loop-test .taken), c .wide .ensures)
+part-equal-end c = omega (arith, total-step (c .before .before .before .before .before .before .before .args .lengths .now) (c .before .before .before .loop .i) (c .before .before .loop-test .taken), c .to-usize .ensures)
 
 returns : tie.Need-returns Inv-loop μ-loop
-returns c = sym (c .before .before .before .before .before .before .loop .inv .2 ∙ words-yes (c .before .before .before .before .before .before .before .before .before .before .args .w .now) (c .before .before .before .before .before .before .before .before .before .before .args .lengths .now) (c .before .before .before .before .before .before .before .before .before .before .args .bytes .now) (c .before .before .before .before .before .before .loop .i) (c .before .before .before .before .before .before .loop .at) (c .before .before .before .before .before .loop-test .taken) (word-is (c .before .before .before .before .before .before .before .before .before .before .args .w .now) (c .before .before .before .before .before .before .before .before .before .before .args .bytes .now) (c .before .before .before .before .before .before .loop .at) (c .before .before .before .wide .ensures) (c .before .equal .ensures) (c .if1 .taken)))
+returns c = sym (c .before .before .before .before .before .before .loop .inv .2 ∙ words-yes (c .before .before .before .before .before .before .before .before .before .before .args .w .now) (c .before .before .before .before .before .before .before .before .before .before .args .lengths .now) (c .before .before .before .before .before .before .before .before .before .before .args .bytes .now) (c .before .before .before .before .before .before .loop .i) (c .before .before .before .before .before .before .loop .at) (c .before .before .before .before .before .loop-test .taken) (word-is (c .before .before .before .before .before .before .before .before .before .before .args .w .now) (c .before .before .before .before .before .before .before .before .before .before .args .bytes .now) (c .before .before .before .before .before .before .loop .at) (c .before .before .before .to-usize .ensures) (c .before .equal .ensures) (c .if1 .taken)))
 
 add-i : tie.Need-add-i Inv-loop μ-loop
 add-i c = omega arith
@@ -44,7 +44,7 @@ loop-less : tie.Need-loop-less Inv-loop μ-loop
 loop-less c = omega arith
 
 loop-again : tie.Need-loop-again Inv-loop μ-loop
-loop-again c = (omega arith, omega (arith, total-step (c .before .before .before .before .before .before .before .before .before .before .args .lengths .now) (c .before .before .before .before .before .before .loop .i) (c .before .before .before .before .before .loop-test .taken), c .before .before .before .wide .ensures), c .before .before .before .before .before .before .loop .inv .2 ∙ words-turn (c .before .before .before .before .before .before .before .before .before .before .args .w .now) (c .before .before .before .before .before .before .before .before .before .before .args .lengths .now) (c .before .before .before .before .before .before .before .before .before .before .args .bytes .now) (c .before .before .before .before .before .before .loop .i) (c .before .before .before .before .before .before .loop .at) (c .before .before .before .before .before .loop-test .taken) (word-is (c .before .before .before .before .before .before .before .before .before .before .args .w .now) (c .before .before .before .before .before .before .before .before .before .before .args .bytes .now) (c .before .before .before .before .before .before .loop .at) (c .before .before .before .wide .ensures) (c .before .equal .ensures) (c .if1 .left)) ∙ ap (λ (k : ℕ). member (c .before .before .before .before .before .before .before .before .before .before .args .w .now) (wordsOf (drop (c .before .before .before .before .before .before .loop .i + 1) (c .before .before .before .before .before .before .before .before .before .before .args .lengths .now)) (drop (c .before .before .before .before .before .before .loop .at + k) (c .before .before .before .before .before .before .before .before .before .before .args .bytes .now)))) (sym (c .before .before .before .wide .ensures)))
+loop-again c = (omega arith, omega (arith, total-step (c .before .before .before .before .before .before .before .before .before .before .args .lengths .now) (c .before .before .before .before .before .before .loop .i) (c .before .before .before .before .before .loop-test .taken), c .before .before .before .to-usize .ensures), c .before .before .before .before .before .before .loop .inv .2 ∙ words-turn (c .before .before .before .before .before .before .before .before .before .before .args .w .now) (c .before .before .before .before .before .before .before .before .before .before .args .lengths .now) (c .before .before .before .before .before .before .before .before .before .before .args .bytes .now) (c .before .before .before .before .before .before .loop .i) (c .before .before .before .before .before .before .loop .at) (c .before .before .before .before .before .loop-test .taken) (word-is (c .before .before .before .before .before .before .before .before .before .before .args .w .now) (c .before .before .before .before .before .before .before .before .before .before .args .bytes .now) (c .before .before .before .before .before .before .loop .at) (c .before .before .before .to-usize .ensures) (c .before .equal .ensures) (c .if1 .left)) ∙ ap (λ (k : ℕ). member (c .before .before .before .before .before .before .before .before .before .before .args .w .now) (wordsOf (drop (c .before .before .before .before .before .before .loop .i + 1) (c .before .before .before .before .before .before .before .before .before .before .args .lengths .now)) (drop (c .before .before .before .before .before .before .loop .at + k) (c .before .before .before .before .before .before .before .before .before .before .args .bytes .now)))) (sym (c .before .before .before .to-usize .ensures)))
 
 returns-2 : tie.Need-returns-2 Inv-loop μ-loop
 returns-2 c = sym (c .before .loop .inv .2 ∙ words-end (c .before .before .before .before .before .args .w .now) (c .before .before .before .before .before .args .lengths .now) (c .before .before .before .before .before .args .bytes .now) (c .before .loop .i) (c .before .loop .at) (c .loop-test .left))
@@ -56,7 +56,7 @@ listed-spec =
     Inv-loop
     μ-loop
     loop-holds
-    shared-slice-read-wide
+    shared-slice-read-to-usize
     (λ c κs. search needs)
     add-end
     sub-equal

@@ -1,4 +1,4 @@
--- Written by tools/proofkit from answers/+visit+visit_held.tpl (f78d28af cd9ef546).
+-- Written by tools/proofkit from answers/+visit+visit_held.tpl (6bc692b4 83d60cd4).
 -- `visit` and `visit_held` meet their contracts. The number that falls: the levels, and a bit for which of the two runs.
 use borrow.Author.Needs.{needs}
 use native.Mathlib.Omega.{arith}
@@ -6,7 +6,7 @@ use mathlib.Core.Path.{_≡_, refl}
 use Prim.Native.Nat.{ℕ, _+_, _-_, _*_, _<_, _≤_}
 use lib.ListN.{length, getD, take, drop}
 use Rattle.toposort.specs.Sort.{visitAll, visit as visit·spec}
-use Rattle.toposort.specs.Table.{graphOf}
+use Rattle.toposort.specs.Adjacency.{graphOf}
 use Rattle.toposort.proofs.TableLaws.{visited-as, all-as, no-mark, room-marked, place-free, Going, going-as, going-next, all-ring, all-done}
 use Rattle.toposort.proofs.TableLaws.{visited-already, visited-ring, visited-deep, visited-below, visited-done}
 use Rattle.toposort.proofs.TableLaws.{part-next, part-end, table-part, table-inside}
@@ -18,8 +18,8 @@ use Rattle.toposort.proofs.+visit+visit_held.Lts-visit as visit-lts
 use Rattle.toposort.proofs.visit_held.Reads as visit-held
 use Rattle.toposort.proofs.visit_held.Kinds as visit-held-kinds
 use Rattle.toposort.proofs.+visit+visit_held.Lts-visit_held as visit-held-lts
-use Rattle.toposort.proofs.wide.Reads as wide-reads
-use Rattle.toposort.proofs.wide_start.Reads as wide-start-reads
+use Rattle.toposort.proofs.start_to_usize.Reads as start-to-usize-reads
+use Rattle.toposort.proofs.to_usize.Reads as to-usize-reads
 use Rattle.toposort.proofs.+visit+visit_held.{statement}
 use Rattle.toposort.proofs.+visit+visit_held.Tie.{close}
 
@@ -94,10 +94,10 @@ visit-returns-5 t c =
 
 abbrev K-visit-held : ℕ → visit-held-lts.Claims
 K-visit-held t = (
-  wide-start-reads.Asked,
-  wide-start-reads.Learnt,
-  wide-reads.Asked,
-  wide-reads.Learnt,
+  start-to-usize-reads.Asked,
+  start-to-usize-reads.Learnt,
+  to-usize-reads.Asked,
+  to-usize-reads.Learnt,
   visit-below t,
   visit.Post,
 )
@@ -115,33 +115,33 @@ visit-held-loop-holds : (t : ℕ) → visit-held-lts.Need-loop-holds (K-visit-he
 visit-held-loop-holds t c =
     let p = c .before .before .before .before .pre .1 in
     let a = c .before .before .before .before .args in
-    let from = c .before .before .wide-start .ensures in
-    let to = c .wide-start2 .ensures in (
+    let from = c .before .before .start-to-usize .ensures in
+    let to = c .start-to-usize2 .ensures in (
       table-inside (a .starts .now) (a .held .now) (a .i) from to (p .1) (p .0),
       going-as (table-part (a .starts .now) (a .held .now) (a .i) from to) record { left = refl; room = p .2 },
     )
 
-visit-held-element-copy-out-wide : (t : ℕ) → visit-held-lts.Need-element-copy-out-wide (K-visit-held t) (visit-held-at t) visit-held.Post visit-held-Inv-loop visit-held-μ-loop
-visit-held-element-copy-out-wide t c =
+visit-held-element-copy-out-to-usize : (t : ℕ) → visit-held-lts.Need-element-copy-out-to-usize (K-visit-held t) (visit-held-at t) visit-held.Post visit-held-Inv-loop visit-held-μ-loop
+visit-held-element-copy-out-to-usize t c =
     let p = c .before .before .before .before .before .before .pre .1 in
     let v = c .before .loop .inv in
     omega (arith, p .1 .size)
 
 visit-held-visit-requires : (t : ℕ) → visit-held-lts.Need-visit-requires (K-visit-held t) (visit-held-at t) visit-held.Post visit-held-Inv-loop visit-held-μ-loop
-visit-held-visit-requires t c κs = (omega arith, (c .before .before .wide .ensures .1, c .before .before .before .before .before .before .before .before .before .before .pre .1 .1, c .before .before .before .before .before .loop .inv .1 .room))
+visit-held-visit-requires t c κs = (omega arith, (c .before .before .to-usize .ensures .1, c .before .before .before .before .before .before .before .before .before .before .pre .1 .1, c .before .before .before .before .before .loop .inv .1 .room))
 
 visit-held-returns : (t : ℕ) → visit-held-lts.Need-returns (K-visit-held t) (visit-held-at t) visit-held.Post visit-held-Inv-loop visit-held-μ-loop
 visit-held-returns t c =
     let v = c .before .before .before .before .before .before .before .before .loop .inv in
-    let now = going-as (part-next _ _ _ (c .before .before .before .before .before .before .before .loop-test .taken) (v .0) (c .before .before .before .before .before .wide .ensures .0)) (v .1) in
+    let now = going-as (part-next _ _ _ (c .before .before .before .before .before .before .before .loop-test .taken) (v .0) (c .before .before .before .before .before .to-usize .ensures .0)) (v .1) in
     all-ring (c .before .before .before .before .before .before .before .before .before .before .before .before .before .pre .1 .2 .order) now (visited-as (c .enum-told .given .1) (c .before .before .visit .ensures))
 
 visit-held-loop-again : (t : ℕ) → visit-held-lts.Need-loop-again (K-visit-held t) (visit-held-at t) visit-held.Post visit-held-Inv-loop visit-held-μ-loop
 visit-held-loop-again t c =
     let v = c .before .before .before .before .before .before .before .before .before .loop .inv in
     let within = c .before .before .before .before .before .before .before .before .before .before .before .before .before .before .pre .1 .1 .within in
-    let now = going-as (part-next _ _ _ (c .before .before .before .before .before .before .before .before .loop-test .taken) (v .0) (c .before .before .before .before .before .before .wide .ensures .0)) (v .1) in
-    (v .0, going-next within (c .before .before .before .before .before .before .wide .ensures .1) now (visited-as (c .before .r .given .1) (c .before .before .before .visit .ensures)))
+    let now = going-as (part-next _ _ _ (c .before .before .before .before .before .before .before .before .loop-test .taken) (v .0) (c .before .before .before .before .before .before .to-usize .ensures .0)) (v .1) in
+    (v .0, going-next within (c .before .before .before .before .before .before .to-usize .ensures .1) now (visited-as (c .before .r .given .1) (c .before .before .before .visit .ensures)))
 
 visit-held-returns-2 : (t : ℕ) → visit-held-lts.Need-returns-2 (K-visit-held t) (visit-held-at t) visit-held.Post visit-held-Inv-loop visit-held-μ-loop
 visit-held-returns-2 t c = all-done (c .before .before .before .before .before .before .pre .1 .2 .order) (going-as (part-end _ _ _ (c .loop-test .left)) (c .before .loop .inv .1))
@@ -176,7 +176,7 @@ pub +visit+visit-held-spec : {M : Type 1} → statement M
     (λ c. search needs)
     (λ c κs. search needs)
     (visit-held-loop-holds t)
-    (visit-held-element-copy-out-wide t)
+    (visit-held-element-copy-out-to-usize t)
     (λ c κs. search needs)
     (visit-held-visit-requires t)
     (λ c. search needs)

@@ -1,4 +1,4 @@
--- Written by tools/proofkit from answers/check_return.tpl (2fbc07c6 f4fc6b8e).
+-- Written by tools/proofkit from answers/check_return.tpl (d391e391 50ccaa57).
 use borrow.Author.Needs.{needs}
 use Rattle.format.specs.Decoding.{type}
 use Rattle.types.proofs.check_return.Statement.{statement}
@@ -6,11 +6,12 @@ use Rattle.types.proofs.check_return.Tie as tie
 
 returns : tie.Need-returns
 unfolding type
-returns c = c .walk-return .ensures
+returns c = rw (c .before .new .ensures) at (c .walk-return .ensures)
 
 pub check-return-spec : {M : Type 1} → statement M
 check-return-spec =
     tie.close
     (tie.spec
+    (λ c κs. search needs)
     (λ c κs. search needs)
     returns)

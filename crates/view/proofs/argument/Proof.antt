@@ -1,4 +1,4 @@
--- Written by tools/proofkit from answers/argument.tpl (ff047a4b e99f74f8).
+-- Written by tools/proofkit from answers/argument.tpl (e90c63ee 247ca878).
 use borrow.Author.Needs.{needs}
 use native.Mathlib.Omega.{arith}
 use lib.ListN.{length}
@@ -11,7 +11,7 @@ field-requires : tie.Need-field-requires
 field-requires c κs = (search needs, width-le _ (c .width .ensures))
 
 returns : tie.Need-returns
-returns c = argument-of (c .before .before .before .before .before .before .before .before .args .s .now) (c .before .before .before .before .before .before .before .before .args .names .now) (length (c .before .before .before .before .before .before .before .before .args .items .now)) _ (argument-there _ _ _ (c .before .before .before .before .before .before .before .before .args .v) (c .before .before .before .before .before .before .before .before .args .j) (c .before .before .before .before .before .before .before .before .pre .1) (c .before .before .before .before .before .before .before .before .pre .2) .1) (c .before .before .width .ensures) (c .before .field .ensures)
+returns c = argument-of (c .before .before .before .before .before .before .before .before .before .args .s .now) (c .before .before .before .before .before .before .before .before .before .args .names .now) (length (c .before .before .before .before .before .before .before .before .before .args .items .now)) _ (argument-there _ _ _ (c .before .before .before .before .before .before .before .before .before .args .v) (c .before .before .before .before .before .before .before .before .before .args .j) (c .before .before .before .before .before .before .before .before .before .pre .1) (c .before .before .before .before .before .before .before .before .before .pre .2) .1) (c .before .before .width .ensures) (rw (c .before .before .before .new .ensures) at (c .before .field .ensures))
 
 pub argument-spec : {M : Type 1} → statement M
 argument-spec =
@@ -19,6 +19,7 @@ argument-spec =
     (tie.spec
     (λ c. search needs)
     (λ c. search needs)
+    (λ c κs. search needs)
     (λ c. search needs)
     (λ c κs. search needs)
     field-requires

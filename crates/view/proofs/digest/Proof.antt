@@ -1,4 +1,4 @@
--- Written by tools/proofkit from answers/digest.tpl (f7878b27 e78833b9).
+-- Written by tools/proofkit from answers/digest.tpl (ad68e872 2d8ccc65).
 use borrow.Author.Needs.{needs}
 use native.Mathlib.Omega.{arith}
 use mathlib.Core.Path.{_≡_, refl, sym, _∙_}
@@ -18,8 +18,8 @@ abbrev μ-loop : tie.MeasureT-loop
 loop-holds : tie.Need-loop-holds Inv-loop μ-loop
 loop-holds c = (omega arith, refl)
 
-shared-slice-read-wide : tie.Need-shared-slice-read-wide Inv-loop μ-loop
-shared-slice-read-wide c = omega arith
+shared-slice-read-to-u32 : tie.Need-shared-slice-read-to-u32 Inv-loop μ-loop
+shared-slice-read-to-u32 c = omega arith
 
 add-i : tie.Need-add-i Inv-loop μ-loop
 add-i c = omega arith
@@ -28,7 +28,7 @@ loop-less : tie.Need-loop-less Inv-loop μ-loop
 loop-less c = omega arith
 
 loop-again : tie.Need-loop-again Inv-loop μ-loop
-loop-again c = (omega arith, c .before .before .before .before .loop .inv .1 ∙ digest-turn _ _ _ (c .before .before .before .loop-test .taken) (c .before .wide .ensures) (c .mix .ensures))
+loop-again c = (omega arith, c .before .before .before .before .loop .inv .1 ∙ digest-turn _ _ _ (c .before .before .before .loop-test .taken) (c .before .to-u32 .ensures) (c .mix .ensures))
 
 returns : tie.Need-returns Inv-loop μ-loop
 returns c = sym (c .before .loop .inv .1 ∙ digest-end _ _ _ (c .loop-test .left))
@@ -40,7 +40,7 @@ digest-spec =
     Inv-loop
     μ-loop
     loop-holds
-    shared-slice-read-wide
+    shared-slice-read-to-u32
     (λ c κs. search needs)
     (λ c κs. search needs)
     add-i

@@ -1,4 +1,4 @@
--- Written by tools/proofkit from answers/field.tpl (f6106aa6 90aca13f).
+-- Written by tools/proofkit from answers/field.tpl (550a81fa 0b8d4887).
 use borrow.Author.Needs.{needs}
 use native.Mathlib.Omega.{arith}
 use Rattle.view.proofs.ValueLaws.{finds-value, finds-none}
@@ -9,7 +9,7 @@ returns : tie.Need-returns
 returns c = finds-value _ _ _ (omega arith) (c .before .before .before .read .ensures) (c .before .f .given .1)
 
 returns-2 : tie.Need-returns-2
-returns-2 c = finds-none _ _ _ (c .before .before .read .ensures) (c .enum-told .given .1)
+returns-2 c = rw (c .new .ensures) (finds-none _ _ _ (c .before .before .before .read .ensures) (c .before .enum-told .given .1))
 
 pub field-spec : {M : Type 1} → statement M
 field-spec =
@@ -18,5 +18,6 @@ field-spec =
     (λ c κs. search needs)
     (λ c. search needs)
     (λ c. search needs)
+    (λ c κs. search needs)
     returns
     returns-2)

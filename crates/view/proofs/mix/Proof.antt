@@ -1,4 +1,4 @@
--- Written by tools/proofkit from answers/mix.tpl (10e76e69 8333c15b).
+-- Written by tools/proofkit from answers/mix.tpl (7b73d4e9 3eda9e1e).
 use borrow.Author.Needs.{needs}
 use Rattle.view.specs.Digests.{mix}
 use Rattle.view.proofs.mix.Statement.{statement}
@@ -6,7 +6,7 @@ use Rattle.view.proofs.mix.Tie as tie
 
 returns : tie.Need-returns
 unfolding mix
-returns c = rw (c .before .wider .ensures, c .wider2 .ensures)
+returns c = rw (c .before .to-u64 .ensures, c .to-u642 .ensures)
 
 pub mix-spec : {M : Type 1} → statement M
 mix-spec =

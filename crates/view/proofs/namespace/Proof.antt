@@ -1,4 +1,4 @@
--- Written by tools/proofkit from answers/namespace.tpl (595b1140 f7bbc660).
+-- Written by tools/proofkit from answers/namespace.tpl (a9d28a9d 4b930923).
 use borrow.Author.Needs.{needs}
 use native.Mathlib.Omega.{arith}
 use Rattle.cursor.proofs.WidthLaws.{width-le}
@@ -13,10 +13,10 @@ add-at : tie.Need-add-at
 add-at c = omega (arith, span (c .before .before .before .before .before .args .d) (c .before .width .result) (omega (arith, c .before .before .before .before .before .pre .1 .view .shallow)) (width-le _ (c .before .width .ensures)), c .before .before .before .before .before .pre .1 .view .near)
 
 field-requires : tie.Need-field-requires
-field-requires c κs = (search needs, width-le _ (c .before .width .ensures))
+field-requires c κs = (search needs, width-le _ (c .before .before .width .ensures))
 
 returns : tie.Need-returns
-returns c = space-there _ _ (c .before .before .before .before .before .before .args .v .spaces .at) (c .before .before .before .before .before .before .args .d) (c .before .before .before .before .before .before .pre .1 .view .spaces) (c .before .before .before .before .before .before .pre .2) (c .before .before .width .ensures) (c .field .ensures)
+returns c = space-there _ _ (c .before .before .before .before .before .before .before .args .v .spaces .at) (c .before .before .before .before .before .before .before .args .d) (c .before .before .before .before .before .before .before .pre .1 .view .spaces) (c .before .before .before .before .before .before .before .pre .2) (c .before .before .before .width .ensures) (rw (c .before .new .ensures) at (c .field .ensures))
 
 pub namespace-spec : {M : Type 1} → statement M
 namespace-spec =
@@ -26,5 +26,6 @@ namespace-spec =
     (λ c κs. search needs)
     mul-at
     add-at
+    (λ c κs. search needs)
     field-requires
     returns)

@@ -1,4 +1,4 @@
--- Written by tools/proofkit from answers/past_return.tpl (a02dae40 6e46da19).
+-- Written by tools/proofkit from answers/past_return.tpl (69c0c442 99c8aaa2).
 use borrow.Author.Needs.{needs}
 use Rattle.view.proofs.ValueLaws.{next-at, next-none}
 use Rattle.view.proofs.past_return.Statement.{statement}
@@ -8,7 +8,7 @@ returns : tie.Need-returns
 returns c = next-at (c .before .before .before .check-return .ensures) (c .before .r .given .1)
 
 returns-2 : tie.Need-returns-2
-returns-2 c = next-none (c .before .before .check-return .ensures) (c .enum-told .given .1)
+returns-2 c = rw (c .new .ensures) (next-none (c .before .before .before .check-return .ensures) (c .before .enum-told .given .1))
 
 pub past-return-spec : {M : Type 1} → statement M
 past-return-spec =
@@ -17,5 +17,6 @@ past-return-spec =
     (λ c κs. search needs)
     (λ c. search needs)
     (λ c. search needs)
+    (λ c κs. search needs)
     returns
     returns-2)

@@ -1,4 +1,4 @@
--- Written by tools/proofkit from answers/past_type.tpl (154b06e2 87b5216d).
+-- Written by tools/proofkit from answers/past_type.tpl (f9c8600f 1d15dbfa).
 use borrow.Author.Needs.{needs}
 use Rattle.view.proofs.ValueLaws.{next-at, next-none}
 use Rattle.view.proofs.past_type.Statement.{statement}
@@ -8,7 +8,7 @@ returns : tie.Need-returns
 returns c = next-at (c .before .before .before .check-type .ensures) (c .before .r .given .1)
 
 returns-2 : tie.Need-returns-2
-returns-2 c = next-none (c .before .before .check-type .ensures) (c .enum-told .given .1)
+returns-2 c = rw (c .new .ensures) (next-none (c .before .before .before .check-type .ensures) (c .before .enum-told .given .1))
 
 pub past-type-spec : {M : Type 1} → statement M
 past-type-spec =
@@ -17,5 +17,6 @@ past-type-spec =
     (λ c κs. search needs)
     (λ c. search needs)
     (λ c. search needs)
+    (λ c κs. search needs)
     returns
     returns-2)

@@ -1,4 +1,4 @@
--- Written by tools/proofkit from answers/reserved.tpl (472d76ef 558c1ccd).
+-- Written by tools/proofkit from answers/any_reserved.tpl (472d76ef 3d2a4773).
 use native.Mathlib.Omega.{arith}
 use mathlib.Core.Path.{_≡_, refl, sym, _∙_}
 use Prim.Native.Nat.{_≤_, _-_}
@@ -6,8 +6,8 @@ use lib.ListN.{length, drop}
 use Rattle.rules.specs.Rules.{any, reservedNamespace}
 use Rattle.view.specs.Values.{itemsAt}
 use Rattle.clash.proofs.ListLaws.{items-turn, items-hit, items-end}
-use Rattle.taken.proofs.reserved.Statement.{statement}
-use Rattle.taken.proofs.reserved.Tie as tie
+use Rattle.taken.proofs.any_reserved.Statement.{statement}
+use Rattle.taken.proofs.any_reserved.Tie as tie
 
 abbrev Inv-loop : tie.InvT-loop
 Inv-loop s names items n i₀ i = (i ≤ length items) × (any (λ x. reservedNamespace (x .namespace)) (itemsAt s names items) ≡ any (λ x. reservedNamespace (x .namespace)) (drop i (itemsAt s names items)))
@@ -39,8 +39,8 @@ loop-again c = (omega arith, c .before .before .before .loop .inv .1 ∙ items-t
 returns-2 : tie.Need-returns-2 Inv-loop μ-loop
 returns-2 c = sym (c .before .loop .inv .1 ∙ items-end _ _ _ {i = c .before .loop .i} (omega arith) (λ x. reservedNamespace (x .namespace)))
 
-pub reserved-spec : {M : Type 1} → statement M
-reserved-spec =
+pub any-reserved-spec : {M : Type 1} → statement M
+any-reserved-spec =
     tie.close
     (tie.spec
     Inv-loop

@@ -1,4 +1,4 @@
--- Written by tools/proofkit from answers/kind_of.tpl (84c72324 75468c0f).
+-- Written by tools/proofkit from answers/part_of.tpl (84c72324 179451cf).
 use borrow.Author.Needs.{needs}
 use native.Mathlib.Omega.{arith}
 use mathlib.Core.Path.{sym}
@@ -6,8 +6,8 @@ use lib.ListN.{List·getD-eq-default}
 use Rattle.format.specs.declared.ItemKind.the-variants.{Bad}
 use Rattle.format.specs.Decoding.{parts, partOf}
 use Rattle.cursor.proofs.CheckLaws.{getD-same}
-use Rattle.items.proofs.kind_of.Statement.{statement}
-use Rattle.items.proofs.kind_of.Tie as tie
+use Rattle.items.proofs.part_of.Statement.{statement}
+use Rattle.items.proofs.part_of.Tie as tie
 
 returns : tie.Need-returns
 unfolding partOf
@@ -17,8 +17,8 @@ returns-2 : tie.Need-returns-2
 unfolding partOf
 returns-2 c = getD-same parts (c .before .before .args .k) _ Bad (omega arith)
 
-pub kind-of-spec : {M : Type 1} → statement M
-kind-of-spec =
+pub part-of-spec : {M : Type 1} → statement M
+part-of-spec =
     tie.close
     (tie.spec
     returns
