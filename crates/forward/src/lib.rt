@@ -133,8 +133,8 @@ fn indent(depth: u32, out: &mut [u8], at: usize) -> usize
 fn write_entry(
     s: &[u8],
     names: &[u32],
-    digests: &[u32],
     items: &[u32],
+    digests: &[u32],
     leader: ItemView,
     depth: u32,
     i: u32,
@@ -149,7 +149,7 @@ fn write_entry(
         (entry depth (itemNo (now (s .entry)) (now (names .entry)) (now (items .entry)) i)) [])
         (sink (now (out .exit)) r) ⌝ }
 {
-    let direct = is_direct(s, names, digests, items, leader, depth, i);
+    let direct = is_direct(s, names, items, digests, leader, depth, i);
     if !direct {
         return at;
     }
@@ -162,8 +162,8 @@ fn write_entry(
 fn write_direct(
     s: &[u8],
     names: &[u32],
-    digests: &[u32],
     items: &[u32],
+    digests: &[u32],
     leader: ItemView,
     depth: u32,
     out: &mut [u8],
@@ -180,7 +180,7 @@ fn write_direct(
     let mut here = at;
     let mut i = leader.number;
     while i < n {
-        here = write_entry(s, names, digests, items, leader, depth, i, out, here);
+        here = write_entry(s, names, items, digests, leader, depth, i, out, here);
         i = i + 1;
     }
     here
@@ -223,8 +223,8 @@ fn close_namespace(depth: u32, out: &mut [u8], at: usize) -> usize
 fn write_entries(
     s: &[u8],
     names: &[u32],
-    digests: &[u32],
     items: &[u32],
+    digests: &[u32],
     leader: ItemView,
     depth: u32,
     out: &mut [u8],
@@ -239,20 +239,20 @@ fn write_entries(
         (itemsAt (now (s .entry)) (now (names .entry)) (now (items .entry))))) (sink (now (out .exit)) r) ⌝ }
 {
     let n = items.len() as u32;
-    let direct = write_direct(s, names, digests, items, leader, depth, out, at);
+    let direct = write_direct(s, names, items, digests, leader, depth, out, at);
     if depth == 7 {
         return direct;
     }
     let deeper = depth + 1;
     let mut here = direct;
-    let mut i = next_namespace(s, names, digests, items, leader, depth, leader.number);
+    let mut i = next_namespace(s, names, items, digests, leader, depth, leader.number);
     while i < n {
         let v = item(s, names, items, i);
         let head = open_namespace(s, names, items, v, depth, out, here);
-        let tail = write_entries(s, names, digests, items, v, deeper, out, head);
+        let tail = write_entries(s, names, items, digests, v, deeper, out, head);
         here = close_namespace(depth, out, tail);
         let from = i + 1;
-        i = next_namespace(s, names, digests, items, leader, depth, from);
+        i = next_namespace(s, names, items, digests, leader, depth, from);
     }
     here
 }
@@ -261,8 +261,8 @@ fn write_entries(
 pub fn write_forward_declarations(
     s: &[u8],
     names: &[u32],
-    digests: &[u32],
     items: &[u32],
+    digests: &[u32],
     out: &mut [u8],
     at: usize,
 ) -> usize
@@ -275,5 +275,5 @@ pub fn write_forward_declarations(
         return at;
     }
     let leader = item(s, names, items, 0);
-    write_entries(s, names, digests, items, leader, 0, out, at)
+    write_entries(s, names, items, digests, leader, 0, out, at)
 }

@@ -82,8 +82,8 @@ fn alike(s: &[u8], names: &[u32], digests: &[u32], i: u32, j: u32) -> bool
 fn shares(
     s: &[u8],
     names: &[u32],
-    digests: &[u32],
     items: &[u32],
+    digests: &[u32],
     v: ItemView,
     w: ItemView,
     depth: u32,
@@ -119,8 +119,8 @@ fn shares(
 fn is_member(
     s: &[u8],
     names: &[u32],
-    digests: &[u32],
     items: &[u32],
+    digests: &[u32],
     leader: ItemView,
     depth: u32,
     i: u32,
@@ -136,15 +136,15 @@ fn is_member(
         return false;
     }
     let v = item(s, names, items, i);
-    shares(s, names, digests, items, leader, v, depth)
+    shares(s, names, items, digests, leader, v, depth)
 }
 
 // Whether item i is one of the group's own entries.
 pub fn is_direct(
     s: &[u8],
     names: &[u32],
-    digests: &[u32],
     items: &[u32],
+    digests: &[u32],
     leader: ItemView,
     depth: u32,
     i: u32,
@@ -163,15 +163,15 @@ pub fn is_direct(
     if v.depth != depth {
         return false;
     }
-    shares(s, names, digests, items, leader, v, depth)
+    shares(s, names, items, digests, leader, v, depth)
 }
 
 // Whether no item before v is in its group.
 fn is_first(
     s: &[u8],
     names: &[u32],
-    digests: &[u32],
     items: &[u32],
+    digests: &[u32],
     v: ItemView,
     depth: u32,
 ) -> bool
@@ -183,7 +183,7 @@ fn is_first(
     let n = v.number;
     let mut k: u32 = 0;
     while k < n {
-        let found = is_member(s, names, digests, items, v, depth, k);
+        let found = is_member(s, names, items, digests, v, depth, k);
         if found {
             return false;
         }
@@ -196,8 +196,8 @@ fn is_first(
 fn opens(
     s: &[u8],
     names: &[u32],
-    digests: &[u32],
     items: &[u32],
+    digests: &[u32],
     leader: ItemView,
     depth: u32,
     i: u32,
@@ -215,20 +215,20 @@ fn opens(
     if v.depth <= depth {
         return false;
     }
-    let inside = shares(s, names, digests, items, leader, v, depth);
+    let inside = shares(s, names, items, digests, leader, v, depth);
     if !inside {
         return false;
     }
     let deeper = depth + 1;
-    is_first(s, names, digests, items, v, deeper)
+    is_first(s, names, items, digests, v, deeper)
 }
 
 // The first item from one on that opens an inner namespace of the group, or the number of all items.
 pub fn next_namespace(
     s: &[u8],
     names: &[u32],
-    digests: &[u32],
     items: &[u32],
+    digests: &[u32],
     leader: ItemView,
     depth: u32,
     from: u32,
@@ -241,7 +241,7 @@ pub fn next_namespace(
     let n = items.len() as u32;
     let mut i = from;
     while i < n {
-        let found = opens(s, names, digests, items, leader, depth, i);
+        let found = opens(s, names, items, digests, leader, depth, i);
         if found {
             return i;
         }

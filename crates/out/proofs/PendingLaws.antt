@@ -15,7 +15,7 @@ use Rattle.bridge.specs.Out.{push, cancels}
 use Rattle.out.specs.declared.Boundary.{Boundary}
 use Rattle.out.specs.declared.Pending.{Pending}
 use Rattle.out.specs.declared.Content.{Content}
-use Rattle.out.specs.State.{boundaryOf, Known, boundaryAt, latest, pendingOf, Listed}
+use Rattle.out.specs.State.{boundaryOf, Known, boundaryAt, latest, pendingOf, maxPending, Listed}
 use Rattle.out.specs.Steps.{appendedTo, Pushes}
 
 -- c with one boundary fewer
@@ -88,7 +88,7 @@ module _ (s names : List ℕ) where
         rw (z, rw z at e)
 
   module _ (c : Content) (b : Boundary) (listed : Listed names c) (known : Known names b) where
-    known-more : (i : ℕ) → i < c .count + 1 → c .count < 16 →
+    known-more : (i : ℕ) → i < c .count + 1 → c .count < maxPending →
         Known names (boundaryAt (set (c .pending) (c .count) (record { boundary = b })) i)
     known-more i l h =
         by-cases (ltb i (c .count))
@@ -98,7 +98,7 @@ module _ (s names : List ℕ) where
         rw (z, at-end (c .pending) (c .count) b (omega (arith, listed .room))) known)
 
     pushed-more : push (boundaryOf s names b) (pendingOf s names c) ≡ boundaryOf s names b ∷ pendingOf s names c →
-        c .count < 16 → Pushes s names c b (appendedTo c b)
+        c .count < maxPending → Pushes s names c b (appendedTo c b)
     pushed-more e h = record {
       at = refl;
       spaces = refl;
@@ -118,7 +118,7 @@ module _ (s names : List ℕ) where
     module _ (n : c .count ≡ 0 → ⊥) where
       module _ (e : cancels (boundaryOf s names b) (boundaryOf s names (boundaryAt (c .pending) (c .count - 1))) ≡ false) where
         -- there is room where there is room behind the push
-        pub room-other : length (push (boundaryOf s names b) (pendingOf s names c)) ≤ 16 → c .count < 16
+        pub room-other : length (push (boundaryOf s names b) (pendingOf s names c)) ≤ maxPending → c .count < maxPending
         room-other h =
             omega (
               arith,
@@ -126,7 +126,7 @@ module _ (s names : List ℕ) where
               latest-length (c .pending) (c .count),
             )
 
-        pub pushes-other : length (push (boundaryOf s names b) (pendingOf s names c)) ≤ 16 →
+        pub pushes-other : length (push (boundaryOf s names b) (pendingOf s names c)) ≤ maxPending →
             {r : Content} → r ≡ appendedTo c b → Pushes s names c b r
         pushes-other h f = rw f (pushed-more (push-other b (c .pending) (c .count) n e) (room-other h))
 

@@ -1,6 +1,6 @@
 -- Laws of states: what a boundary more makes of one.
 use mathlib.Core.Path.{_≡_, refl, ap, _∙_}
-use mathlib.Core.List.{List, [], _∷_, _++_, map-append, append-assoc}
+use mathlib.Core.List.{List, [], _∷_, _++_, map-append}
 use mathlib.Core.Bool.{Bool, true, false}
 use Prim.Native.Nat.{ℕ, zero, suc, _+_, _-_, _*_, _<_, _≤_}
 use native.Mathlib.Omega.{arith}
@@ -24,18 +24,16 @@ use Rattle.view.proofs.ValueLaws.{yielded}
 use Rattle.view.proofs.ItemLaws.{space-there}
 use Rattle.bridge.specs.Block.{Block, userDefinedNamespace, externC, sameBlock}
 use Rattle.bridge.specs.Out as machine
-use Rattle.bridge.specs.Out.{begin, end, push, some}
+use Rattle.bridge.specs.Out.{begin, end, push}
 use Rattle.pieces.specs.Between.{named, ending, beginning, between}
-use Rattle.pieces.specs.Pieces.{change}
 use Rattle.pieces.proofs.Boundaries.{push-begin, push-end}
-use Rattle.pieces.proofs.Machine.{change-append}
 use Rattle.out.specs.declared.Block.the-variants.{UserDefinedNamespace, ExternC}
 use Rattle.out.specs.declared.Boundary.{Boundary}
 use Rattle.out.specs.declared.Boundary.the-variants.{Begin, End}
 use Rattle.out.specs.declared.Content.{Content}
 use Rattle.out.specs.State.{boundaryOf, latest, pendingOf, Listed, namespaceAt, Spaces, Stands, Standing}
-use Rattle.out.specs.State.{StandingIn, inside}
-use Rattle.out.specs.Steps.{Starts, Asks, Places, Pushes, Turns, Sets, Indexes, Prepares}
+use Rattle.out.specs.State.{maxPending, inside}
+use Rattle.out.specs.Steps.{Starts, asking, behind, Pushes, Turns, Sets, Indexes}
 
 -- c with another namespace
 abbrev pub respaced : Content → Cursor → ℕ → Content
@@ -58,7 +56,7 @@ pub starts : Starts (record {
   at = 0;
   spaces = record { at = 0 };
   depth = 0;
-  pending = replicate 16 (record { boundary = Begin ExternC });
+  pending = replicate maxPending (record { boundary = Begin ExternC });
   count = 0;
   «section_pending» = false;
 })
@@ -75,16 +73,9 @@ starts = record {
   };
 }
 
-pub asks-next : (c : Content) → Asks c (record {
-  at = c .at;
-  spaces = c .spaces;
-  depth = c .depth;
-  pending = c .pending;
-  count = c .count;
-  «section_pending» = true;
-})
-asks-next c = record {
-  each = λ st. record {
+module _ {s names first buf t : List ℕ} {ns : List Name} {P Q : List Block} {asks : Bool} {c r : Content} where
+  pub asked : r ≡ asking c → Stands s names first buf c t ns P Q asks → Stands s names first buf r t ns P Q true
+  asked e st = rw e (record {
     wrote = st .wrote;
     spaces = st .spaces;
     listed = record { room = st .listed .room; few = st .listed .few; known = st .listed .known };
@@ -92,19 +83,11 @@ asks-next c = record {
     section = refl;
     few-open = st .few-open;
     few-set = st .few-set;
-  };
-}
+  })
 
-pub places : (c : Content) (at : ℕ) → Places c at (record {
-  at = at;
-  spaces = c .spaces;
-  depth = c .depth;
-  pending = c .pending;
-  count = c .count;
-  «section_pending» = c .«section_pending»;
-})
-places c at = record {
-  each = λ st p. record {
+  pub placed : {after text : List ℕ} {at : ℕ} → r ≡ behind c at → Stands s names first buf c t ns P Q asks →
+      Wrote (sink buf (c .at)) text (sink after at) → Stands s names first after r (t ++ text) ns P Q asks
+  placed e st p = rw e (record {
     wrote = st .wrote ▷ p;
     spaces = st .spaces;
     listed = record { room = st .listed .room; few = st .listed .few; known = st .listed .known };
@@ -112,8 +95,7 @@ places c at = record {
     section = st .section;
     few-open = st .few-open;
     few-set = st .few-set;
-  };
-}
+  })
 
 -- ---- the index of a name
 
@@ -166,7 +148,7 @@ module _ {s names first buf : List ℕ} {c : Content} {t : List ℕ} {ns : List 
       begin-pending : push (boundaryOf s names b) (pendingOf s names c) ≡ between P (Q ++ (B ∷ []))
       begin-pending = rw (e, st .pending) (push-begin P Q B)
 
-      pub begin-room : length (push (boundaryOf s names b) (pendingOf s names c)) ≤ 16
+      pub begin-room : length (push (boundaryOf s names b) (pendingOf s names c)) ≤ maxPending
       begin-room = rw begin-pending (omega (arith, between-length P (Q ++ (B ∷ [])), few-more Q B f, st .few-open))
 
       pub begun : {r : Content} → Pushes s names c b r → Stands s names first buf r t ns P (Q ++ (B ∷ [])) asks
@@ -176,7 +158,7 @@ module _ {s names first buf : List ℕ} {c : Content} {t : List ℕ} {ns : List 
       end-pending : push (boundaryOf s names b) (pendingOf s names c) ≡ between P Q
       end-pending = rw (e, st .pending) (push-end P Q B)
 
-      pub end-room : length (push (boundaryOf s names b) (pendingOf s names c)) ≤ 16
+      pub end-room : length (push (boundaryOf s names b) (pendingOf s names c)) ≤ maxPending
       end-room = rw end-pending (omega (arith, between-length P Q, f, st .few-open))
 
       pub ended : {r : Content} → Pushes s names c b r → Stands s names first buf r t ns P Q asks
@@ -194,7 +176,7 @@ named-few {ns = ns} p = omega (arith, length-map ns userDefinedNamespace, spaces
 
 module _ {s names : List ℕ} {c : Content} where
   pub begin-extern-c-room : (w : Standing s names named c) →
-      length (push (boundaryOf s names (Begin ExternC)) (pendingOf s names c)) ≤ 16
+      length (push (boundaryOf s names (Begin ExternC)) (pendingOf s names c)) ≤ maxPending
   begin-extern-c-room w =
       begin-room (named (w .there .namespace)) externC (Begin ExternC) (named-few (w .there .stands .spaces)) refl (w .there .stands)
 
@@ -203,7 +185,7 @@ module _ {s names : List ℕ} {c : Content} where
       record { each = λ st. begun _ externC (Begin ExternC) (named-few (st .spaces)) refl st p }
 
   pub end-extern-c-room : (w : Standing s names inside c) →
-      length (push (boundaryOf s names (End ExternC)) (pendingOf s names c)) ≤ 16
+      length (push (boundaryOf s names (End ExternC)) (pendingOf s names c)) ≤ maxPending
   end-extern-c-room w =
       end-room (named (w .there .namespace)) externC (End ExternC) (named-few (w .there .stands .spaces)) refl (w .there .stands)
 
@@ -258,7 +240,7 @@ module _ (s names : List ℕ) where
       pub ending-listed : Listed names c
       ending-listed = before-end (w .there .stands) .listed
 
-      pub ending-room : length (push (boundaryOf s names (End (UserDefinedNamespace i))) (pendingOf s names c)) ≤ 16
+      pub ending-room : length (push (boundaryOf s names (End (UserDefinedNamespace i))) (pendingOf s names c)) ≤ maxPending
       ending-room =
           end-room (named (take (d - 1) (w .there .namespace))) _ (End (UserDefinedNamespace i))
           (taken-few (d - 1) (w .there .namespace) (omega (arith, g .few, w .there .stands .spaces .shallow)))
@@ -307,7 +289,7 @@ module _ (s names : List ℕ) where
       pub beginning-listed : Listed names c
       beginning-listed = g .turns .each (w .there .stands) .listed
 
-      pub beginning-room : length (push (boundaryOf s names (Begin (UserDefinedNamespace i))) (pendingOf s names c)) ≤ 16
+      pub beginning-room : length (push (boundaryOf s names (Begin (UserDefinedNamespace i))) (pendingOf s names c)) ≤ maxPending
       beginning-room =
           begin-room (named (take d ms)) _ (Begin (UserDefinedNamespace i)) few-begin name-begin
           (g .turns .each (w .there .stands))
@@ -368,24 +350,6 @@ module _ (s names : List ℕ) where
   pub sets-none : {c r : Content} → Sets s names (namespaceAt s names (record { at = 0 }) 0) c r → Sets s names [] c r
   sets-none p = rw (no-spaces .0) at p
 
--- ---- for callers
-
--- a state in which the blocks of the namespace are set, and one in which extern "C" is
-module _ {s names first buf : List ℕ} {c : Content} {t : List ℕ} {ns : List Name} {P : List Block} {asks : Bool} where
-  pub outside-in : Stands s names first buf c t ns P (named ns) asks → StandingIn s names buf named c
-  outside-in st =
-      record { first = first; text = t; namespace = ns; opened = P; asks = asks; stands = st }
-
-  pub within-in : Stands s names first buf c t ns P (inside ns) asks → StandingIn s names buf inside c
-  within-in st =
-      record { first = first; text = t; namespace = ns; opened = P; asks = asks; stands = st }
-
-  pub outside : Stands s names first buf c t ns P (named ns) asks → Standing s names named c
-  outside st = record { buf = buf; there = outside-in st }
-
-  pub within : Stands s names first buf c t ns P (inside ns) asks → Standing s names inside c
-  within st = record { buf = buf; there = within-in st }
-
 pub standing-turned : {s names : List ℕ} {from to : List Name → List Block} {c r : Content} →
     Turns s names from to c r → Standing s names from c → Standing s names to r
 standing-turned p w =
@@ -401,12 +365,3 @@ standing-turned p w =
         stands = p .each (v .stands);
       };
     }
-
--- a text in the blocks that are set
-pub piece : {s names first buf between after : List ℕ} {c ready r : Content} {at : ℕ} {t text : List ℕ} {ns : List Name}
-    {P Q : List Block} {asks : Bool} → Stands s names first buf c t ns P Q asks →
-    Prepares s names buf between c ready → Wrote (sink between (ready .at)) text (sink after at) →
-    Places ready at r → Stands s names first after r (t ++ change (some t) asks P Q text) ns Q Q false
-piece {t = t} {text = text} {P = P} {Q = Q} {asks = asks} st p w q =
-    rw (append-assoc t (change (some t) asks P Q []) text, change-append (some t) asks P Q [] text) at
-    (q .each (p .each st) w)

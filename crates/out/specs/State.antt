@@ -51,10 +51,14 @@ latest s names pending (suc n) = boundaryOf s names (boundaryAt pending n) ∷ l
 abbrev pub pendingOf : List ℕ → List ℕ → Content → List machine.Boundary
 pendingOf s names c = latest s names (c .pending) (c .count)
 
+-- the most pending boundaries: eight ends and eight begins
+abbrev pub maxPending : ℕ
+maxPending = 16
+
 -- each pending boundary is known
 pub record Listed (names : List ℕ) (c : Content) : Type 0 where
-  pub room : length (c .pending) ≡ 16
-  pub few : c .count ≤ 16
+  pub room : length (c .pending) ≡ maxPending
+  pub few : c .count ≤ maxPending
   pub known : (i : ℕ) → i < c .count → Known names (boundaryAt (c .pending) i)
 
 -- ---- states

@@ -25,14 +25,27 @@ use Rattle.out.specs.State.{boundaryOf, pendingOf, Listed, Spaces, Stand
 pub record Starts (r : Content) : Type 0 where
   pub each : {s names first : List ℕ} → Stands s names first first r [] [] [] [] false
 
-pub record Asks (c r : Content) : Type 0 where
-  pub each : {s names first buf t : List ℕ} {ns : List Name} {P Q : List Block} {asks : Bool} →
-      Stands s names first buf c t ns P Q asks → Stands s names first buf r t ns P Q true
+-- c with a section pending
+abbrev pub asking : Content → Content
+asking c = record {
+  at = c .at;
+  spaces = c .spaces;
+  depth = c .depth;
+  pending = c .pending;
+  count = c .count;
+  «section_pending» = true;
+}
 
-pub record Places (c : Content) (at : ℕ) (r : Content) : Type 0 where
-  pub each : {s names first buf after t text : List ℕ} {ns : List Name} {P Q : List Block} {asks : Bool} →
-      Stands s names first buf c t ns P Q asks → Wrote (sink buf (c .at)) text (sink after at) →
-      Stands s names first after r (t ++ text) ns P Q asks
+-- c behind more text
+abbrev pub behind : Content → ℕ → Content
+behind c at = record {
+  at = at;
+  spaces = c .spaces;
+  depth = c .depth;
+  pending = c .pending;
+  count = c .count;
+  «section_pending» = c .«section_pending»;
+}
 
 -- ---- push_block_boundary
 

@@ -23,8 +23,8 @@ ghost use Rattle.bridge.specs.Block as block;
 ghost use Rattle.bridge.specs.Out as machine;
 ghost use Rattle.pieces.specs.Between.{named};
 ghost use Rattle.out.specs.State.{blockOf, boundaryOf, KnownBlock, Known, pendingOf, Listed, namespaceAt, Spaces};
-ghost use Rattle.out.specs.State.{Standing, inside};
-ghost use Rattle.out.specs.Steps.{Starts, Asks, Places, appendedTo, Pushes, Turns, Sets, Indexes, boundaryText};
+ghost use Rattle.out.specs.State.{maxPending, Standing, inside};
+ghost use Rattle.out.specs.Steps.{Starts, asking, behind, appendedTo, Pushes, Turns, Sets, Indexes, boundaryText};
 ghost use Rattle.out.specs.Steps.{isEnd, Flushing, Prepares, Flushes};
 
 // ---- block.rs
@@ -119,7 +119,7 @@ impl Content {
     {
         let boundary = Boundary::Begin(Block::ExternC);
         let none = Pending { boundary };
-        let spaces = Cursor { at: 0 };
+        let spaces = Cursor::new(0);
         let pending = [none; Content::PENDING];
         Content {
             at: 0,
@@ -134,14 +134,14 @@ impl Content {
 
 // The same state behind more text.
 pub fn placed(mut c: Content, at: usize) -> Content
-    ensures { λ r. ⌜ Places c at r ⌝ }
+    ensures { λ r. ⌜ r ≡ behind c at ⌝ }
 {
     c.at = at;
     c
 }
 
 pub fn next_section(mut c: Content) -> Content
-    ensures { λ r. ⌜ Asks c r ⌝ }
+    ensures { λ r. ⌜ r ≡ asking c ⌝ }
 {
     c.section_pending = true;
     c
@@ -168,7 +168,7 @@ fn cancels(s: &[u8], names: &[u32], digests: &[u32], boundary: Boundary, last: B
 
 // One boundary more.
 fn appended(mut c: Content, boundary: Boundary) -> Content
-    requires { ⌜ c .count < 16 ⌝ }
+    requires { ⌜ c .count < maxPending ⌝ }
     ensures { λ r. ⌜ r ≡ appendedTo c boundary ⌝ }
 {
     let p = Pending { boundary };
@@ -188,7 +188,7 @@ fn push_block_boundary(
 ) -> Content
     requires { ⌜ Named (now s) (now names) × (now digests ≡ digestsAt (now s) (now names)) × Listed (now names) c ×
         Known (now names) boundary × (length (machine.push (boundaryOf (now s) (now names) boundary)
-        (pendingOf (now s) (now names) c)) ≤ 16) ⌝ }
+        (pendingOf (now s) (now names) c)) ≤ maxPending) ⌝ }
     ensures { λ r. ⌜ Pushes (now (s .entry)) (now (names .entry)) c boundary r ⌝ }
 {
     let n = c.count;
@@ -233,7 +233,7 @@ fn name_index(s: &[u8], names: &[u32], spaces: Cursor, d: u32) -> u32
 {
     let w = width(names.len() as u32);
     let at = spaces.at + d * w;
-    let name = field(s, Cursor { at }, w);
+    let name = field(s, Cursor::new(at), w);
     name.value
 }
 
@@ -425,7 +425,7 @@ pub fn flush(s: &[u8], names: &[u32], digests: &[u32], c: Content, out: &mut [u8
         Standing (now s) (now names) named c ⌝ }
     ensures { λ r. ⌜ Flushes (now (s .entry)) (now (names .entry)) (now (out .entry)) (now (out .exit)) c r ⌝ }
 {
-    let spaces = Cursor { at: 0 };
+    let spaces = Cursor::new(0);
     let outermost = set_spaces(s, names, digests, c, spaces, 0);
     let f = flush_blocks(s, names, outermost, out);
     f.at

@@ -8,7 +8,7 @@ use Rattle.bridge.specs.Out as machine
 use Rattle.bridge.specs.Out.{nextSection, setNamespace}
 use Rattle.bridge.specs.Write.{isFree, functionShim, writeRustFunctionShim}
 use Rattle.pieces.proofs.Machine.{nothing-written}
-use Rattle.sections.specs.Runs.{hiddenForm, shimOf}
+use Rattle.sections.specs.Runs.{hiddenForm, shimSection}
 
 pub hidden-free : (header : Bool) (form : ℕ) → form ≡ 0 → false ≡ hiddenForm header form
 hidden-free header form e = rw e
@@ -34,14 +34,14 @@ module _ (s : Sheet) (x : Item) (F : ℕ → Function) {n k : ℕ} (form owner :
 
   -- a header does not show a method
   pub hidden-shim : hiddenForm (s .header) form ≡ true → (m : machine.Content) →
-      setNamespace (x .namespace) (nextSection m) ≡ shimOf s x (F k) m
+      setNamespace (x .namespace) (nextSection m) ≡ shimSection s x (F k) m
   unfolding writeRustFunctionShim
   hidden-shim h m =
       rw (the-form, hidden-form (s .header) form owner, h)
       (sym (nothing-written (setNamespace (x .namespace) (nextSection m))))
 
   pub shown-shim : hiddenForm (s .header) form ≡ false → (m : machine.Content) →
-      machine.write (functionShim s x (F n)) (setNamespace (x .namespace) (nextSection m)) ≡ shimOf s x (F k) m
+      machine.write (functionShim s x (F n)) (setNamespace (x .namespace) (nextSection m)) ≡ shimSection s x (F k) m
   unfolding writeRustFunctionShim
   shown-shim h m =
       ap (λ (i : ℕ). machine.write (functionShim s x (F i)) (setNamespace (x .namespace) (nextSection m))) number

@@ -14,8 +14,9 @@ use Rattle.pieces.proofs.Machine.{namespace-set, piece-written}
 use Rattle.sink.specs.Sink.{sink, Wrote}
 use Rattle.out.specs.declared.Content.{Content}
 use Rattle.out.specs.State.{Listed, Stands, StandingIn, Standing, inside}
-use Rattle.out.specs.Steps.{Asks, Places, Turns, Sets, Prepares}
-use Rattle.sections.specs.Runs.{Holds, Held, Runs}
+use Rattle.out.specs.Steps.{asking, behind, Turns, Sets, Prepares}
+use Rattle.out.proofs.StateLaws.{asked, placed}
+use Rattle.sections.specs.Runs.{Represents, Representing, Runs}
 
 -- ---- a state, whatever its text and its namespace
 
@@ -24,8 +25,8 @@ stood : {s names first buf t : List ℕ} {ns : List Name} {P : List Block} {asks
 stood {first = first} {t = t} {ns = ns} {P = P} {asks = asks} around h =
     record { first = first; text = t; namespace = ns; opened = P; asks = asks; stands = h }
 
-pub held-stood : {s names buf : List ℕ} {c : Content} → Held s names buf c → StandingIn s names buf named c
-held-stood h = stood named (h .holds .stands)
+pub representing-stood : {s names buf : List ℕ} {c : Content} → Representing s names buf c → StandingIn s names buf named c
+representing-stood h = stood named (h .represents .stands)
 
 module _ {s names buf : List ℕ} {c r : Content} where
   pub stood-set : {xs : List Name} → StandingIn s names buf named c → Sets s names xs c r → StandingIn s names buf named r
@@ -35,17 +36,17 @@ module _ {s names buf : List ℕ} {c r : Content} where
       StandingIn s names buf to r
   stood-turned {to = to} a p = stood to (p .each (a .stands))
 
-  pub stood-asked : {around : List Name → List Block} → StandingIn s names buf around c → Asks c r →
+  pub stood-asked : {around : List Name → List Block} → StandingIn s names buf around c → r ≡ asking c →
       StandingIn s names buf around r
-  stood-asked {around} a p = stood around (p .each (a .stands))
+  stood-asked {around} a e = stood around (asked e (a .stands))
 
   pub stood-ready : {around : List Name → List Block} {after : List ℕ} → StandingIn s names buf around c →
       Prepares s names buf after c r → StandingIn s names after around r
   stood-ready {around} a p = stood around (p .each (a .stands))
 
   pub stood-placed : {around : List Name → List Block} {after text : List ℕ} {at : ℕ} → StandingIn s names buf around c →
-      Wrote (sink buf (c .at)) text (sink after at) → Places c at r → StandingIn s names after around r
-  stood-placed {around} a w p = stood around (p .each (a .stands) w)
+      Wrote (sink buf (c .at)) text (sink after at) → r ≡ behind c at → StandingIn s names after around r
+  stood-placed {around} a w e = stood around (placed e (a .stands) w)
 
 module _ {s names buf : List ℕ} {around : List Name → List Block} {c : Content} (a : StandingIn s names buf around c) where
   pub stood-standing : Standing s names around c
@@ -56,15 +57,15 @@ module _ {s names buf : List ℕ} {around : List Name → List Block} {c : Conte
 
 -- ---- steps as runs
 
-pub holding : {s names first buf t : List ℕ} {ns : List Name} {P : List Block} {asks : Bool} {c : Content}
+pub represent : {s names first buf t : List ℕ} {ns : List Name} {P : List Block} {asks : Bool} {c : Content}
     {m : machine.Content} → m ≡ standing t ns P (named ns) asks →
-    Stands s names first buf c t ns P (named ns) asks → Holds s names first buf c m
-holding {t = t} {ns = ns} {P = P} {asks = asks} e h =
+    Stands s names first buf c t ns P (named ns) asks → Represents s names first buf c m
+represent {t = t} {ns = ns} {P = P} {asks = asks} e h =
     record { text = t; namespace = ns; opened = P; asks = asks; is = e; stands = h }
 
-pub held-after : {s names buf after : List ℕ} {K : machine.Content → machine.Content} {c r : Content} →
-    Held s names buf c → Runs s names buf after K c r → Held s names after r
-held-after {K = K} h run = record { first = h .first; state = K (h .state); holds = run .each (h .holds) }
+pub representing-after : {s names buf after : List ℕ} {K : machine.Content → machine.Content} {c r : Content} →
+    Representing s names buf c → Runs s names buf after K c r → Representing s names after r
+representing-after {K = K} h run = record { first = h .first; state = K (h .state); represents = run .each (h .represents) }
 
 pub runs-as : {s names buf after : List ℕ} {K L : machine.Content → machine.Content} {c r : Content} →
     ((m : machine.Content) → K m ≡ L m) → Runs s names buf after K c r → Runs s names buf after L c r
@@ -82,16 +83,16 @@ pub runs-set : {s names buf : List ℕ} {xs : List Name} {c r : Content} → Set
     Runs s names buf buf (machine.setNamespace xs) c r
 runs-set {xs = xs} p =
     record {
-      each = λ h. holding (rw (h .is) (namespace-set (h .text) (h .namespace) (h .opened) (h .asks) xs))
+      each = λ h. represent (rw (h .is) (namespace-set (h .text) (h .namespace) (h .opened) (h .asks) xs))
           (p .each (h .stands));
     }
 
-pub runs-asked : {s names buf : List ℕ} {c r : Content} → Asks c r → Runs s names buf buf machine.nextSection c r
-runs-asked p =
+pub runs-asked : {s names buf : List ℕ} {c r : Content} → r ≡ asking c → Runs s names buf buf machine.nextSection c r
+runs-asked e =
     record {
       each = λ h.
-          holding (rw (h .is) (section-asked (h .text) (h .namespace) (h .opened) (named (h .namespace)) (h .asks)))
-          (p .each (h .stands));
+          represent (rw (h .is) (section-asked (h .text) (h .namespace) (h .opened) (named (h .namespace)) (h .asks)))
+          (asked e (h .stands));
     }
 
 -- what is written before a text, and the text
@@ -102,17 +103,17 @@ ready-text t started asks P Q r =
     ∙ sym (append-assoc t (change started asks P Q []) r)
 
 pub runs-written : {s names buf mid after t : List ℕ} {c d r : Content} {at : ℕ} → some t ≡ true →
-    Prepares s names buf mid c d → Wrote (sink mid (d .at)) t (sink after at) → Places d at r →
+    Prepares s names buf mid c d → Wrote (sink mid (d .at)) t (sink after at) → r ≡ behind d at →
     Runs s names buf after (machine.write t) c r
 runs-written {t = t} e p w q =
     record {
       each = λ h.
           let Q = named (h .namespace) in
-          holding
+          represent
           (rw (h .is, piece-written (h .text) (h .namespace) (h .opened) Q (h .asks) t e)
           (ap (λ (x : List ℕ). standing x (h .namespace) Q Q false)
           (ready-text (h .text) (some (h .text)) (h .asks) (h .opened) Q t)))
-          (q .each (p .each (h .stands)) w);
+          (placed q (p .each (h .stands)) w);
     }
 
 -- ---- in extern "C"
@@ -120,18 +121,18 @@ runs-written {t = t} e p w q =
 module _ {s names buf : List ℕ} {xs : List Name} {c c₁ c₂ : Content} (sets : Sets s names xs c c₁)
     (begins : Turns s names named inside c₁ c₂) where
   -- a declaration in a section of its own
-  pub runs-declared : (t : List ℕ) {mid after : List ℕ} {c₃ c₄ c₅ r : Content} {at : ℕ} → some t ≡ true → Asks c₂ c₃ →
-      Prepares s names buf mid c₃ c₄ → Wrote (sink mid (c₄ .at)) t (sink after at) → Places c₄ at c₅ →
+  pub runs-declared : (t : List ℕ) {mid after : List ℕ} {c₃ c₄ c₅ r : Content} {at : ℕ} → some t ≡ true → c₃ ≡ asking c₂ →
+      Prepares s names buf mid c₃ c₄ → Wrote (sink mid (c₄ .at)) t (sink after at) → c₅ ≡ behind c₄ at →
       Turns s names inside named c₅ r →
       Runs s names buf after
       (λ m. endBlock externC
       (machine.write t (machine.nextSection (beginBlock externC (machine.setNamespace xs m))))) c r
-  runs-declared t e asks ready w placed ends =
+  runs-declared t e a ready w p ends =
       record {
         each = λ h.
             let Q = inside xs in
             let u = h .text ++ change (some (h .text)) true (h .opened) Q t in
-            holding
+            represent
             (rw (
               h .is,
               namespace-set (h .text) (h .namespace) (h .opened) (h .asks) xs,
@@ -142,21 +143,21 @@ module _ {s names buf : List ℕ} {xs : List Name} {c c₁ c₂ : Content} (sets
             )
             (ap (λ (x : List ℕ). standing x xs Q (named xs) false)
             (ready-text (h .text) (some (h .text)) true (h .opened) Q t)))
-            (ends .each (placed .each (ready .each (asks .each (begins .each (sets .each (h .stands))))) w));
+            (ends .each (placed p (ready .each (asked a (begins .each (sets .each (h .stands))))) w));
       }
 
   -- two declarations with no section between them
   pub runs-declared-two : (t u : List ℕ) {mid after : List ℕ} {c₃ c₄ r : Content} {at : ℕ} → some t ≡ true → some u ≡ true →
-      Prepares s names buf mid c₂ c₃ → Wrote (sink mid (c₃ .at)) (t ++ u) (sink after at) → Places c₃ at c₄ →
+      Prepares s names buf mid c₂ c₃ → Wrote (sink mid (c₃ .at)) (t ++ u) (sink after at) → c₄ ≡ behind c₃ at →
       Turns s names inside named c₄ r →
       Runs s names buf after
       (λ m. endBlock externC (machine.write u (machine.write t (beginBlock externC (machine.setNamespace xs m))))) c r
-  runs-declared-two t u e g ready w placed ends =
+  runs-declared-two t u e g ready w p ends =
       record {
         each = λ h.
             let Q = inside xs in
             let t₁ = h .text ++ change (some (h .text)) (h .asks) (h .opened) Q t in
-            holding
+            represent
             (rw (
               h .is,
               namespace-set (h .text) (h .namespace) (h .opened) (h .asks) xs,
@@ -169,5 +170,5 @@ module _ {s names buf : List ℕ} {xs : List Name} {c c₁ c₂ : Content} (sets
             (ap (λ (x : List ℕ). standing x xs Q (named xs) false)
             (ap (λ (x : List ℕ). x ++ u) (ready-text (h .text) (some (h .text)) (h .asks) (h .opened) Q t)
             ∙ append-assoc (h .text ++ change (some (h .text)) (h .asks) (h .opened) Q []) t u)))
-            (ends .each (placed .each (ready .each (begins .each (sets .each (h .stands)))) w));
+            (ends .each (placed p (ready .each (begins .each (sets .each (h .stands)))) w));
       }

@@ -12,8 +12,8 @@ use Rattle.pieces.specs.Between.{named, standing}
 use Rattle.out.specs.declared.Content.{Content}
 use Rattle.out.specs.State.{Stands}
 
--- c is the state m: the blocks that are set are those of its namespace
-pub record Holds (s names first buf : List ℕ) (c : Content) (m : machine.Content) : Type 0 where
+-- c represents the state m: the blocks that are set are those of its namespace
+pub record Represents (s names first buf : List ℕ) (c : Content) (m : machine.Content) : Type 0 where
   pub text : List ℕ
   pub namespace : List Name
   pub opened : List Block
@@ -21,15 +21,16 @@ pub record Holds (s names first buf : List ℕ) (c : Content) (m : machine.Conte
   pub is : m ≡ standing text namespace opened (named namespace) asks
   pub stands : Stands s names first buf c text namespace opened (named namespace) asks
 
--- c is some such state
-pub record Held (s names buf : List ℕ) (c : Content) : Type 0 where
+-- c represents some state
+pub record Representing (s names buf : List ℕ) (c : Content) : Type 0 where
   pub first : List ℕ
   pub state : machine.Content
-  pub holds : Holds s names first buf c state
+  pub represents : Represents s names first buf c state
 
--- from each such state the code does what K does
+-- from each state that c represents the code does what K does
 pub record Runs (s names buf after : List ℕ) (K : machine.Content → machine.Content) (c r : Content) : Type 0 where
-  pub each : {first : List ℕ} {m : machine.Content} → Holds s names first buf c m → Holds s names first after r (K m)
+  pub each : {first : List ℕ} {m : machine.Content} → Represents s names first buf c m →
+      Represents s names first after r (K m)
 
 abbrev pub sheetOf : Bool → Bool → List Item → Sheet
 sheetOf header doxygen items = record { header = header; doxygen = doxygen; items = items }
@@ -46,5 +47,5 @@ hiddenForm header zero = false
 hiddenForm header (suc form) = header
 
 -- the second pass at a function
-abbrev pub shimOf : Sheet → Item → Function → machine.Content → machine.Content
-shimOf x i f m = writeRustFunctionShim x i f (machine.nextSection m)
+abbrev pub shimSection : Sheet → Item → Function → machine.Content → machine.Content
+shimSection x i f m = writeRustFunctionShim x i f (machine.nextSection m)

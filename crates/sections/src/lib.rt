@@ -26,7 +26,7 @@ ghost use Rattle.bridge.specs.Write.{writeOpaqueTypeLayout};
 ghost use Rattle.view.specs.Values.{functionAt, itemsAt, Whole};
 ghost use Rattle.view.specs.Digests.{digestsAt};
 ghost use Rattle.view.specs.Views.{ItemAt};
-ghost use Rattle.sections.specs.Runs.{Held, Runs, hiddenForm, sectionOf, shimOf, sheetOf};
+ghost use Rattle.sections.specs.Runs.{Representing, Runs, hiddenForm, sectionOf, shimSection, sheetOf};
 
 // ---- declarations
 
@@ -42,7 +42,7 @@ pub fn write_rust_function_decl(
 ) -> Content
     requires { ⌜ Whole (now s) (now names) (now items) × (now digests ≡ digestsAt (now s) (now names)) ×
         ItemAt (now s) (now names) (now items) v × (v .kind ≡ RustFunction) × (31 ≤ length (now offsets)) ×
-        Held (now s) (now names) (now out) c ⌝ }
+        Representing (now s) (now names) (now out) c ⌝ }
     ensures { λ r. ⌜ Runs (now (s .entry)) (now (names .entry)) (now (out .entry)) (now (out .exit))
         (writeRustFunctionDecl (itemsAt (now (s .entry)) (now (names .entry)) (now (items .entry)))
         (itemAt (itemsAt (now (s .entry)) (now (names .entry)) (now (items .entry))) (v .number))
@@ -69,7 +69,7 @@ pub fn write_opaque_type_layout_decls(
     out: &mut [u8],
 ) -> Content
     requires { ⌜ Whole (now s) (now names) (now items) × (now digests ≡ digestsAt (now s) (now names)) ×
-        ItemAt (now s) (now names) (now items) v × Held (now s) (now names) (now out) c ⌝ }
+        ItemAt (now s) (now names) (now items) v × Representing (now s) (now names) (now out) c ⌝ }
     ensures { λ r. ⌜ Runs (now (s .entry)) (now (names .entry)) (now (out .entry)) (now (out .exit))
         (writeOpaqueTypeLayoutDecls
         (itemAt (itemsAt (now (s .entry)) (now (names .entry)) (now (items .entry))) (v .number))) c r ⌝ }
@@ -97,7 +97,7 @@ fn write_layout(
     out: &mut [u8],
 ) -> Content
     requires { ⌜ Whole (now s) (now names) (now items) × ItemAt (now s) (now names) (now items) v ×
-        Held (now s) (now names) (now out) c ⌝ }
+        Representing (now s) (now names) (now out) c ⌝ }
     ensures { λ r. ⌜ Runs (now (s .entry)) (now (names .entry)) (now (out .entry)) (now (out .exit))
         (sectionOf (layoutDefinition
         (itemAt (itemsAt (now (s .entry)) (now (names .entry)) (now (items .entry))) (v .number))
@@ -119,7 +119,7 @@ pub fn write_opaque_type_layout(
     out: &mut [u8],
 ) -> Content
     requires { ⌜ Whole (now s) (now names) (now items) × (now digests ≡ digestsAt (now s) (now names)) ×
-        ItemAt (now s) (now names) (now items) v × Held (now s) (now names) (now out) c ⌝ }
+        ItemAt (now s) (now names) (now items) v × Representing (now s) (now names) (now out) c ⌝ }
     ensures { λ r. ⌜ Runs (now (s .entry)) (now (names .entry)) (now (out .entry)) (now (out .exit))
         (writeOpaqueTypeLayout false
         (itemAt (itemsAt (now (s .entry)) (now (names .entry)) (now (items .entry))) (v .number))) c r ⌝ }
@@ -153,9 +153,9 @@ pub fn write_rust_function_shim(
 ) -> Content
     requires { ⌜ Whole (now s) (now names) (now items) × (now digests ≡ digestsAt (now s) (now names)) ×
         ItemAt (now s) (now names) (now items) v × (v .kind ≡ RustFunction) × (31 ≤ length (now offsets)) ×
-        Held (now s) (now names) (now out) c ⌝ }
+        Representing (now s) (now names) (now out) c ⌝ }
     ensures { λ r. ⌜ Runs (now (s .entry)) (now (names .entry)) (now (out .entry)) (now (out .exit))
-        (shimOf
+        (shimSection
         (sheetOf header doxygen (itemsAt (now (s .entry)) (now (names .entry)) (now (items .entry))))
         (itemAt (itemsAt (now (s .entry)) (now (names .entry)) (now (items .entry))) (v .number))
         (functionAt (now (s .entry)) (now (names .entry)) (now (items .entry)) (v .number))) c r ⌝ }

@@ -24,9 +24,10 @@ use Rattle.sink.proofs.SinkLaws.{wrote-place}
 use Rattle.view.specs.Values.{functionIn, oneItemAt, itemsAt}
 use Rattle.view.specs.Views.{kindOfBody}
 use Rattle.out.specs.declared.Content.{Content}
-use Rattle.out.specs.Steps.{Starts, Asks, Places, Flushes}
-use Rattle.sections.specs.Runs.{Held, Runs, shimOf}
-use Rattle.sections.proofs.StateLaws.{holding, runs-as, runs-none, runs-then}
+use Rattle.out.specs.Steps.{Starts, asking, behind, Flushes}
+use Rattle.out.proofs.StateLaws.{asked, placed}
+use Rattle.sections.specs.Runs.{Representing, Runs, shimSection}
+use Rattle.sections.proofs.StateLaws.{represent, runs-as, runs-none, runs-then}
 use Rattle.write.specs.Passes.{declareItem, defineItem, Begins, Ends}
 
 -- ---- an item, by its kind
@@ -40,7 +41,7 @@ declareKind CxxType items x m = m
 declareKind Bad items x m = m
 
 abbrev pub defineKind : ItemKind → Sheet → Item → machine.Content → machine.Content
-defineKind RustFunction s x m = shimOf s x (functionIn (x .body)) m
+defineKind RustFunction s x m = shimSection s x (functionIn (x .body)) m
 defineKind RustType s x m = writeOpaqueTypeLayout (s .header) x m
 defineKind Struct s x m = m
 defineKind Enum s x m = m
@@ -157,23 +158,23 @@ unfolding change
 some-text [] e = absurd (omega arith)
 some-text (b ∷ t) e = rw new-standing (piece-written [] [] [] [] true (b ∷ t) refl)
 
-module _ {at : ℕ} {c d : Content} (starts : Starts c) (places : Places c at d) where
+module _ {at : ℕ} {c d : Content} (starts : Starts c) (p : d ≡ behind c at) where
   at-start : c .at ≡ 0
   unfolding emit
   at-start = ap (λ (x : Sink). x .at) (starts .each {s = []} {names = []} {first = []} .wrote .is)
 
-  pub begins-none : {r : Content} → Asks d r → at ≡ 0 → Begins at r
-  begins-none asks e =
+  pub begins-none : {r : Content} → r ≡ asking d → at ≡ 0 → Begins at r
+  begins-none a e =
       record {
         each = λ {s} {names} {first} {buf} {t} w.
-            holding (no-text t (omega (arith, wrote-place w (omega arith)))) (asks .each (places .each (starts .each) (rw at-start w)));
+            represent (no-text t (omega (arith, wrote-place w (omega arith)))) (asked a (placed p (starts .each) (rw at-start w)));
       }
 
   pub begins-some : 0 < at → Begins at d
   begins-some h =
       record {
         each = λ {s} {names} {first} {buf} {t} w.
-            holding (some-text t (omega (arith, wrote-place w (omega arith)))) (places .each (starts .each) (rw at-start w));
+            represent (some-text t (omega (arith, wrote-place w (omega arith)))) (placed p (starts .each) (rw at-start w));
       }
 
 pub ends-flushed : {s names buf mid after : List ℕ} {K : machine.Content → machine.Content} {c d : Content} {at : ℕ} →
@@ -192,10 +193,10 @@ unfolding text content
 whole-text x begins w ends = ends .each (begins .each w)
 
 pub begun : {s names first buf t : List ℕ} {c : Content} {at : ℕ} → Begins at c →
-    Wrote (sink first 0) t (sink buf at) → Held s names buf c
+    Wrote (sink first 0) t (sink buf at) → Representing s names buf c
 begun {first = first} {t = t} begins w =
     record {
       first = first;
       state = machine.write t (nextSection machine.new);
-      holds = begins .each w;
+      represents = begins .each w;
     }

@@ -20,7 +20,7 @@ ghost use Rattle.syntax.specs.Items.{itemAt};
 ghost use Rattle.bridge.specs.Write.{forEach, writeFunctions, text};
 ghost use Rattle.view.specs.Values.{itemsAt, Whole};
 ghost use Rattle.view.specs.Digests.{digestsAt};
-ghost use Rattle.sections.specs.Runs.{Held, Runs, sheetOf};
+ghost use Rattle.sections.specs.Runs.{Representing, Runs, sheetOf};
 ghost use Rattle.write.specs.Passes.{declareItem, defineItem, Begins, Ends};
 
 // ---- the two passes
@@ -37,7 +37,7 @@ fn declare(
     out: &mut [u8],
 ) -> Content
     requires { ⌜ Whole (now s) (now names) (now items) × (now digests ≡ digestsAt (now s) (now names)) ×
-        (i < length (now items)) × (31 ≤ length (now offsets)) × Held (now s) (now names) (now out) c ⌝ }
+        (i < length (now items)) × (31 ≤ length (now offsets)) × Representing (now s) (now names) (now out) c ⌝ }
     ensures { λ r. ⌜ Runs (now (s .entry)) (now (names .entry)) (now (out .entry)) (now (out .exit))
         (declareItem (itemsAt (now (s .entry)) (now (names .entry)) (now (items .entry)))
         (itemAt (itemsAt (now (s .entry)) (now (names .entry)) (now (items .entry))) i)) c r ⌝ }
@@ -70,7 +70,7 @@ fn define(
     out: &mut [u8],
 ) -> Content
     requires { ⌜ Whole (now s) (now names) (now items) × (now digests ≡ digestsAt (now s) (now names)) ×
-        (i < length (now items)) × (31 ≤ length (now offsets)) × Held (now s) (now names) (now out) c ⌝ }
+        (i < length (now items)) × (31 ≤ length (now offsets)) × Representing (now s) (now names) (now out) c ⌝ }
     ensures { λ r. ⌜ Runs (now (s .entry)) (now (names .entry)) (now (out .entry)) (now (out .exit))
         (defineItem (sheetOf header doxygen (itemsAt (now (s .entry)) (now (names .entry)) (now (items .entry))))
         (itemAt (itemsAt (now (s .entry)) (now (names .entry)) (now (items .entry))) i)) c r ⌝ }
@@ -113,7 +113,7 @@ fn declare_all(
     out: &mut [u8],
 ) -> Content
     requires { ⌜ Whole (now s) (now names) (now items) × (now digests ≡ digestsAt (now s) (now names)) ×
-        (31 ≤ length (now offsets)) × Held (now s) (now names) (now out) c ⌝ }
+        (31 ≤ length (now offsets)) × Representing (now s) (now names) (now out) c ⌝ }
     ensures { λ r. ⌜ Runs (now (s .entry)) (now (names .entry)) (now (out .entry)) (now (out .exit))
         (forEach (declareItem (itemsAt (now (s .entry)) (now (names .entry)) (now (items .entry))))
         (itemsAt (now (s .entry)) (now (names .entry)) (now (items .entry)))) c r ⌝ }
@@ -139,7 +139,7 @@ fn define_all(
     out: &mut [u8],
 ) -> Content
     requires { ⌜ Whole (now s) (now names) (now items) × (now digests ≡ digestsAt (now s) (now names)) ×
-        (31 ≤ length (now offsets)) × Held (now s) (now names) (now out) c ⌝ }
+        (31 ≤ length (now offsets)) × Representing (now s) (now names) (now out) c ⌝ }
     ensures { λ r. ⌜ Runs (now (s .entry)) (now (names .entry)) (now (out .entry)) (now (out .exit))
         (forEach (defineItem (sheetOf header doxygen
         (itemsAt (now (s .entry)) (now (names .entry)) (now (items .entry)))))
@@ -178,7 +178,7 @@ fn write_functions(
     out: &mut [u8],
 ) -> Content
     requires { ⌜ Whole (now s) (now names) (now items) × (now digests ≡ digestsAt (now s) (now names)) ×
-        (31 ≤ length (now offsets)) × Held (now s) (now names) (now out) c ⌝ }
+        (31 ≤ length (now offsets)) × Representing (now s) (now names) (now out) c ⌝ }
     ensures { λ r. ⌜ Runs (now (s .entry)) (now (names .entry)) (now (out .entry)) (now (out .exit))
         (writeFunctions (sheetOf header doxygen (itemsAt (now (s .entry)) (now (names .entry)) (now (items .entry)))))
         c r ⌝ }
@@ -225,7 +225,7 @@ fn write_body(
     out: &mut [u8],
 ) -> usize
     requires { ⌜ Whole (now s) (now names) (now items) × (now digests ≡ digestsAt (now s) (now names)) ×
-        Held (now s) (now names) (now out) c ⌝ }
+        Representing (now s) (now names) (now out) c ⌝ }
     ensures { λ r. ⌜ Ends (now (s .entry)) (now (names .entry)) (now (out .entry)) (now (out .exit))
         (writeFunctions (sheetOf header doxygen (itemsAt (now (s .entry)) (now (names .entry)) (now (items .entry)))))
         c r ⌝ }
@@ -249,8 +249,8 @@ fn write_body(
 pub fn write_text(
     s: &[u8],
     names: &[u32],
-    digests: &[u32],
     items: &[u32],
+    digests: &[u32],
     header: bool,
     doxygen: bool,
     out: &mut [u8],
@@ -260,7 +260,7 @@ pub fn write_text(
         (text (sheetOf header doxygen (itemsAt (now (s .entry)) (now (names .entry)) (now (items .entry)))))
         (sink (now (out .exit)) r) ⌝ }
 {
-    let at = write_forward_declarations(s, names, digests, items, out, 0);
+    let at = write_forward_declarations(s, names, items, digests, out, 0);
     let c = behind_forward(at);
     write_body(s, names, items, digests, header, doxygen, c, out)
 }

@@ -24,8 +24,8 @@ ghost use Rattle.write_sheet.specs.Delivers.{Delivers, Judges};
 fn deliver(
     s: &[u8],
     names: &[u32],
-    digests: &[u32],
     items: &[u32],
+    digests: &[u32],
     header: bool,
     doxygen: bool,
     buf: &mut [u8],
@@ -35,11 +35,11 @@ fn deliver(
         (text (sheetOf header doxygen (itemsAt (now (s .entry)) (now (names .entry)) (now (items .entry)))))
         (now (buf .entry)) r (now (buf .exit)) ⌝ }
 {
-    let length = write_text(s, names, digests, items, header, doxygen, &mut buf[..0]);
+    let length = write_text(s, names, items, digests, header, doxygen, &mut buf[..0]);
     if buf.len() < length {
         return Written::Refused(Refusal::Overrun);
     }
-    write_text(s, names, digests, items, header, doxygen, buf);
+    write_text(s, names, items, digests, header, doxygen, buf);
     Written::Length(length)
 }
 
@@ -48,9 +48,9 @@ fn deliver_with(
     s: &[u8],
     names: &[u32],
     items: &[u32],
+    digests: &mut [u32],
     header: bool,
     doxygen: bool,
-    digests: &mut [u32],
     buf: &mut [u8],
 ) -> Written
     requires { ⌜ Whole (now s) (now names) (now items) × (1023 ≤ length (now digests)) ⌝ }
@@ -60,7 +60,7 @@ fn deliver_with(
 {
     let n = names.len();
     fill_digests(s, names, &mut digests[..n]);
-    deliver(s, names, &digests[..n], items, header, doxygen, buf)
+    deliver(s, names, items, &digests[..n], header, doxygen, buf)
 }
 
 // The text of an accepted sheet.
@@ -78,7 +78,7 @@ fn write_accepted(
         (now (buf .entry)) r (now (buf .exit)) ⌝ }
 {
     let mut digests = [0u32; Outline::NAMES];
-    deliver_with(s, names, items, header, doxygen, &mut digests, buf)
+    deliver_with(s, names, items, &mut digests, header, doxygen, buf)
 }
 
 // Rules 9 to 12, then the text.
@@ -103,7 +103,7 @@ fn write_judged(
 }
 
 // A decoded sheet, with the two tables that its decoding filled.
-fn write_decoded(sheet: &[u8], o: Outline, names: &[u32], items: &[u32], buf: &mut [u8]) -> Written
+fn write_decoded(sheet: &[u8], names: &[u32], items: &[u32], o: Outline, buf: &mut [u8]) -> Written
     requires { ⌜ Tables (now sheet) (decodeOf (now sheet)) o (now names) (now items) ×
         (1023 ≤ length (now names)) × (255 ≤ length (now items)) ⌝ }
     ensures { λ r. ⌜ Writes (now (sheet .entry)) (now (buf .entry)) r (now (buf .exit)) ⌝ }
@@ -116,9 +116,9 @@ fn write_decoded(sheet: &[u8], o: Outline, names: &[u32], items: &[u32], buf: &m
 // The answer to a sheet, from that of its decoding.
 fn answer(
     sheet: &[u8],
-    d: Decoded,
     names: &[u32; Outline::NAMES],
     items: &[u32; Outline::ITEMS],
+    d: Decoded,
     buf: &mut [u8],
 ) -> Written
     requires { ⌜ Answers (now sheet) (decodeOf (now sheet)) d (now names) (now items) ⌝ }
@@ -126,7 +126,7 @@ fn answer(
 {
     match d {
         Decoded::Refused(e) => Written::Refused(e),
-        Decoded::Whole(o) => write_decoded(sheet, o, names, items, buf),
+        Decoded::Whole(o) => write_decoded(sheet, names, items, o, buf),
     }
 }
 
@@ -137,5 +137,5 @@ pub fn write(sheet: &[u8], buf: &mut [u8]) -> Written
     let mut names = [0u32; Outline::NAMES];
     let mut items = [0u32; Outline::ITEMS];
     let d = decode(sheet, &mut names, &mut items);
-    answer(sheet, d, &names, &items, buf)
+    answer(sheet, &names, &items, d, buf)
 }

@@ -1,4 +1,4 @@
--- Written by tools/proofkit from answers/write_items.tpl (599f699c 2c978e1f).
+-- Written by tools/proofkit from answers/write_items.tpl (599f699c cc82a9f8).
 use borrow.Author.Needs.{needs}
 use Prim.Native.Nat.{_≤_, _-_}
 use native.Mathlib.Omega.{arith}
@@ -33,6 +33,7 @@ write-items-spec =
     loop-holds
     (λ c. search needs)
     (λ c κs. search needs)
+    (λ c. search needs)
     add-i
     loop-less
     loop-again

@@ -1,4 +1,4 @@
--- Written by tools/proofkit from answers/+write_entries.tpl (e8d7fe1e 6888fc5f).
+-- Written by tools/proofkit from answers/+write_entries.tpl (e8d7fe1e c2029c4e).
 use native.Mathlib.Omega.{arith}
 use mathlib.Core.Path.{_≡_}
 use mathlib.Core.Bool.{true}
@@ -50,10 +50,10 @@ K-write-entries t = (
 )
 
 abbrev write-entries-Inv-loop : write-entries-lts.InvT-loop
-write-entries-Inv-loop s names digests items leader depth out₀ at n direct deeper here₀ i₀ out here i = (i ≤ length (itemsAt s names items)) × (i < length (itemsAt s names items) → opens (itemsAt s names items) (itemNo s names items (leader .number)) depth i ≡ true) × Wrote (sink out₀ here₀) (namespacesBefore (itemsAt s names items) (itemNo s names items (leader .number)) depth i) (sink out here)
+write-entries-Inv-loop s names items digests leader depth out₀ at n direct deeper here₀ i₀ out here i = (i ≤ length (itemsAt s names items)) × (i < length (itemsAt s names items) → opens (itemsAt s names items) (itemNo s names items (leader .number)) depth i ≡ true) × Wrote (sink out₀ here₀) (namespacesBefore (itemsAt s names items) (itemNo s names items (leader .number)) depth i) (sink out here)
 
 abbrev write-entries-μ-loop : write-entries-lts.MeasureT-loop
-write-entries-μ-loop s names digests items leader depth out₀ at n direct deeper here₀ i₀ out here i = length items - i
+write-entries-μ-loop s names items digests leader depth out₀ at n direct deeper here₀ i₀ out here i = length items - i
 
 write-entries-cast-n : (t : ℕ) → write-entries-lts.Need-cast-n (K-write-entries t) (write-entries-at t) write-entries.Post write-entries-Inv-loop write-entries-μ-loop
 write-entries-cast-n t c = omega (arith, c .before .before .before .before .before .pre .1 .0 .few)

@@ -1,4 +1,4 @@
--- Written by tools/proofkit from answers/write_direct.tpl (82d5e015 800a2ab9).
+-- Written by tools/proofkit from answers/write_direct.tpl (82d5e015 9be05954).
 use native.Mathlib.Omega.{arith}
 use Prim.Native.Nat.{_≤_, _-_}
 use lib.ListN.{length}
@@ -13,10 +13,10 @@ use Rattle.forward.proofs.write_direct.Statement.{statement}
 use Rattle.forward.proofs.write_direct.Tie as tie
 
 abbrev Inv-loop : tie.InvT-loop
-Inv-loop s names digests items leader depth out₀ at n here₀ i₀ out here i = (i ≤ length items) × Wrote (sink out₀ here₀) (directBefore (itemsAt s names items) (itemNo s names items (leader .number)) depth i) (sink out here)
+Inv-loop s names items digests leader depth out₀ at n here₀ i₀ out here i = (i ≤ length items) × Wrote (sink out₀ here₀) (directBefore (itemsAt s names items) (itemNo s names items (leader .number)) depth i) (sink out here)
 
 abbrev μ-loop : tie.MeasureT-loop
-μ-loop s names digests items leader depth out₀ at n here₀ i₀ out here i = length items - i
+μ-loop s names items digests leader depth out₀ at n here₀ i₀ out here i = length items - i
 
 cast-n : tie.Need-cast-n Inv-loop μ-loop
 cast-n c = omega (arith, c .before .before .before .before .before .pre .0 .few)

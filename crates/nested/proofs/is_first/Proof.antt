@@ -1,4 +1,4 @@
--- Written by tools/proofkit from answers/is_first.tpl (2e60de44 aae58573).
+-- Written by tools/proofkit from answers/is_first.tpl (2e60de44 d8618acc).
 use native.Mathlib.Omega.{arith}
 use mathlib.Core.Path.{_≡_}
 use mathlib.Core.Bool.{false}
@@ -12,10 +12,10 @@ use Rattle.nested.proofs.is_first.Statement.{statement}
 use Rattle.nested.proofs.is_first.Tie as tie
 
 abbrev Inv-loop : tie.InvT-loop
-Inv-loop s names digests items v depth n k₀ k = (k ≤ v .number) × (any (belongs (itemNo s names items (v .number)) depth) (take k (itemsAt s names items)) ≡ false)
+Inv-loop s names items digests v depth n k₀ k = (k ≤ v .number) × (any (belongs (itemNo s names items (v .number)) depth) (take k (itemsAt s names items)) ≡ false)
 
 abbrev μ-loop : tie.MeasureT-loop
-μ-loop s names digests items v depth n k₀ k = v .number - k
+μ-loop s names items digests v depth n k₀ k = v .number - k
 
 loop-holds : tie.Need-loop-holds Inv-loop μ-loop
 loop-holds c = (omega arith, first-begin _ _ _ (c .before .before .before .before .pre .2) _)

@@ -1,4 +1,4 @@
--- Written by tools/proofkit from answers/next_namespace.tpl (ee59bb07 5a68641e).
+-- Written by tools/proofkit from answers/next_namespace.tpl (ee59bb07 d77bc495).
 use native.Mathlib.Omega.{arith}
 use mathlib.Core.Path.{_≡_, refl}
 use Prim.Native.Nat.{_≤_, _-_}
@@ -10,10 +10,10 @@ use Rattle.nested.proofs.next_namespace.Statement.{statement}
 use Rattle.nested.proofs.next_namespace.Tie as tie
 
 abbrev Inv-loop : tie.InvT-loop
-Inv-loop s names digests items leader depth from n i₀ i = (from ≤ i) × (i ≤ length items) × (namesBefore (itemsAt s names items) (itemNo s names items (leader .number)) depth i ≡ namesBefore (itemsAt s names items) (itemNo s names items (leader .number)) depth from)
+Inv-loop s names items digests leader depth from n i₀ i = (from ≤ i) × (i ≤ length items) × (namesBefore (itemsAt s names items) (itemNo s names items (leader .number)) depth i ≡ namesBefore (itemsAt s names items) (itemNo s names items (leader .number)) depth from)
 
 abbrev μ-loop : tie.MeasureT-loop
-μ-loop s names digests items leader depth from n i₀ i = length items - i
+μ-loop s names items digests leader depth from n i₀ i = length items - i
 
 cast-n : tie.Need-cast-n Inv-loop μ-loop
 cast-n c = omega (arith, c .before .before .before .before .pre .0 .few)

@@ -1,4 +1,4 @@
--- Written by tools/proofkit from answers/shares.tpl (074a58bb 26e3365b).
+-- Written by tools/proofkit from answers/shares.tpl (074a58bb e98843b5).
 use native.Mathlib.Omega.{arith}
 use mathlib.Core.Path.{_≡_}
 use Prim.Native.Nat.{_≤_, _-_}
@@ -10,10 +10,10 @@ use Rattle.nested.proofs.shares.Statement.{statement}
 use Rattle.nested.proofs.shares.Tie as tie
 
 abbrev Inv-loop : tie.InvT-loop
-Inv-loop s names digests items v w depth d₀ d = (d ≤ depth) × (shared depth (itemNo s names items (v .number) .namespace) (itemNo s names items (w .number) .namespace) ≡ shared (depth - d) (drop d (itemNo s names items (v .number) .namespace)) (drop d (itemNo s names items (w .number) .namespace)))
+Inv-loop s names items digests v w depth d₀ d = (d ≤ depth) × (shared depth (itemNo s names items (v .number) .namespace) (itemNo s names items (w .number) .namespace) ≡ shared (depth - d) (drop d (itemNo s names items (v .number) .namespace)) (drop d (itemNo s names items (w .number) .namespace)))
 
 abbrev μ-loop : tie.MeasureT-loop
-μ-loop s names digests items v w depth d₀ d = depth - d
+μ-loop s names items digests v w depth d₀ d = depth - d
 
 returns : tie.Need-returns Inv-loop μ-loop
 returns c = first-short (c .before .before .before .before .before .before .pre .2) (c .before .before .before .before .before .before .pre .3) _ (omega arith)

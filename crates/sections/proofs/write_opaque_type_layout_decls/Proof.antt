@@ -1,22 +1,22 @@
--- Written by tools/proofkit from answers/write_opaque_type_layout_decls.tpl (861a7d7b 143f300f).
+-- Written by tools/proofkit from answers/write_opaque_type_layout_decls.tpl (bd7de431 1f32ef79).
 use borrow.Author.Needs.{needs}
 use native.Mathlib.Omega.{arith}
 use Rattle.bridge.specs.Write.{writeOpaqueTypeLayoutDecls}
 use Rattle.pieces.proofs.TextPieces.{some-layout-decl}
 use Rattle.sink.proofs.SinkLaws.{_▷_}
-use Rattle.sections.proofs.StateLaws.{held-stood, stood-set, stood-turned, stood-ready, stood-placed, stood-standing}
+use Rattle.sections.proofs.StateLaws.{representing-stood, stood-set, stood-turned, stood-ready, stood-placed, stood-standing}
 use Rattle.sections.proofs.StateLaws.{stood-listed, runs-declared-two}
 use Rattle.sections.proofs.write_opaque_type_layout_decls.Statement.{statement}
 use Rattle.sections.proofs.write_opaque_type_layout_decls.Tie as tie
 
 set-namespace-requires : tie.Need-set-namespace-requires
-set-namespace-requires c κs = (c .before .before .before .before .before .pre .0, c .before .before .before .before .before .pre .1, stood-standing (held-stood (c .before .before .before .before .before .pre .3)), c .before .before .before .before .before .pre .2)
+set-namespace-requires c κs = (c .before .before .before .before .before .pre .0, c .before .before .before .before .before .pre .1, stood-standing (representing-stood (c .before .before .before .before .before .pre .3)), c .before .before .before .before .before .pre .2)
 
 begin-extern-c-requires : tie.Need-begin-extern-c-requires
-begin-extern-c-requires c κs = (c .before .before .before .before .before .before .pre .0 .named, c .before .before .before .before .before .before .pre .1, stood-standing (stood-set (held-stood (c .before .before .before .before .before .before .pre .3)) (c .set-namespace .ensures)))
+begin-extern-c-requires c κs = (c .before .before .before .before .before .before .pre .0 .named, c .before .before .before .before .before .before .pre .1, stood-standing (stood-set (representing-stood (c .before .before .before .before .before .before .pre .3)) (c .set-namespace .ensures)))
 
 prepare-requires : tie.Need-prepare-requires
-prepare-requires c κs = (c .before .before .before .before .before .before .before .before .pre .0 .named, stood-listed (stood-turned (stood-set (held-stood (c .before .before .before .before .before .before .before .before .pre .3)) (c .before .before .set-namespace .ensures)) (c .before .begin-extern-c .ensures)))
+prepare-requires c κs = (c .before .before .before .before .before .before .before .before .pre .0 .named, stood-listed (stood-turned (stood-set (representing-stood (c .before .before .before .before .before .before .before .before .pre .3)) (c .before .before .set-namespace .ensures)) (c .before .begin-extern-c .ensures)))
 
 write-layout-decl-requires : tie.Need-write-layout-decl-requires
 write-layout-decl-requires c κs = (c .before .before .before .before .before .before .before .before .before .before .before .before .before .pre .0, c .before .before .before .before .before .before .before .before .before .before .before .before .before .pre .2)
@@ -25,7 +25,7 @@ write-layout-decl-requires-2 : tie.Need-write-layout-decl-requires-2
 write-layout-decl-requires-2 c κs = (c .before .before .before .before .before .before .before .before .before .before .before .before .before .before .before .before .before .before .pre .0, c .before .before .before .before .before .before .before .before .before .before .before .before .before .before .before .before .before .before .pre .2)
 
 end-extern-c-requires : tie.Need-end-extern-c-requires
-end-extern-c-requires c κs = (c .before .before .before .before .before .before .before .before .before .before .before .before .before .before .before .before .before .before .before .before .before .before .pre .0 .named, c .before .before .before .before .before .before .before .before .before .before .before .before .before .before .before .before .before .before .before .before .before .before .pre .1, stood-standing (stood-placed (stood-ready (stood-turned (stood-set (held-stood (c .before .before .before .before .before .before .before .before .before .before .before .before .before .before .before .before .before .before .before .before .before .before .pre .3)) (c .before .before .before .before .before .before .before .before .before .before .before .before .before .before .before .before .set-namespace .ensures)) (c .before .before .before .before .before .before .before .before .before .before .before .before .before .before .before .begin-extern-c .ensures)) (c .before .before .before .before .before .before .before .before .before .before .before .before .before .prepare .ensures)) (c .before .before .before .before .before .before .before .before .write-layout-decl .ensures ▷ c .before .before .before .write-layout-decl2 .ensures) (c .placed .ensures)))
+end-extern-c-requires c κs = (c .before .before .before .before .before .before .before .before .before .before .before .before .before .before .before .before .before .before .before .before .before .before .pre .0 .named, c .before .before .before .before .before .before .before .before .before .before .before .before .before .before .before .before .before .before .before .before .before .before .pre .1, stood-standing (stood-placed (stood-ready (stood-turned (stood-set (representing-stood (c .before .before .before .before .before .before .before .before .before .before .before .before .before .before .before .before .before .before .before .before .before .before .pre .3)) (c .before .before .before .before .before .before .before .before .before .before .before .before .before .before .before .before .set-namespace .ensures)) (c .before .before .before .before .before .before .before .before .before .before .before .before .before .before .before .begin-extern-c .ensures)) (c .before .before .before .before .before .before .before .before .before .before .before .before .before .prepare .ensures)) (c .before .before .before .before .before .before .before .before .write-layout-decl .ensures ▷ c .before .before .before .write-layout-decl2 .ensures) (c .placed .ensures)))
 
 same-length : tie.Need-same-length
 same-length c = omega (arith, c .before .before .before .before .before .before .before .before .before .before .before .before .before .before .prepare .kept, c .before .before .before .before .before .before .before .before .before .write-layout-decl .kept, c .before .before .before .before .write-layout-decl2 .kept)

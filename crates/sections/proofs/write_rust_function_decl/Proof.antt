@@ -1,27 +1,27 @@
--- Written by tools/proofkit from answers/write_rust_function_decl.tpl (bee221c6 40843562).
+-- Written by tools/proofkit from answers/write_rust_function_decl.tpl (335cef02 673e82d0).
 use borrow.Author.Needs.{needs}
 use native.Mathlib.Omega.{arith}
 use Rattle.bridge.specs.Write.{writeRustFunctionDecl}
 use Rattle.pieces.proofs.TextPieces.{some-function-decl}
-use Rattle.sections.proofs.StateLaws.{held-stood, stood-set, stood-turned, stood-asked, stood-ready, stood-placed}
+use Rattle.sections.proofs.StateLaws.{representing-stood, stood-set, stood-turned, stood-asked, stood-ready, stood-placed}
 use Rattle.sections.proofs.StateLaws.{stood-standing, stood-listed, runs-declared}
 use Rattle.sections.proofs.write_rust_function_decl.Statement.{statement}
 use Rattle.sections.proofs.write_rust_function_decl.Tie as tie
 
 set-namespace-requires : tie.Need-set-namespace-requires
-set-namespace-requires c κs = (c .before .before .before .before .before .before .before .before .before .before .before .pre .0, c .before .before .before .before .before .before .before .before .before .before .before .pre .1, stood-standing (held-stood (c .before .before .before .before .before .before .before .before .before .before .before .pre .5)), c .before .before .before .before .before .before .before .before .before .before .before .pre .2)
+set-namespace-requires c κs = (c .before .before .before .before .before .before .before .before .before .before .before .pre .0, c .before .before .before .before .before .before .before .before .before .before .before .pre .1, stood-standing (representing-stood (c .before .before .before .before .before .before .before .before .before .before .before .pre .5)), c .before .before .before .before .before .before .before .before .before .before .before .pre .2)
 
 begin-extern-c-requires : tie.Need-begin-extern-c-requires
-begin-extern-c-requires c κs = (c .before .before .before .before .before .before .before .before .before .before .before .before .pre .0 .named, c .before .before .before .before .before .before .before .before .before .before .before .before .pre .1, stood-standing (stood-set (held-stood (c .before .before .before .before .before .before .before .before .before .before .before .before .pre .5)) (c .set-namespace .ensures)))
+begin-extern-c-requires c κs = (c .before .before .before .before .before .before .before .before .before .before .before .before .pre .0 .named, c .before .before .before .before .before .before .before .before .before .before .before .before .pre .1, stood-standing (stood-set (representing-stood (c .before .before .before .before .before .before .before .before .before .before .before .before .pre .5)) (c .set-namespace .ensures)))
 
 prepare-requires : tie.Need-prepare-requires
-prepare-requires c κs = (c .before .before .before .before .before .before .before .before .before .before .before .before .before .before .before .pre .0 .named, stood-listed (stood-asked (stood-turned (stood-set (held-stood (c .before .before .before .before .before .before .before .before .before .before .before .before .before .before .before .pre .5)) (c .before .before .before .set-namespace .ensures)) (c .before .before .begin-extern-c .ensures)) (c .before .next-section .ensures)))
+prepare-requires c κs = (c .before .before .before .before .before .before .before .before .before .before .before .before .before .before .before .pre .0 .named, stood-listed (stood-asked (stood-turned (stood-set (representing-stood (c .before .before .before .before .before .before .before .before .before .before .before .before .before .before .before .pre .5)) (c .before .before .before .set-namespace .ensures)) (c .before .before .begin-extern-c .ensures)) (c .before .next-section .ensures)))
 
 write-function-decl-requires : tie.Need-write-function-decl-requires
 write-function-decl-requires c κs = (c .before .before .before .before .before .before .before .before .before .before .before .before .before .before .before .before .before .before .before .before .pre .0, c .before .before .before .before .before .before .before .before .before .before .before .before .before .before .before .before .before .before .before .before .pre .2, c .before .before .before .before .before .before .before .before .before .before .before .before .before .function .ensures .1, c .before .before .before .before .before .before .before .before .before .before .before .before .before .function .ensures .0, c .before .before .before .before .before .before .before .before .before .before .before .fill-arguments .ensures .0, omega (arith, c .before .before .before .before .before .before .before .before .before .before .before .before .before .function .ensures .1 .view .few, c .before .before .before .before .before .before .before .before .before .before .before .fill-arguments .kept, c .before .before .before .before .before .before .before .before .before .before .before .before .before .before .before .before .before .before .before .before .pre .4))
 
 end-extern-c-requires : tie.Need-end-extern-c-requires
-end-extern-c-requires c κs = (c .before .before .before .before .before .before .before .before .before .before .before .before .before .before .before .before .before .before .before .before .before .before .before .before .pre .0 .named, c .before .before .before .before .before .before .before .before .before .before .before .before .before .before .before .before .before .before .before .before .before .before .before .before .pre .1, stood-standing (stood-placed (stood-ready (stood-asked (stood-turned (stood-set (held-stood (c .before .before .before .before .before .before .before .before .before .before .before .before .before .before .before .before .before .before .before .before .before .before .before .before .pre .5)) (c .before .before .before .before .before .before .before .before .before .before .before .before .set-namespace .ensures)) (c .before .before .before .before .before .before .before .before .before .before .before .begin-extern-c .ensures)) (c .before .before .before .before .before .before .before .before .before .before .next-section .ensures)) (c .before .before .before .before .before .before .before .before .prepare .ensures)) (c .before .before .before .write-function-decl .ensures) (c .placed .ensures)))
+end-extern-c-requires c κs = (c .before .before .before .before .before .before .before .before .before .before .before .before .before .before .before .before .before .before .before .before .before .before .before .before .pre .0 .named, c .before .before .before .before .before .before .before .before .before .before .before .before .before .before .before .before .before .before .before .before .before .before .before .before .pre .1, stood-standing (stood-placed (stood-ready (stood-asked (stood-turned (stood-set (representing-stood (c .before .before .before .before .before .before .before .before .before .before .before .before .before .before .before .before .before .before .before .before .before .before .before .before .pre .5)) (c .before .before .before .before .before .before .before .before .before .before .before .before .set-namespace .ensures)) (c .before .before .before .before .before .before .before .before .before .before .before .begin-extern-c .ensures)) (c .before .before .before .before .before .before .before .before .before .before .next-section .ensures)) (c .before .before .before .before .before .before .before .before .prepare .ensures)) (c .before .before .before .write-function-decl .ensures) (c .placed .ensures)))
 
 same-length : tie.Need-same-length
 same-length c = omega (arith, c .before .before .before .before .before .before .before .before .before .before .before .before .before .before .before .before .fill-arguments .kept)

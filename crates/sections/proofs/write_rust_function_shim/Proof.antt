@@ -1,23 +1,23 @@
--- Written by tools/proofkit from answers/write_rust_function_shim.tpl (a6f10855 05a82729).
+-- Written by tools/proofkit from answers/write_rust_function_shim.tpl (ed30e578 7f6af034).
 use borrow.Author.Needs.{needs}
 use native.Mathlib.Omega.{arith}
 use mathlib.Core.Path.{sym, _∙_}
 use Rattle.view.specs.Values.{functionAt}
 use Rattle.pieces.proofs.TextPieces.{some-shim}
-use Rattle.sections.proofs.StateLaws.{held-stood, stood-set, stood-asked, stood-standing, stood-listed}
+use Rattle.sections.proofs.StateLaws.{representing-stood, stood-set, stood-asked, stood-standing, stood-listed}
 use Rattle.sections.proofs.StateLaws.{runs-as, runs-then, runs-asked, runs-set, runs-written}
 use Rattle.sections.proofs.ShimLaws.{hidden-shim, shown-shim}
 use Rattle.sections.proofs.write_rust_function_shim.Statement.{statement}
 use Rattle.sections.proofs.write_rust_function_shim.Tie as tie
 
 set-namespace-requires : tie.Need-set-namespace-requires
-set-namespace-requires c κs = (c .before .before .before .before .before .before .before .before .before .before .before .before .pre .0, c .before .before .before .before .before .before .before .before .before .before .before .before .pre .1, stood-standing (stood-asked (held-stood (c .before .before .before .before .before .before .before .before .before .before .before .before .pre .5)) (c .next-section .ensures)), c .before .before .before .before .before .before .before .before .before .before .before .before .pre .2)
+set-namespace-requires c κs = (c .before .before .before .before .before .before .before .before .before .before .before .before .pre .0, c .before .before .before .before .before .before .before .before .before .before .before .before .pre .1, stood-standing (stood-asked (representing-stood (c .before .before .before .before .before .before .before .before .before .before .before .before .pre .5)) (c .next-section .ensures)), c .before .before .before .before .before .before .before .before .before .before .before .before .pre .2)
 
 returns : tie.Need-returns
 returns c = runs-as (hidden-shim _ _ (functionAt _ _ _) (c .before .before .before .before .before .before .before .before .function .result .form) (c .before .before .before .before .before .before .before .before .function .result .owner) (c .before .before .before .before .before .before .before .before .function .ensures .0) (c .before .before .before .before .before .before .before .before .function .ensures .1 .view .form) (sym (c .before .is-hidden .ensures) ∙ c .if1 .taken)) (runs-then (runs-asked (c .before .before .before .next-section .ensures)) (runs-set (c .before .before .set-namespace .ensures)))
 
 prepare-requires : tie.Need-prepare-requires
-prepare-requires c κs = (c .before .before .before .before .before .before .before .before .before .before .before .before .before .before .before .before .pre .0 .named, stood-listed (stood-set (stood-asked (held-stood (c .before .before .before .before .before .before .before .before .before .before .before .before .before .before .before .before .pre .5)) (c .before .before .before .before .next-section .ensures)) (c .before .before .before .set-namespace .ensures)))
+prepare-requires c κs = (c .before .before .before .before .before .before .before .before .before .before .before .before .before .before .before .before .pre .0 .named, stood-listed (stood-set (stood-asked (representing-stood (c .before .before .before .before .before .before .before .before .before .before .before .before .before .before .before .before .pre .5)) (c .before .before .before .before .next-section .ensures)) (c .before .before .before .set-namespace .ensures)))
 
 write-function-shim-requires : tie.Need-write-function-shim-requires
 write-function-shim-requires c κs = (c .before .before .before .before .before .before .before .before .before .before .before .before .before .before .before .before .before .before .before .before .before .pre .0, c .before .before .before .before .before .before .before .before .before .before .before .before .before .before .before .before .before .before .before .before .before .pre .2, c .before .before .before .before .before .before .before .before .before .before .before .before .before .before .function .ensures .1, c .before .before .before .before .before .before .before .before .before .before .before .before .before .before .function .ensures .0, c .before .before .before .before .before .before .before .before .before .before .before .before .fill-arguments .ensures .0, omega (arith, c .before .before .before .before .before .before .before .before .before .before .before .before .before .before .function .ensures .1 .view .few, c .before .before .before .before .before .before .before .before .before .before .before .before .fill-arguments .kept, c .before .before .before .before .before .before .before .before .before .before .before .before .before .before .before .before .before .before .before .before .before .pre .4), c .before .before .before .before .before .before .before .before .before .before .before .before .fill-arguments .ensures .1)

@@ -1,4 +1,4 @@
--- Written by tools/proofkit from answers/declare_all.tpl (bdf5bb53 039b90cd).
+-- Written by tools/proofkit from answers/declare_all.tpl (cf58be98 34f645a1).
 use borrow.Author.Needs.{needs}
 use native.Mathlib.Omega.{arith}
 use mathlib.Core.Path.{_≡_, refl}
@@ -6,7 +6,7 @@ use Prim.Native.Nat.{_-_}
 use lib.ListN.{length}
 use Rattle.view.specs.Values.{itemsAt}
 use Rattle.sections.specs.Runs.{sheetOf}
-use Rattle.sections.proofs.StateLaws.{held-after}
+use Rattle.sections.proofs.StateLaws.{representing-after}
 use Rattle.write.specs.Passes.{declareItem}
 use Rattle.write.proofs.PassLaws.{Passed, pass-none, pass-next, pass-all}
 use Rattle.write.proofs.declare_all.Statement.{statement}
@@ -22,7 +22,7 @@ loop-holds : tie.Need-loop-holds Inv-loop μ-loop
 loop-holds c = (pass-none _ _ _ _ _ _, refl, refl)
 
 declare-requires : tie.Need-declare-requires Inv-loop μ-loop
-declare-requires c κs = (c .before .before .before .before .before .before .before .before .before .before .pre .0, c .before .before .before .before .before .before .before .before .before .before .pre .1, c .before .before .loop-test .taken, omega (arith, c .before .before .before .loop .inv .1, c .before .before .before .before .before .before .before .before .before .before .pre .2), held-after (c .before .before .before .before .before .before .before .before .before .before .pre .3) (c .before .before .before .loop .inv .0 .runs))
+declare-requires c κs = (c .before .before .before .before .before .before .before .before .before .before .pre .0, c .before .before .before .before .before .before .before .before .before .before .pre .1, c .before .before .loop-test .taken, omega (arith, c .before .before .before .loop .inv .1, c .before .before .before .before .before .before .before .before .before .before .pre .2), representing-after (c .before .before .before .before .before .before .before .before .before .before .pre .3) (c .before .before .before .loop .inv .0 .runs))
 
 add-i : tie.Need-add-i Inv-loop μ-loop
 add-i c = omega (arith, c .before .before .before .before .before .before .before .loop-test .taken, c .before .before .before .before .before .before .before .before .before .before .before .before .before .before .before .pre .0 .few)

@@ -1,4 +1,4 @@
--- Written by tools/proofkit from answers/define_all.tpl (e56faf81 6e9e9dea).
+-- Written by tools/proofkit from answers/define_all.tpl (2ac3467e 5b531554).
 use borrow.Author.Needs.{needs}
 use native.Mathlib.Omega.{arith}
 use mathlib.Core.Path.{_≡_, refl}
@@ -6,7 +6,7 @@ use Prim.Native.Nat.{_-_}
 use lib.ListN.{length}
 use Rattle.view.specs.Values.{itemsAt}
 use Rattle.sections.specs.Runs.{sheetOf}
-use Rattle.sections.proofs.StateLaws.{held-after}
+use Rattle.sections.proofs.StateLaws.{representing-after}
 use Rattle.write.specs.Passes.{defineItem}
 use Rattle.write.proofs.PassLaws.{Passed, pass-none, pass-next, pass-all}
 use Rattle.write.proofs.define_all.Statement.{statement}
@@ -22,7 +22,7 @@ loop-holds : tie.Need-loop-holds Inv-loop μ-loop
 loop-holds c = (pass-none _ _ _ _ _ _, refl, refl)
 
 define-requires : tie.Need-define-requires Inv-loop μ-loop
-define-requires c κs = (c .before .before .before .before .before .before .before .before .before .before .pre .0, c .before .before .before .before .before .before .before .before .before .before .pre .1, c .before .before .loop-test .taken, omega (arith, c .before .before .before .loop .inv .1, c .before .before .before .before .before .before .before .before .before .before .pre .2), held-after (c .before .before .before .before .before .before .before .before .before .before .pre .3) (c .before .before .before .loop .inv .0 .runs))
+define-requires c κs = (c .before .before .before .before .before .before .before .before .before .before .pre .0, c .before .before .before .before .before .before .before .before .before .before .pre .1, c .before .before .loop-test .taken, omega (arith, c .before .before .before .loop .inv .1, c .before .before .before .before .before .before .before .before .before .before .pre .2), representing-after (c .before .before .before .before .before .before .before .before .before .before .pre .3) (c .before .before .before .loop .inv .0 .runs))
 
 add-i : tie.Need-add-i Inv-loop μ-loop
 add-i c = omega (arith, c .before .before .before .before .before .before .before .loop-test .taken, c .before .before .before .before .before .before .before .before .before .before .before .before .before .before .before .pre .0 .few)

@@ -1,13 +1,13 @@
--- Written by tools/proofkit from answers/write_body.tpl (b9224740 60e3c802).
+-- Written by tools/proofkit from answers/write_body.tpl (7a1f759e 4c4cea80).
 use borrow.Author.Needs.{needs}
 use native.Mathlib.Omega.{arith}
-use Rattle.sections.proofs.StateLaws.{held-after, held-stood, stood-standing}
+use Rattle.sections.proofs.StateLaws.{representing-after, representing-stood, stood-standing}
 use Rattle.write.proofs.PassLaws.{ends-flushed}
 use Rattle.write.proofs.write_body.Statement.{statement}
 use Rattle.write.proofs.write_body.Tie as tie
 
 flush-requires : tie.Need-flush-requires
-flush-requires c κs = (c .before .before .before .before .before .before .before .before .before .before .before .before .pre .0 .named, c .before .before .before .before .before .before .before .before .before .before .before .before .pre .1, stood-standing (held-stood (held-after (c .before .before .before .before .before .before .before .before .before .before .before .before .pre .2) (c .before .before .before .before .write-functions .ensures))))
+flush-requires c κs = (c .before .before .before .before .before .before .before .before .before .before .before .before .pre .0 .named, c .before .before .before .before .before .before .before .before .before .before .before .before .pre .1, stood-standing (representing-stood (representing-after (c .before .before .before .before .before .before .before .before .before .before .before .before .pre .2) (c .before .before .before .before .write-functions .ensures))))
 
 returns : tie.Need-returns
 returns c = ends-flushed (c .before .before .before .before .before .before .before .write-functions .ensures) (c .before .before .flush .ensures)

@@ -1,13 +1,15 @@
--- Written by tools/proofkit from answers/Content/new.tpl (38cb17f0 31259e63).
+-- Written by tools/proofkit from answers/Content/new.tpl (ae731e88 3a1bad52).
+use borrow.Author.Needs.{needs}
 use Rattle.out.proofs.StateLaws.{starts}
 use Rattle.out.proofs.Content.new.Statement.{statement}
 use Rattle.out.proofs.Content.new.Tie as tie
 
 returns : tie.Need-returns
-returns c = starts
+returns c = rw (c .new .ensures) starts
 
 pub new-spec : {M : Type 1} → statement M
 new-spec =
     tie.close
     (tie.spec
+    (λ c κs. search needs)
     returns)
