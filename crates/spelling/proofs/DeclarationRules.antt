@@ -23,7 +23,7 @@ use Rattle.syntax.specs.Types.{needsIndirectAbi}
 use Rattle.decoded.specs.Fits.{depth, partsFit, typeFits, returnFits, argumentFits, formFits}
 use Rattle.decoded.proofs.Decoded.{fits-depth, fits-parts, fits}
 use Rattle.decoded.proofs.Kept.{argument-name, argument-type, ItemKept, FunctionKept}
-use Rattle.bridge.specs.Write.{indirectReturn, Shape, shape, slotOf, slot}
+use Rattle.bridge.specs.Write.{indirectReturn, Shape, shape, returnedIf, slot}
 use Rattle.grammar.specs.Types as Cxx
 use Rattle.grammar.specs.Types.{CxxType}
 use Rattle.grammar.specs.Tree as Tree
@@ -64,7 +64,7 @@ pub slot-few : (items : List Item) (f : Function) → length (slot items f) ≤ 
 unfolding slot
 slot-few items f = go (indirectReturn items f (f .return)) (f .return)
   where
-    go : (indirect : Bool) (r : Ret) → length (slotOf indirect r) ≤ 1
+    go : (indirect : Bool) (r : Ret) → length (returnedIf indirect r) ≤ 1
     go indirect none = omega arith
     go true (gives t) = omega arith
     go false (gives t) = omega arith
