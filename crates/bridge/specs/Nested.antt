@@ -12,38 +12,38 @@ filter test [] = []
 filter test (x ∷ xs) = pick (test x) (x ∷ filter test xs) (filter test xs)
 
 -- `api.namespace().iter().nth(depth)`, in a list of none or one
-abbrev pub first : List Name → List Name
-first [] = []
-first (n ∷ ns) = n ∷ []
+abbrev pub firstName : List Name → List Name
+firstName [] = []
+firstName (n ∷ ns) = n ∷ []
 
 unfoldable pub nth : ℕ → Item → List Name
-nth depth x = first (drop depth (x .namespace))
+nth depth x = firstName (drop depth (x .namespace))
 
-abbrev pub none : List Name → Bool
-none [] = true
-none (n ∷ ns) = false
+abbrev pub isEmpty : List Name → Bool
+isEmpty [] = true
+isEmpty (n ∷ ns) = false
 
-abbrev pub isName : Name → List Name → Bool
-isName name [] = false
-isName name (n ∷ ns) = same name n
+abbrev pub startsWith : Name → List Name → Bool
+startsWith name [] = false
+startsWith name (n ∷ ns) = same name n
 
 -- the items whose namespace ends at this depth
 unfoldable pub directContent : ℕ → List Item → List Item
-directContent depth apis = filter (λ x. none (nth depth x)) apis
+directContent depth apis = filter (λ x. isEmpty (nth depth x)) apis
 
 -- the items that lie in the inner namespace
-unfoldable pub inner : ℕ → Name → List Item → List Item
-inner depth name apis = filter (λ x. isName name (nth depth x)) apis
+unfoldable pub nestedContent : ℕ → Name → List Item → List Item
+nestedContent depth name apis = filter (λ x. startsWith name (nth depth x)) apis
 
 -- the names, each where it first appears, without those seen before
 unfoldable pub distinct : List Name → List Name → List Name
 distinct seen [] = []
 distinct seen (n ∷ ns) = pick (member n seen) (distinct seen ns) (n ∷ distinct (n ∷ seen) ns)
 
-unfoldable pub names : ℕ → List Item → List Name
-names depth [] = []
-names depth (x ∷ xs) = nth depth x ++ names depth xs
+unfoldable pub nthNames : ℕ → List Item → List Name
+nthNames depth [] = []
+nthNames depth (x ∷ xs) = nth depth x ++ nthNames depth xs
 
 -- the inner namespaces at this depth
 unfoldable pub nestedNames : ℕ → List Item → List Name
-nestedNames depth apis = distinct [] (names depth apis)
+nestedNames depth apis = distinct [] (nthNames depth apis)

@@ -7,6 +7,7 @@ use lib.Dec.{eqb}
 use lib.ListN.{length, replicate}
 use Rattle.lexical.specs.Bytes.{bytes, same}
 use Rattle.lexical.specs.Decimal.{pickText}
+use Rattle.format.specs.Limits.{mostNamespaces}
 use Rattle.format.specs.Decode.{pick}
 use Rattle.format.specs.declared.Template.{Template}
 use Rattle.format.specs.declared.Template.the-variants.{RustBox, RustVec, UniquePtr, SharedPtr, WeakPtr, CxxVector}
@@ -21,7 +22,7 @@ use Rattle.syntax.specs.Types.{needsIndirectAbi, isRustString}
 use Rattle.rules.specs.Rules.{gather, isMethod}
 use Rattle.bridge.specs.Block.{externC}
 use Rattle.bridge.specs.Out.{Content, new, nextSection, beginBlock, endBlock, setNamespace, write, flush}
-use Rattle.bridge.specs.Nested.{filter, directContent, inner, nestedNames}
+use Rattle.bridge.specs.Nested.{filter, directContent, nestedContent, nestedNames}
 use Rattle.bridge.specs.WriteType.{writeAtom, constUnless, spaceAfterType, writeType, writeTypeSpace}
 use Rattle.bridge.specs.WriteType.{writeReturnType}
 
@@ -49,18 +50,18 @@ indent depth = replicate (2 * depth) 32
 unfoldable pub writeDirect : ℕ → List Item → List ℕ
 writeDirect depth apis = gather (λ x. indent depth ++ forwardLine x (x .body)) (directContent depth apis)
 
--- the inner `write`, at a depth below which so many levels are left; no namespace is deeper than 7
+-- the inner `write`, at a depth below which so many levels are left
 unfoldable pub writeEntries : ℕ → ℕ → List Item → List ℕ
 writeEntries zero depth apis = writeDirect depth apis
 writeEntries (suc levels) depth apis =
     writeDirect depth apis
     ++ gather
     (λ name. indent depth ++ bytes "namespace " ++ name ++ bytes " {\n"
-    ++ writeEntries levels (depth + 1) (inner depth name apis) ++ indent depth ++ bytes "}\n")
+    ++ writeEntries levels (depth + 1) (nestedContent depth name apis) ++ indent depth ++ bytes "}\n")
     (nestedNames depth apis)
 
 unfoldable pub forwardDeclarations : List Item → List ℕ
-forwardDeclarations items = writeEntries 7 0 (filter (λ x. needsForwardDeclaration (x .body)) items)
+forwardDeclarations items = writeEntries mostNamespaces 0 (filter (λ x. needsForwardDeclaration (x .body)) items)
 
 -- ---- declarations
 
@@ -156,13 +157,14 @@ slotType items t str = writeType items t
 slotType items t sliceRef = writeType items t
 slotType items t other = writeType items t
 
--- the type of the return slot, in a list of none or one
-abbrev pub slotOf : Bool → Ret → List Ty
-slotOf indirect none = []
-slotOf indirect (gives t) = pick indirect (t ∷ []) []
+-- the type that is returned, where the test holds, in a list of none or one
+abbrev pub returnedIf : Bool → Ret → List Ty
+returnedIf test none = []
+returnedIf test (gives t) = pick test (t ∷ []) []
 
+-- the type of the return slot
 unfoldable pub slot : List Item → Function → List Ty
-slot items f = slotOf (indirectReturn items f (f .return)) (f .return)
+slot items f = returnedIf (indirectReturn items f (f .return)) (f .return)
 
 -- the parameters of the declaration
 unfoldable pub externParameters : List Item → Function → List (List ℕ)
@@ -230,8 +232,8 @@ abbrev pub isNone : Ret → Bool
 isNone none = true
 isNone (gives t) = false
 
-unfoldable pub isMain : Item → Function → Bool
-isMain x f =
+unfoldable pub isCxxMain : Item → Function → Bool
+isCxxMain x f =
     same (x .cxx) (bytes "main") && isRoot (x .namespace) && isFree (f .form) && eqb (length (f .arguments)) 0
     && isNone (f .return) && not (f .throws)
 
@@ -241,7 +243,7 @@ localName items x f = gather (λ i. itemAt items i .cxx ++ bytes "::") (selfType
 -- `write_rust_function_shim_decl`
 unfoldable pub shimDecl : List Item → Item → Function → List ℕ
 shimDecl items x f =
-    pickText (isMain x f) (bytes "int ") (writeReturnType items (f .return)) ++ localName items x f ++ bytes "("
+    pickText (isCxxMain x f) (bytes "int ") (writeReturnType items (f .return)) ++ localName items x f ++ bytes "("
     ++ commas false (map (λ a. writeTypeSpace items (a .type) ++ a .name) (f .arguments)) ++ bytes ")"
     ++ pickText (isConst (f .form)) (bytes " const") [] ++ pickText (f .throws) [] (bytes " noexcept")
 
@@ -273,9 +275,9 @@ callEnd str = bytes ")"
 callEnd sliceRef = bytes ")"
 callEnd other = []
 
--- the type of a direct return, in a list of none or one
+-- the type of a direct return
 unfoldable pub direct : List Item → Function → List Ty
-direct items f = slotOf (not (indirectReturn items f (f .return))) (f .return)
+direct items f = returnedIf (not (indirectReturn items f (f .return))) (f .return)
 
 abbrev pub operandEnd : Shape → Bool → List ℕ
 operandEnd (rustBox inner) held = bytes ".into_raw()"

@@ -3,7 +3,7 @@
 // those that it holds: an item number to a line, counted from 0. Where a read or a write fails, it says so on standard
 // error, with errno's number and text; what cannot be read is no sheet, and has no answer.
 use check_sheet::check;
-use decode::Outline;
+use format::Outline;
 use libc::STDERR_FILENO;
 use libc::STDIN_FILENO;
 use libc::STDOUT_FILENO;

@@ -17,16 +17,16 @@ use Rattle.rules.specs.Rules.{unfitArgument, heldStructs, structsFrom, ring}
 use Rattle.rules.specs.Judge.{ruled, judge, check}
 use Rattle.bridge.specs.Out.{nextSection, push, pushBlockBoundary, endNamespaces, beginNamespaces, setNamespace}
 use Rattle.bridge.specs.Out.{flushAll, flushBlocks, write, flush}
-use Rattle.bridge.specs.Nested.{filter, nth, directContent, inner, distinct, names, nestedNames}
+use Rattle.bridge.specs.Nested.{filter, nth, directContent, nestedContent, distinct, nthNames, nestedNames}
 use Rattle.bridge.specs.WriteType.{writeType, writeRet, writeTypes, writeTypeSpace}
 use Rattle.bridge.specs.Write.{writeDirect, writeEntries, forwardDeclarations, commas, indirectReturn, externReturn}
 use Rattle.bridge.specs.Write.{externArg, slot, externParameters, functionDecl, writeRustFunctionDecl, layoutDecl}
-use Rattle.bridge.specs.Write.{writeOpaqueTypeLayoutDecls, layoutDefinition, writeOpaqueTypeLayout, writeDoc, isMain}
+use Rattle.bridge.specs.Write.{writeOpaqueTypeLayoutDecls, layoutDefinition, writeOpaqueTypeLayout, writeDoc, isCxxMain}
 use Rattle.bridge.specs.Write.{localName, shimDecl, isHeld, heldLocal, direct, operand, operands, shimBody}
 use Rattle.bridge.specs.Write.{functionShim, writeRustFunctionShim, forEach, writeFunctions, content, text}
 use Rattle.agreement.specs.Agreement.{rustFunctions, parameterNames, headNames, declarations, shims, ofFunctions}
 use Rattle.agreement.specs.Agreement.{argumentOperands, fitting}
 
 unfoldable pub computes : Unit {0}
-unfolding every same member nameShape nameOk keywords alternativeTokens reserved Decimal-digits decimal many bitAt bitsAt bits bit bitLength widthOf index name nameOf atomOf kindOf typeAt type lineOk line argument form functionBody structBody enumBody partOf namespace item tail itemTable nameTable sheet decode itemAt path fullName pushAll join externFn operator needsIndirectAbi visitAll visit sort ringed order any twice gather anyNamed anyNamedRet anyNamedTys wrongPart taken unfit unfitArgument heldStructs structsFrom ring ruled judge check nextSection push pushBlockBoundary endNamespaces beginNamespaces setNamespace flushAll flushBlocks write flush filter nth directContent inner distinct names nestedNames writeType writeRet writeTypes writeTypeSpace writeDirect writeEntries forwardDeclarations commas indirectReturn externReturn externArg slot externParameters functionDecl writeRustFunctionDecl layoutDecl writeOpaqueTypeLayoutDecls layoutDefinition writeOpaqueTypeLayout writeDoc isMain localName shimDecl isHeld heldLocal direct operand operands shimBody functionShim writeRustFunctionShim forEach writeFunctions content text rustFunctions parameterNames headNames declarations shims ofFunctions argumentOperands fitting
+unfolding every same member nameShape nameOk keywords alternativeTokens reserved Decimal-digits decimal many bitAt bitsAt bits bit bitLength widthOf index name nameOf atomOf kindOf typeAt type lineOk line argument form functionBody structBody enumBody partOf namespace item tail itemTable nameTable sheet decode itemAt path fullName pushAll join externFn operator needsIndirectAbi visitAll visit sort ringed order any twice gather anyNamed anyNamedRet anyNamedTys wrongPart taken unfit unfitArgument heldStructs structsFrom ring ruled judge check nextSection push pushBlockBoundary endNamespaces beginNamespaces setNamespace flushAll flushBlocks write flush filter nth directContent nestedContent distinct nthNames nestedNames writeType writeRet writeTypes writeTypeSpace writeDirect writeEntries forwardDeclarations commas indirectReturn externReturn externArg slot externParameters functionDecl writeRustFunctionDecl layoutDecl writeOpaqueTypeLayoutDecls layoutDefinition writeOpaqueTypeLayout writeDoc isCxxMain localName shimDecl isHeld heldLocal direct operand operands shimBody functionShim writeRustFunctionShim forEach writeFunctions content text rustFunctions parameterNames headNames declarations shims ofFunctions argumentOperands fitting
 computes = tt

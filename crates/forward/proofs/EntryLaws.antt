@@ -11,10 +11,11 @@ use Rattle.lexical.specs.Decimal.{pickText}
 use Rattle.lexical.proofs.BoolLaws.{by-cases}
 use Rattle.sink.specs.Sink.{Sink, Wrote}
 use Rattle.sink.proofs.SinkLaws.{_▷_, wrote-nil, wrote-as}
+use Rattle.format.specs.Limits.{mostNamespaces}
 use Rattle.format.specs.Sheet.{Item}
 use Rattle.syntax.specs.Items.{itemAt}
 use Rattle.rules.specs.Rules.{any, gather}
-use Rattle.bridge.specs.Nested.{filter, directContent, distinct, names, nestedNames}
+use Rattle.bridge.specs.Nested.{filter, directContent, distinct, nthNames, nestedNames}
 use Rattle.bridge.specs.Write.{indent, writeDirect, writeEntries, forwardDeclarations}
 use Rattle.view.specs.declared.ItemView.{ItemView}
 use Rattle.view.specs.Values.{itemsAt}
@@ -76,7 +77,7 @@ module _ (items : List Item) (depth : ℕ) where
 
 module _ (items : List Item) (depth : ℕ) where
   spaces-none : (k : ℕ) → isFirst items depth k ≡ true → namesBefore items (itemAt items k) depth k ≡ []
-  unfolding namesBefore nestedNames names distinct
+  unfolding namesBefore nestedNames nthNames distinct
   spaces-none k h = rw (first-members items depth k h)
 
   pub spaces-begin : {k i : ℕ} (r : Sink) → isFirst items depth k ≡ true → Next items (itemAt items k) depth k i →
@@ -96,7 +97,7 @@ module _ (items : List Item) (depth : ℕ) where
 
     one-text : (i : ℕ) → i < length items → opens items leader depth i ≡ true →
         indent depth ++ bytes "namespace " ++ getD (itemAt items i .namespace) depth [] ++ bytes " {\n"
-        ++ writeEntries (7 - (depth + 1)) (depth + 1) (members (itemAt items i) (depth + 1) items)
+        ++ writeEntries (mostNamespaces - (depth + 1)) (depth + 1) (members (itemAt items i) (depth + 1) items)
         ++ (indent depth ++ bytes "}\n")
         ≡ namespaceText depth (members leader depth items) (getD (itemAt items i .namespace) depth [])
     unfolding namespaceText
@@ -104,14 +105,14 @@ module _ (items : List Item) (depth : ℕ) where
         rw (opens-inner leader depth items i l e items)
         (sym (append-assoc
         (indent depth ++ bytes "namespace " ++ getD (itemAt items i .namespace) depth [] ++ bytes " {\n"
-        ++ writeEntries (7 - (depth + 1)) (depth + 1) (members (itemAt items i) (depth + 1) items))
+        ++ writeEntries (mostNamespaces - (depth + 1)) (depth + 1) (members (itemAt items i) (depth + 1) items))
         (indent depth) (bytes "}\n")))
 
     -- item k, which is item i, opens one
     pub spaces-turn : {i j k : ℕ} {r t u v w : Sink} → k ≡ i → i < length items → opens items leader depth i ≡ true →
         Wrote r (namespacesBefore items leader depth i) t →
         Wrote t (indent depth ++ bytes "namespace " ++ getD (itemAt items k .namespace) depth [] ++ bytes " {\n") u →
-        Wrote u (writeEntries (7 - (depth + 1)) (depth + 1) (members (itemAt items k) (depth + 1) items)) v →
+        Wrote u (writeEntries (mostNamespaces - (depth + 1)) (depth + 1) (members (itemAt items k) (depth + 1) items)) v →
         Wrote v (indent depth ++ bytes "}\n") w → Next items leader depth (i + 1) j →
         Wrote r (namespacesBefore items leader depth j) w
     unfolding namespacesBefore
@@ -123,24 +124,24 @@ module _ (items : List Item) (depth : ℕ) where
 
     -- ---- both
 
-    entries-split : (apis : List Item) → depth < 7 → writeEntries (7 - depth) depth apis ≡
+    entries-split : (apis : List Item) → depth < mostNamespaces → writeEntries (mostNamespaces - depth) depth apis ≡
         writeDirect depth apis ++ gather (namespaceText depth apis) (nestedNames depth apis)
     unfolding writeEntries namespaceText
-    entries-split apis l = let z : 7 - depth ≡ suc (7 - (depth + 1)) = omega arith in rw z
+    entries-split apis l = let z : mostNamespaces - depth ≡ suc (mostNamespaces - (depth + 1)) = omega arith in rw z
 
-    pub entries-end : {i : ℕ} {r t u : Sink} → depth < 7 → length items ≤ i →
+    pub entries-end : {i : ℕ} {r t u : Sink} → depth < mostNamespaces → length items ≤ i →
         Wrote r (writeDirect depth (members leader depth items)) t → Wrote t (namespacesBefore items leader depth i) u →
-        Wrote r (writeEntries (7 - depth) depth (members leader depth items)) u
+        Wrote r (writeEntries (mostNamespaces - depth) depth (members leader depth items)) u
     unfolding namespacesBefore namesBefore
     entries-end {i} {r} {t} {u} d l p q =
         let n : Wrote t (gather (namespaceText depth (members leader depth items))
         (nestedNames depth (members leader depth items))) u = rw (take-all i items l) at q in
         wrote-as (p ▷ n) (sym (entries-split (members leader depth items) d))
 
-    pub entries-last : {r t : Sink} → depth ≡ 7 → Wrote r (writeDirect depth (members leader depth items)) t →
-        Wrote r (writeEntries (7 - depth) depth (members leader depth items)) t
+    pub entries-last : {r t : Sink} → depth ≡ mostNamespaces → Wrote r (writeDirect depth (members leader depth items)) t →
+        Wrote r (writeEntries (mostNamespaces - depth) depth (members leader depth items)) t
     unfolding writeEntries
-    entries-last e p = let z : 7 - depth ≡ 0 = omega arith in wrote-as p (rw z)
+    entries-last e p = let z : mostNamespaces - depth ≡ 0 = omega arith in wrote-as p (rw z)
 
 -- ---- the view of an item that opens an inner namespace
 
@@ -163,11 +164,11 @@ first-item items = refl
 
 pub forward-none : (s names items : List ℕ) (r : Sink) → length items ≡ 0 →
     Wrote r (forwardDeclarations (itemsAt s names items)) r
-unfolding forwardDeclarations writeEntries writeDirect directContent nestedNames names distinct filter gather itemsAt
+unfolding forwardDeclarations writeEntries writeDirect directContent nestedNames nthNames distinct filter gather itemsAt
 forward-none s names [] r h = wrote-nil r
 forward-none s names (i ∷ items) r h = absurd (omega arith)
 
 pub forward-all : (leader : Item) (items : List Item) {r t : Sink} →
-    Wrote r (writeEntries (7 - 0) 0 (members leader 0 items)) t → Wrote r (forwardDeclarations items) t
+    Wrote r (writeEntries (mostNamespaces - 0) 0 (members leader 0 items)) t → Wrote r (forwardDeclarations items) t
 unfolding forwardDeclarations
 forward-all leader items p = wrote-as p (rw (all-members leader items))

@@ -16,7 +16,8 @@ use Rattle.bridge.specs.Write.{forwardLine}
 use Rattle.view.specs.declared.ItemView.{ItemView}
 use Rattle.view.specs.Views.{kindOfBody, ItemAt}
 use Rattle.nested.specs.declared.EnumView.{EnumView}
-use Rattle.nested.specs.Groups.{itemNo, EnumOf}
+use Rattle.view.specs.Values.{itemNo}
+use Rattle.nested.specs.Groups.{EnumOf}
 use Rattle.nested.proofs.ViewLaws.{isEnumKind}
 
 pub enum-line : (x : Item) {b : Body} {e : EnumView} → EnumOf b e →

@@ -3,9 +3,10 @@ use mathlib.Core.List.{List, _++_}
 use Prim.Native.Nat.{ℕ, _+_, _-_}
 use lib.ListN.{take}
 use Rattle.lexical.specs.Bytes.{bytes}
+use Rattle.format.specs.Limits.{mostNamespaces}
 use Rattle.format.specs.Sheet.{Name, Item}
 use Rattle.rules.specs.Rules.{gather}
-use Rattle.bridge.specs.Nested.{inner}
+use Rattle.bridge.specs.Nested.{nestedContent}
 use Rattle.bridge.specs.Write.{forwardLine, indent, writeDirect, writeEntries}
 use Rattle.nested.specs.Groups.{members, namesBefore}
 
@@ -17,11 +18,12 @@ entry depth x = indent depth ++ forwardLine x (x .body)
 unfoldable pub directBefore : List Item → Item → ℕ → ℕ → List ℕ
 directBefore items leader depth i = writeDirect depth (members leader depth (take i items))
 
--- an inner namespace; no namespace is deeper than 7
+-- an inner namespace
 unfoldable pub namespaceText : ℕ → List Item → Name → List ℕ
 namespaceText depth apis name =
     indent depth ++ bytes "namespace " ++ name ++ bytes " {\n"
-    ++ writeEntries (7 - (depth + 1)) (depth + 1) (inner depth name apis) ++ indent depth ++ bytes "}\n"
+    ++ writeEntries (mostNamespaces - (depth + 1)) (depth + 1) (nestedContent depth name apis) ++ indent depth
+    ++ bytes "}\n"
 
 -- the inner namespaces of the group that open before item i
 unfoldable pub namespacesBefore : List Item → Item → ℕ → ℕ → List ℕ

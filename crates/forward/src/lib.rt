@@ -19,13 +19,14 @@ ghost use lib.ListN.{length, getD};
 ghost use Rattle.lexical.specs.Bytes.{bytes};
 ghost use Rattle.lexical.specs.Decimal.{pickText};
 ghost use Rattle.sink.specs.Sink.{sink, Wrote};
+ghost use Rattle.format.specs.Limits.{mostNamespaces};
 ghost use Rattle.format.specs.declared.ItemKind.the-variants.{Enum};
 ghost use Rattle.syntax.specs.Items.{fullName};
 ghost use Rattle.bridge.specs.Write.{forwardLine, indent as indentOf, writeDirect, writeEntries, forwardDeclarations};
-ghost use Rattle.view.specs.Values.{itemsAt, Whole};
+ghost use Rattle.view.specs.Values.{itemsAt, itemNo, Whole};
 ghost use Rattle.view.specs.Digests.{digestsAt};
 ghost use Rattle.view.specs.Views.{ItemAt};
-ghost use Rattle.nested.specs.Groups.{itemNo, members, isDirect, isFirst};
+ghost use Rattle.nested.specs.Groups.{members, isDirect, isFirst};
 ghost use Rattle.forward.specs.Entries.{entry};
 
 // ---- an item's line
@@ -122,7 +123,7 @@ fn write_line(
 
 // Two spaces for each level.
 fn indent(depth: u32, out: &mut [u8], at: usize) -> usize
-    requires { ⌜ depth ≤ 7 ⌝ }
+    requires { ⌜ depth ≤ mostNamespaces ⌝ }
     ensures { λ r. ⌜ Wrote (sink (now (out .entry)) at) (indentOf depth) (sink (now (out .exit)) r) ⌝ }
 {
     let count = 2 * depth as usize;
@@ -142,7 +143,7 @@ fn write_entry(
     at: usize,
 ) -> usize
     requires { ⌜ Whole (now s) (now names) (now items) × (now digests ≡ digestsAt (now s) (now names)) ×
-        ItemAt (now s) (now names) (now items) leader × (depth ≤ 7) × (i < length (now items)) ⌝ }
+        ItemAt (now s) (now names) (now items) leader × (depth ≤ mostNamespaces) × (i < length (now items)) ⌝ }
     ensures { λ r. ⌜ Wrote (sink (now (out .entry)) at)
         (pickText (isDirect (itemNo (now (s .entry)) (now (names .entry)) (now (items .entry)) (leader .number)) depth
         (itemNo (now (s .entry)) (now (names .entry)) (now (items .entry)) i))
@@ -170,7 +171,7 @@ fn write_direct(
     at: usize,
 ) -> usize
     requires { ⌜ Whole (now s) (now names) (now items) × (now digests ≡ digestsAt (now s) (now names)) ×
-        ItemAt (now s) (now names) (now items) leader × (depth ≤ 7) ×
+        ItemAt (now s) (now names) (now items) leader × (depth ≤ mostNamespaces) ×
         (isFirst (itemsAt (now s) (now names) (now items)) depth (leader .number) ≡ true) ⌝ }
     ensures { λ r. ⌜ Wrote (sink (now (out .entry)) at)
         (writeDirect depth (members (itemNo (now (s .entry)) (now (names .entry)) (now (items .entry)) (leader .number))
@@ -211,7 +212,7 @@ fn open_namespace(
 }
 
 fn close_namespace(depth: u32, out: &mut [u8], at: usize) -> usize
-    requires { ⌜ depth ≤ 7 ⌝ }
+    requires { ⌜ depth ≤ mostNamespaces ⌝ }
     ensures { λ r. ⌜ Wrote (sink (now (out .entry)) at) (indentOf depth ++ bytes "}\n")
         (sink (now (out .exit)) r) ⌝ }
 {
@@ -231,16 +232,16 @@ fn write_entries(
     at: usize,
 ) -> usize
     requires { ⌜ Whole (now s) (now names) (now items) × (now digests ≡ digestsAt (now s) (now names)) ×
-        ItemAt (now s) (now names) (now items) leader × (depth ≤ 7) ×
+        ItemAt (now s) (now names) (now items) leader × (depth ≤ mostNamespaces) ×
         (isFirst (itemsAt (now s) (now names) (now items)) depth (leader .number) ≡ true) ⌝ }
     ensures { λ r. ⌜ Wrote (sink (now (out .entry)) at)
-        (writeEntries (7 - depth) depth
+        (writeEntries (mostNamespaces - depth) depth
         (members (itemNo (now (s .entry)) (now (names .entry)) (now (items .entry)) (leader .number)) depth
         (itemsAt (now (s .entry)) (now (names .entry)) (now (items .entry))))) (sink (now (out .exit)) r) ⌝ }
 {
     let n = items.len() as u32;
     let direct = write_direct(s, names, items, digests, leader, depth, out, at);
-    if depth == 7 {
+    if depth == ItemKind::NAMESPACES as u32 {
         return direct;
     }
     let deeper = depth + 1;

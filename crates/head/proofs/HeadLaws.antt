@@ -17,7 +17,7 @@ use Rattle.cursor.proofs.CheckLaws.{many-length}
 use Rattle.syntax.specs.Items.{itemAt, selfType}
 use Rattle.rules.specs.Rules.{gather}
 use Rattle.bridge.specs.WriteType.{writeTypeSpace, writeReturnType}
-use Rattle.bridge.specs.Write.{commas, isRoot, isFree, isConst, isNone, isMain, localName, shimDecl}
+use Rattle.bridge.specs.Write.{commas, isRoot, isFree, isConst, isNone, isCxxMain, localName, shimDecl}
 use Rattle.view.specs.declared.ItemView.{ItemView}
 use Rattle.view.specs.declared.FunctionView.{FunctionView}
 use Rattle.view.specs.declared.ArgumentView.{ArgumentView}
@@ -70,8 +70,8 @@ module _ {s names items : List ℕ} {f : FunctionView} (a : FunctionAt s names i
       length (this .arguments) ≡ f .arguments → b₁ ≡ same (nameAt s (getD names (v .name) 0)) (bytes "main") →
       b₂ ≡ b₁ && eqb (v .depth) 0 → b₃ ≡ b₂ && eqb (f .form) 0 → b₄ ≡ b₃ && eqb (f .arguments) 0 →
       b₅ ≡ b₄ && not (f .returns) → b₆ ≡ b₅ && not (f .throws) →
-      b₆ ≡ isMain (itemAt (itemsAt s names items) (v .number)) this
-  unfolding isMain
+      b₆ ≡ isCxxMain (itemAt (itemsAt s names items) (v .number)) this
+  unfolding isCxxMain
   main-is {v} x n e₁ e₂ e₃ e₄ e₅ e₆ =
       e₆ ∙ rw (
         e₅,
@@ -135,7 +135,7 @@ local-name-written f x p q = p ▷ wrote-as q (x .view .cxx)
 
 pub head-written : {s names items : List ℕ} {f : FunctionView} (x : Item) {r t u v w y z a : Sink} →
     FunctionAt s names items f →
-    Wrote r (pickText (isMain x (functionAt s names items (f .number))) (bytes "int ")
+    Wrote r (pickText (isCxxMain x (functionAt s names items (f .number))) (bytes "int ")
     (writeReturnType (itemsAt s names items) (functionAt s names items (f .number) .return))) t →
     Wrote t (localName (itemsAt s names items) x (functionAt s names items (f .number))) u → Wrote u (bytes "(") v →
     Wrote v (commas false (map (λ a. writeTypeSpace (itemsAt s names items) (a .type) ++ a .name)

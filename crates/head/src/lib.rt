@@ -20,7 +20,7 @@ ghost use Rattle.lexical.specs.Decimal.{pickText};
 ghost use Rattle.syntax.specs.Items.{itemAt, selfType};
 ghost use Rattle.rules.specs.Rules.{gather};
 ghost use Rattle.bridge.specs.WriteType.{writeTypeSpace, writeReturnType};
-ghost use Rattle.bridge.specs.Write.{commas, isMain, localName, shimDecl};
+ghost use Rattle.bridge.specs.Write.{commas, isCxxMain, localName, shimDecl};
 ghost use Rattle.sink.specs.Sink.{sink, Wrote};
 ghost use Rattle.view.specs.Values.{itemsAt, functionAt, argumentAt, Whole};
 ghost use Rattle.view.specs.Views.{ItemAt, FunctionAt, ArgumentsAt};
@@ -38,7 +38,7 @@ fn both(a: bool, b: bool) -> bool
 fn is_main(s: &[u8], names: &[u32], items: &[u32], v: ItemView, f: FunctionView) -> bool
     requires { ⌜ Whole (now s) (now names) (now items) × ItemAt (now s) (now names) (now items) v ×
         FunctionAt (now s) (now names) (now items) f ⌝ }
-    ensures { λ r. ⌜ r ≡ isMain (itemAt (itemsAt (now (s .entry)) (now (names .entry)) (now (items .entry)))
+    ensures { λ r. ⌜ r ≡ isCxxMain (itemAt (itemsAt (now (s .entry)) (now (names .entry)) (now (items .entry)))
         (v .number)) (functionAt (now (s .entry)) (now (names .entry)) (now (items .entry)) (f .number)) ⌝ }
 {
     let named = name_is(s, names, v.name, b"main");
@@ -83,7 +83,7 @@ fn write_shim_type(
     requires { ⌜ Whole (now s) (now names) (now items) × ItemAt (now s) (now names) (now items) v ×
         FunctionAt (now s) (now names) (now items) f ⌝ }
     ensures { λ r. ⌜ Wrote (sink (now (out .entry)) at)
-        (pickText (isMain (itemAt (itemsAt (now (s .entry)) (now (names .entry)) (now (items .entry))) (v .number))
+        (pickText (isCxxMain (itemAt (itemsAt (now (s .entry)) (now (names .entry)) (now (items .entry))) (v .number))
         (functionAt (now (s .entry)) (now (names .entry)) (now (items .entry)) (f .number))) (bytes "int ")
         (writeReturnType (itemsAt (now (s .entry)) (now (names .entry)) (now (items .entry)))
         (functionAt (now (s .entry)) (now (names .entry)) (now (items .entry)) (f .number) .return)))

@@ -14,7 +14,7 @@ use Rattle.format.specs.Decode.{pick}
 use Rattle.format.specs.Sheet.{cxxType, Item}
 use Rattle.syntax.specs.Items.{itemAt}
 use Rattle.rules.specs.Rules.{any}
-use Rattle.bridge.specs.Nested.{filter, first, nth, none, isName, directContent, inner, distinct, names, nestedNames}
+use Rattle.bridge.specs.Nested.{filter, firstName, nth, isEmpty, startsWith, directContent, nestedContent, distinct, nthNames, nestedNames}
 use Rattle.bridge.specs.Write.{needsForwardDeclaration}
 use Rattle.nested.specs.Groups.{shared, belongs, members, isDirect, isFirst, opens, namesBefore}
 use Rattle.nested.proofs.ListLaws.{and-true, and-assoc, filter-append, filter-same, filter-twice, filter-none}
@@ -48,7 +48,7 @@ first-members items depth k h =
 module _ (leader : Item) (depth : ℕ) where
   -- ---- a group's own entries
 
-  direct-test : (x : Item) → (belongs leader depth x && none (nth depth x)) ≡ isDirect leader depth x
+  direct-test : (x : Item) → (belongs leader depth x && isEmpty (nth depth x)) ≡ isDirect leader depth x
   unfolding isDirect belongs nth
   direct-test x =
       by-cases (needsForwardDeclaration (x .body) && shared depth (leader .namespace) (x .namespace))
@@ -62,57 +62,57 @@ module _ (leader : Item) (depth : ℕ) where
       directContent depth (members leader depth xs) ≡ filter (isDirect leader depth) xs
   unfolding directContent members
   direct-members xs =
-      filter-twice (λ x. none (nth depth x)) (belongs leader depth) xs ∙
-      filter-same (λ x. belongs leader depth x && none (nth depth x)) (isDirect leader depth) direct-test xs
+      filter-twice (λ x. isEmpty (nth depth x)) (belongs leader depth) xs ∙
+      filter-same (λ x. belongs leader depth x && isEmpty (nth depth x)) (isDirect leader depth) direct-test xs
 
   -- ---- an inner namespace is a group, and each of its items leads it
 
   module _ (j : Item) (s : shared depth (leader .namespace) (j .namespace) ≡ true)
       (l : depth < length (j .namespace)) where
     inner-test : (x : Item) →
-        (belongs leader depth x && isName (getD (j .namespace) depth []) (nth depth x)) ≡ belongs j (depth + 1) x
+        (belongs leader depth x && startsWith (getD (j .namespace) depth []) (nth depth x)) ≡ belongs j (depth + 1) x
     unfolding belongs nth
     inner-test x =
         and-assoc (needsForwardDeclaration (x .body)) (shared depth (leader .namespace) (x .namespace)) _
         ∙ ap (λ (b : Bool). needsForwardDeclaration (x .body) && b)
-        (ap (λ (b : Bool). b && isName (getD (j .namespace) depth []) (first (drop depth (x .namespace))))
+        (ap (λ (b : Bool). b && startsWith (getD (j .namespace) depth []) (firstName (drop depth (x .namespace))))
         (shared-with depth (leader .namespace) (j .namespace) (x .namespace) s)
         ∙ sym (shared-next depth (j .namespace) (x .namespace) l))
 
     pub inner-members : (xs : List Item) →
-        inner depth (getD (j .namespace) depth []) (members leader depth xs) ≡ members j (depth + 1) xs
-    unfolding inner members
+        nestedContent depth (getD (j .namespace) depth []) (members leader depth xs) ≡ members j (depth + 1) xs
+    unfolding nestedContent members
     inner-members xs =
-        filter-twice (λ x. isName (getD (j .namespace) depth []) (nth depth x)) (belongs leader depth) xs ∙
-        filter-same (λ x. belongs leader depth x && isName (getD (j .namespace) depth []) (nth depth x))
+        filter-twice (λ x. startsWith (getD (j .namespace) depth []) (nth depth x)) (belongs leader depth) xs ∙
+        filter-same (λ x. belongs leader depth x && startsWith (getD (j .namespace) depth []) (nth depth x))
         (belongs j (depth + 1)) inner-test xs
 
     -- the namespace's name was met where one of its items was
     met : (xs : List Item) →
-        member (getD (j .namespace) depth []) (names depth (members leader depth xs)) ≡ any (belongs j (depth + 1)) xs
+        member (getD (j .namespace) depth []) (nthNames depth (members leader depth xs)) ≡ any (belongs j (depth + 1)) xs
     unfolding members
     met xs =
         member-names (getD (j .namespace) depth []) depth (belongs leader depth) xs ∙
-        any-same (λ x. belongs leader depth x && isName (getD (j .namespace) depth []) (nth depth x))
+        any-same (λ x. belongs leader depth x && startsWith (getD (j .namespace) depth []) (nth depth x))
         (belongs j (depth + 1)) inner-test xs
 
     -- it is new, or it is not
     name-next : (xs : List Item) →
-        distinct [] (names depth (members leader depth xs) ++ (getD (j .namespace) depth [] ∷ []))
+        distinct [] (nthNames depth (members leader depth xs) ++ (getD (j .namespace) depth [] ∷ []))
         ≡ nestedNames depth (members leader depth xs)
         ++ pick (any (belongs j (depth + 1)) xs) [] (getD (j .namespace) depth [] ∷ [])
     unfolding nestedNames member
     name-next xs =
-        distinct-last [] (names depth (members leader depth xs)) (getD (j .namespace) depth []) ∙
+        distinct-last [] (nthNames depth (members leader depth xs)) (getD (j .namespace) depth []) ∙
         ap (λ (b : Bool). nestedNames depth (members leader depth xs) ++ pick b [] (getD (j .namespace) depth [] ∷ []))
         (met xs)
 
   -- ---- one item more
 
   -- what an item adds to the names
-  added : (x : Item) → names depth (filter (belongs leader depth) (x ∷ [])) ≡
+  added : (x : Item) → nthNames depth (filter (belongs leader depth) (x ∷ [])) ≡
       pick (belongs leader depth x && ltb depth (length (x .namespace))) (getD (x .namespace) depth [] ∷ []) []
-  unfolding names filter nth
+  unfolding nthNames filter nth
   added x =
       by-cases (belongs leader depth x)
       (λ e. rw e (by-cases (ltb depth (length (x .namespace)))
@@ -126,7 +126,7 @@ module _ (leader : Item) (depth : ℕ) where
 
     before-next : namesBefore items leader depth (i + 1) ≡
         distinct []
-        (names depth (members leader depth (take i items)) ++ names depth (filter (belongs leader depth) (x ∷ [])))
+        (nthNames depth (members leader depth (take i items)) ++ nthNames depth (filter (belongs leader depth) (x ∷ [])))
     unfolding namesBefore nestedNames members
     before-next =
         rw (take-next items i there, filter-append (belongs leader depth) (take i items) (x ∷ []))
@@ -138,7 +138,7 @@ module _ (leader : Item) (depth : ℕ) where
     unfolding namesBefore nestedNames
     unmet e =
         before-next ∙ rw (added x, e)
-        (ap (distinct []) (append-nil (names depth (members leader depth (take i items)))))
+        (ap (distinct []) (append-nil (nthNames depth (members leader depth (take i items)))))
 
     inside : (belongs leader depth x && ltb depth (length (x .namespace))) ≡ true →
         namesBefore items leader depth (i + 1) ≡ namesBefore items leader depth i
@@ -183,7 +183,7 @@ module _ (leader : Item) (depth : ℕ) where
       opens-one = inside (parts .0) ∙ rw (not-true (any (belongs x (depth + 1)) (take i items)) (parts .1))
 
       pub opens-inner : (xs : List Item) →
-          inner depth (getD (x .namespace) depth []) (members leader depth xs) ≡ members x (depth + 1) xs
+          nestedContent depth (getD (x .namespace) depth []) (members leader depth xs) ≡ members x (depth + 1) xs
       unfolding belongs
       opens-inner =
           inner-members x

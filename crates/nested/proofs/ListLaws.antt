@@ -11,7 +11,7 @@ use Rattle.lexical.proofs.ByteLaws.{same-eq}
 use Rattle.format.specs.Decode.{pick}
 use Rattle.format.specs.Sheet.{Name, Item}
 use Rattle.rules.specs.Rules.{any, gather}
-use Rattle.bridge.specs.Nested.{filter, first, nth, isName, distinct, names}
+use Rattle.bridge.specs.Nested.{filter, firstName, nth, startsWith, distinct, nthNames}
 
 pub and-true : (b : Bool) → (b && true) ≡ b
 and-true true = refl
@@ -107,27 +107,27 @@ module _ {A B : Type 0} (f : A → List B) where
 
 -- ---- names
 
-pub names-append : (depth : ℕ) (xs ys : List Item) → names depth (xs ++ ys) ≡ names depth xs ++ names depth ys
-unfolding names
+pub names-append : (depth : ℕ) (xs ys : List Item) → nthNames depth (xs ++ ys) ≡ nthNames depth xs ++ nthNames depth ys
+unfolding nthNames
 names-append depth [] ys = refl
 names-append depth (x ∷ xs) ys =
-    rw (names-append depth xs ys) (sym (append-assoc (nth depth x) (names depth xs) (names depth ys)))
+    rw (names-append depth xs ys) (sym (append-assoc (nth depth x) (nthNames depth xs) (nthNames depth ys)))
 
-member-first : (n : Name) (ms rest : List Name) → member n (first ms ++ rest) ≡ (isName n (first ms) || member n rest)
+member-first : (n : Name) (ms rest : List Name) → member n (firstName ms ++ rest) ≡ (startsWith n (firstName ms) || member n rest)
 unfolding member
 member-first n [] rest = refl
 member-first n (m ∷ ms) rest = refl
 
 -- a name is among those of the filtered items where one of them passes both tests
 pub member-names : (n : Name) (depth : ℕ) (test : Item → Bool) (xs : List Item) →
-    member n (names depth (filter test xs)) ≡ any (λ x. test x && isName n (nth depth x)) xs
-unfolding filter names any nth member
+    member n (nthNames depth (filter test xs)) ≡ any (λ x. test x && startsWith n (nth depth x)) xs
+unfolding filter nthNames any nth member
 member-names n depth test [] = refl
 member-names n depth test (x ∷ xs) =
     by-cases (test x)
     (λ e. rw e
-    (member-first n (drop depth (x .namespace)) (names depth (filter test xs))
-    ∙ ap (λ (b : Bool). isName n (nth depth x) || b) (member-names n depth test xs)))
+    (member-first n (drop depth (x .namespace)) (nthNames depth (filter test xs))
+    ∙ ap (λ (b : Bool). startsWith n (nth depth x) || b) (member-names n depth test xs)))
     (λ e. rw e (member-names n depth test xs))
 
 -- a name behind others: it is new, or it was seen

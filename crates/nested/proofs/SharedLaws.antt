@@ -12,26 +12,26 @@ use Rattle.lexical.specs.Bytes.{same}
 use Rattle.lexical.proofs.BoolLaws.{both}
 use Rattle.lexical.proofs.ByteLaws.{same-eq}
 use Rattle.format.specs.Sheet.{Name}
-use Rattle.bridge.specs.Nested.{first, none, isName}
+use Rattle.bridge.specs.Nested.{firstName, isEmpty, startsWith}
 use Rattle.nested.specs.Groups.{shared}
 use Rattle.nested.proofs.ListLaws.{and-true, and-false, and-assoc}
 
 -- ---- the namespace at a depth
 
-pub space-there : (depth : ℕ) (ns : List Name) → depth < length ns → first (drop depth ns) ≡ getD ns depth [] ∷ []
+pub space-there : (depth : ℕ) (ns : List Name) → depth < length ns → firstName (drop depth ns) ≡ getD ns depth [] ∷ []
 space-there zero [] l = absurd (omega arith)
 space-there zero (n ∷ ns) l = refl
 space-there (suc depth) [] l = absurd (omega arith)
 space-there (suc depth) (n ∷ ns) l = space-there depth ns (omega arith)
 
-pub space-none : (depth : ℕ) (ns : List Name) → length ns ≤ depth → first (drop depth ns) ≡ []
+pub space-none : (depth : ℕ) (ns : List Name) → length ns ≤ depth → firstName (drop depth ns) ≡ []
 space-none zero [] l = refl
 space-none zero (n ∷ ns) l = absurd (omega arith)
 space-none (suc depth) [] l = refl
 space-none (suc depth) (n ∷ ns) l = space-none depth ns (omega arith)
 
 -- the namespaces end at this depth
-pub ends-here : (depth : ℕ) (ns : List Name) → depth ≤ length ns → none (first (drop depth ns)) ≡ eqb (length ns) depth
+pub ends-here : (depth : ℕ) (ns : List Name) → depth ≤ length ns → isEmpty (firstName (drop depth ns)) ≡ eqb (length ns) depth
 ends-here zero [] l = refl
 ends-here zero (n ∷ ns) l = sym (eqb·suc-zero (length ns))
 ends-here (suc depth) [] l = absurd (omega arith)
@@ -61,7 +61,7 @@ shared-with (suc depth) (m ∷ ms) (n ∷ ns) (x ∷ xs) h =
 
 -- one namespace more
 shared-suc : (depth : ℕ) (ms xs : List Name) → depth < length ms →
-    shared (suc depth) ms xs ≡ (shared depth ms xs && isName (getD ms depth []) (first (drop depth xs)))
+    shared (suc depth) ms xs ≡ (shared depth ms xs && startsWith (getD ms depth []) (firstName (drop depth xs)))
 unfolding shared
 shared-suc zero [] xs l = absurd (omega arith)
 shared-suc zero (m ∷ ms) [] l = refl
@@ -70,10 +70,10 @@ shared-suc (suc depth) [] xs l = absurd (omega arith)
 shared-suc (suc depth) (m ∷ ms) [] l = refl
 shared-suc (suc depth) (m ∷ ms) (x ∷ xs) l =
     ap (λ (b : Bool). same m x && b) (shared-suc depth ms xs (omega arith)) ∙
-    sym (and-assoc (same m x) (shared depth ms xs) (isName (getD ms depth []) (first (drop depth xs))))
+    sym (and-assoc (same m x) (shared depth ms xs) (startsWith (getD ms depth []) (firstName (drop depth xs))))
 
 pub shared-next : (depth : ℕ) (ms xs : List Name) → depth < length ms →
-    shared (depth + 1) ms xs ≡ (shared depth ms xs && isName (getD ms depth []) (first (drop depth xs)))
+    shared (depth + 1) ms xs ≡ (shared depth ms xs && startsWith (getD ms depth []) (firstName (drop depth xs)))
 shared-next depth ms xs l = rw add-one (shared-suc depth ms xs l)
 
 -- ---- namespace by namespace

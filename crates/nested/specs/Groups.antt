@@ -13,7 +13,6 @@ use Rattle.syntax.specs.Items.{itemAt}
 use Rattle.rules.specs.Rules.{any}
 use Rattle.bridge.specs.Nested.{filter, nestedNames}
 use Rattle.bridge.specs.Write.{needsForwardDeclaration}
-pub use Rattle.view.specs.Values.{itemNo}
 use Rattle.nested.specs.declared.EnumView.{EnumView}
 
 -- v is a view of an enum

@@ -13,10 +13,10 @@ ghost use lib.ListN.{length, getD};
 ghost use Rattle.lexical.specs.Bytes.{same};
 ghost use Rattle.format.specs.declared.ItemKind.the-variants.{Enum};
 ghost use Rattle.bridge.specs.Write.{needsForwardDeclaration};
-ghost use Rattle.view.specs.Values.{nameAt, itemsAt, Named, Whole};
+ghost use Rattle.view.specs.Values.{nameAt, itemsAt, itemNo, Named, Whole};
 ghost use Rattle.view.specs.Digests.{digestsAt};
 ghost use Rattle.view.specs.Views.{ItemAt};
-ghost use Rattle.nested.specs.Groups.{itemNo, EnumOf, shared, belongs, isDirect, isFirst, Next};
+ghost use Rattle.nested.specs.Groups.{EnumOf, shared, belongs, isDirect, isFirst, Next};
 ghost use Rattle.nested.specs.Groups.{opens as opensOf};
 
 // ---- items that need a forward declaration

@@ -4,6 +4,7 @@ use mathlib.Core.List.{List, [], _∷_, _++_}
 use mathlib.Core.Bool.{Bool}
 use Prim.Native.Nat.{ℕ, zero, suc, _+_, _<_, _≤_}
 use lib.ListN.{length, getD, set}
+use Rattle.format.specs.Limits.{mostBits, mostNamespaces}
 use Rattle.format.specs.Decode.{many}
 use Rattle.format.specs.Sheet.{Name}
 use Rattle.format.specs.Decoding.{nameOf}
@@ -70,8 +71,8 @@ namespaceAt s names c depth = valueOr [] (many depth (nameOf (namesAt s names)) 
 -- it is ns
 pub record Spaces (s names : List ℕ) (c : Cursor) (depth : ℕ) (ns : List Name) : Type 0 where
   pub are : Yields (many depth (nameOf (namesAt s names)) s (c .at)) ns
-  pub shallow : depth ≤ 7
-  pub near : c .at ≤ 262144
+  pub shallow : depth ≤ mostNamespaces
+  pub near : c .at ≤ mostBits
 
 -- c is the state in which the text t stands in the buffer, which was `first` before; the namespace ns is set, the
 -- blocks P are open and the blocks Q are set, each outermost first; and a section is pending where one is asked for

@@ -15,6 +15,7 @@ ghost use Prim.Native.Nat.{_<_, _≤_};
 ghost use lib.ListN.{length};
 ghost use lib.Dec.{ltb};
 ghost use Rattle.sink.specs.Sink.{sink, Wrote};
+ghost use Rattle.format.specs.Limits.{mostBits, mostNamespaces};
 ghost use Rattle.syntax.specs.Items.{itemAt};
 ghost use Rattle.view.specs.Values.{itemsAt, Named, Whole};
 ghost use Rattle.view.specs.Digests.{digestsAt};
@@ -228,7 +229,7 @@ pub fn end_extern_c(s: &[u8], names: &[u32], digests: &[u32], c: Content) -> Con
 
 // The index of name d of a namespace.
 fn name_index(s: &[u8], names: &[u32], spaces: Cursor, d: u32) -> u32
-    requires { ⌜ Named (now s) (now names) × (spaces .at ≤ 262144) × (d < 7) ⌝ }
+    requires { ⌜ Named (now s) (now names) × (spaces .at ≤ mostBits) × (d < mostNamespaces) ⌝ }
     ensures { λ r. ⌜ Indexes (now (s .entry)) (now (names .entry)) spaces d r ⌝ }
 {
     let w = width(names.len() as u32);

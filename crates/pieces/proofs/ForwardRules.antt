@@ -15,7 +15,7 @@ use Rattle.lexical.proofs.ByteLaws.{same-refl, every-cons, every-snoc}
 use Rattle.format.specs.Sheet.{Name, Body, struct, enum, cxxType, rustType, function, Item}
 use Rattle.rules.specs.Rules.{reservedNamespace}
 use Rattle.bridge.specs.Nested as Nested
-use Rattle.bridge.specs.Nested.{filter, first, nth, directContent, inner, distinct, names, nestedNames}
+use Rattle.bridge.specs.Nested.{filter, firstName, nth, directContent, nestedContent, distinct, nthNames, nestedNames}
 use Rattle.bridge.specs.Write.{needsForwardDeclaration}
 use Rattle.grammar.specs.Tree.{Forward, forwardEnd}
 use Rattle.grammar.specs.Rules.{ofStdOrRust, fullNameOk, lineOk, forwardOk}
@@ -76,9 +76,9 @@ unfolding entriesTree forwardOk
 entries-ok zero depth apis l h = lines-ok depth (directContent depth apis) forwardEnd (direct-named depth apis h) refl
 entries-ok (suc levels) depth apis l h =
     lines-ok depth (directContent depth apis) _ (direct-named depth apis h)
-    (namespaces-ok depth (λ name. entriesTree levels (depth + 1) (inner depth name apis))
+    (namespaces-ok depth (λ name. entriesTree levels (depth + 1) (nestedContent depth name apis))
     (λ name. rw (← add-one depth)
-    (entries-ok levels (depth + 1) (inner depth name apis) (omega arith) (inner-named depth name apis h)))
+    (entries-ok levels (depth + 1) (nestedContent depth name apis) (omega arith) (inner-named depth name apis h)))
     (omega arith) (nestedNames depth apis) (nested-named depth apis h))
 
 pub forward-ok : (items : List Item) → every itemNamed items ≡ true → forwardOk 0 (forwardOf items) ≡ true
@@ -129,26 +129,26 @@ unfolding directContent filter
 direct-begins depth x xs e = rw e
 
 nested-begins : (depth : ℕ) (x : Item) (xs : List Item) (n : Name) (ns : List Name) → nth depth x ≡ n ∷ ns →
-    nestedNames depth (x ∷ xs) ≡ n ∷ distinct (n ∷ []) (ns ++ names depth xs)
-unfolding nestedNames names distinct member
+    nestedNames depth (x ∷ xs) ≡ n ∷ distinct (n ∷ []) (ns ++ nthNames depth xs)
+unfolding nestedNames nthNames distinct member
 nested-begins depth x xs n ns e = rw e
 
-inner-begins : (depth : ℕ) (n : Name) (x : Item) (xs : List Item) → Nested.isName n (nth depth x) ≡ true →
-    inner depth n (x ∷ xs) ≡ x ∷ inner depth n xs
-unfolding inner filter
+inner-begins : (depth : ℕ) (n : Name) (x : Item) (xs : List Item) → Nested.startsWith n (nth depth x) ≡ true →
+    nestedContent depth n (x ∷ xs) ≡ x ∷ nestedContent depth n xs
+unfolding nestedContent filter
 inner-begins depth n x xs e = rw e
 
-inner-passes : (depth : ℕ) (n : Name) (x : Item) (xs : List Item) → Nested.isName n (nth depth x) ≡ false →
-    inner depth n (x ∷ xs) ≡ inner depth n xs
-unfolding inner filter
+inner-passes : (depth : ℕ) (n : Name) (x : Item) (xs : List Item) → Nested.startsWith n (nth depth x) ≡ false →
+    nestedContent depth n (x ∷ xs) ≡ nestedContent depth n xs
+unfolding nestedContent filter
 inner-passes depth n x xs e = rw e
 
 direct-needs : (depth : ℕ) (xs : List Item) → every needs xs ≡ true → every needs (directContent depth xs) ≡ true
 unfolding directContent
 direct-needs depth xs h = every-filter needs _ xs h
 
-inner-needs : (depth : ℕ) (n : Name) (xs : List Item) → every needs xs ≡ true → every needs (inner depth n xs) ≡ true
-unfolding inner
+inner-needs : (depth : ℕ) (n : Name) (xs : List Item) → every needs xs ≡ true → every needs (nestedContent depth n xs) ≡ true
+unfolding nestedContent
 inner-needs depth n xs h = every-filter needs _ xs h
 
 -- a level with an item has its line, or a namespace where levels are left
@@ -163,7 +163,7 @@ entries-have zero depth x xs l h g =
 entries-have (suc levels) depth x xs l h g = go (nth depth x) refl
   where
     tree : Name → Forward
-    tree name = entriesTree levels (depth + 1) (inner depth name (x ∷ xs))
+    tree name = entriesTree levels (depth + 1) (nestedContent depth name (x ∷ xs))
 
     go : (ns : List Name) → nth depth x ≡ ns →
         hasLines (linesTree (directContent depth (x ∷ xs)) (namespacesTree tree (nestedNames depth (x ∷ xs)))) ≡ true
@@ -203,10 +203,10 @@ members (n ∷ ns) all h =
     rw (h n (or-left (same n n) (member n ns) (same-refl n)))
     (members ns all (λ m e. h m (or-right (same m n) (member m ns) e)))
 
-nested-among : (depth : ℕ) (xs : List Item) → every (λ n. member n (names depth xs)) (nestedNames depth xs) ≡ true
+nested-among : (depth : ℕ) (xs : List Item) → every (λ n. member n (nthNames depth xs)) (nestedNames depth xs) ≡ true
 unfolding nestedNames
 nested-among depth xs =
-    let all = names depth xs in distinct-every (λ n. member n all) [] all (members all all (λ n e. e))
+    let all = nthNames depth xs in distinct-every (λ n. member n all) [] all (members all all (λ n e. e))
 
 -- a name of the level is some item's
 pub record Holds (xs : List Item) : Type 0 where
@@ -214,20 +214,20 @@ pub record Holds (xs : List Item) : Type 0 where
   pub others : List Item
   pub are : xs ≡ one ∷ others
 
-passed : (n : Name) (l rest : List Name) → Nested.isName n (first l) ≡ false → member n (first l ++ rest) ≡ true →
+passed : (n : Name) (l rest : List Name) → Nested.startsWith n (firstName l) ≡ false → member n (firstName l ++ rest) ≡ true →
     member n rest ≡ true
 unfolding member
 passed n [] rest e h = h
 passed n (m ∷ l) rest e h = rw e at h
 
-inner-holds : (depth : ℕ) (n : Name) (xs : List Item) → member n (names depth xs) ≡ true → Holds (inner depth n xs)
-unfolding names nth member
+inner-holds : (depth : ℕ) (n : Name) (xs : List Item) → member n (nthNames depth xs) ≡ true → Holds (nestedContent depth n xs)
+unfolding nthNames nth member
 inner-holds depth n [] h = absurd (false≢true h)
 inner-holds depth n (x ∷ xs) h =
-    by-cases (Nested.isName n (nth depth x))
-    (λ e. record { one = x; others = inner depth n xs; are = inner-begins depth n x xs e })
+    by-cases (Nested.startsWith n (nth depth x))
+    (λ e. record { one = x; others = nestedContent depth n xs; are = inner-begins depth n x xs e })
     (λ e.
-    let k = inner-holds depth n xs (passed n (drop depth (x .namespace)) (names depth xs) e h) in
+    let k = inner-holds depth n xs (passed n (drop depth (x .namespace)) (nthNames depth xs) e h) in
     record { one = k .one; others = k .others; are = inner-passes depth n x xs e ∙ k .are })
 
 entries-filled : (levels depth : ℕ) (apis : List Item) → depth + levels ≡ 7 → every itemNamed apis ≡ true →
@@ -236,14 +236,14 @@ unfolding entriesTree
 entries-filled zero depth apis l h g = lines-filled (directContent depth apis) forwardEnd refl
 entries-filled (suc levels) depth apis l h g =
     lines-filled (directContent depth apis) _
-    (namespaces-filled (λ name. entriesTree levels (depth + 1) (inner depth name apis)) (λ n. member n (names depth apis))
+    (namespaces-filled (λ name. entriesTree levels (depth + 1) (nestedContent depth name apis)) (λ n. member n (nthNames depth apis))
     (λ n e.
     let named = inner-named depth n apis h in
     let needed = inner-needs depth n apis g in
     let k = inner-holds depth n apis e in
     let q = k .are in (
       rw q (entries-have levels (depth + 1) (k .one) (k .others) (omega arith) (rw q at named) (rw q at needed)),
-      entries-filled levels (depth + 1) (inner depth n apis) (omega arith) named needed,
+      entries-filled levels (depth + 1) (nestedContent depth n apis) (omega arith) named needed,
     ))
     (nestedNames depth apis) (nested-among depth apis))
 

@@ -14,7 +14,7 @@ use Rattle.format.specs.declared.Atom.the-variants as Atom
 use Rattle.format.specs.Sheet.{Name, Body, struct, enum, cxxType, rustType, function, Item}
 use Rattle.syntax.specs.Items.{path, fullName}
 use Rattle.rules.specs.Rules.{gather, reservedNamespace}
-use Rattle.bridge.specs.Nested.{filter, first, nth, directContent, inner, distinct, names, nestedNames}
+use Rattle.bridge.specs.Nested.{filter, firstName, nth, directContent, nestedContent, distinct, nthNames, nestedNames}
 use Rattle.bridge.specs.WriteType.{writeAtom}
 use Rattle.bridge.specs.Write.{needsForwardDeclaration, forwardLine, indent, writeDirect, writeEntries}
 use Rattle.bridge.specs.Write.{forwardDeclarations}
@@ -67,7 +67,7 @@ unfoldable pub entriesTree : ℕ → ℕ → List Item → Forward
 entriesTree zero depth apis = linesTree (directContent depth apis) forwardEnd
 entriesTree (suc levels) depth apis =
     linesTree (directContent depth apis)
-    (namespacesTree (λ name. entriesTree levels (depth + 1) (inner depth name apis)) (nestedNames depth apis))
+    (namespacesTree (λ name. entriesTree levels (depth + 1) (nestedContent depth name apis)) (nestedNames depth apis))
 
 unfoldable pub forwardOf : List Item → Forward
 forwardOf items = entriesTree 7 0 (filter (λ x. needsForwardDeclaration (x .body)) items)
@@ -215,17 +215,17 @@ drop-named zero ns h = h
 drop-named (suc n) [] h = h
 drop-named (suc n) (x ∷ ns) h = drop-named n ns (every-cons isName x ns h .1)
 
-first-named : (ns : List Name) → every isName ns ≡ true → every isName (first ns) ≡ true
+first-named : (ns : List Name) → every isName ns ≡ true → every isName (firstName ns) ≡ true
 unfolding every
 first-named [] h = refl
 first-named (x ∷ ns) h = rw (every-cons isName x ns h .0)
 
-names-named : (depth : ℕ) (xs : List Item) → every itemNamed xs ≡ true → every isName (names depth xs) ≡ true
-unfolding every names nth
+names-named : (depth : ℕ) (xs : List Item) → every itemNamed xs ≡ true → every isName (nthNames depth xs) ≡ true
+unfolding every nthNames nth
 names-named depth [] h = refl
 names-named depth (x ∷ xs) h =
     let q = every-cons itemNamed x xs h in
-    every-append isName (nth depth x) (names depth xs)
+    every-append isName (nth depth x) (nthNames depth xs)
     (first-named (drop depth (x .namespace)) (drop-named depth (x .namespace) (named-item x (q .0) .namespaces)))
     (names-named depth xs (q .1))
 
@@ -241,7 +241,7 @@ distinct-every test seen (n ∷ ns) h =
 
 pub nested-named : (depth : ℕ) (xs : List Item) → every itemNamed xs ≡ true → every isName (nestedNames depth xs) ≡ true
 unfolding nestedNames
-nested-named depth xs h = distinct-every isName [] (names depth xs) (names-named depth xs h)
+nested-named depth xs h = distinct-every isName [] (nthNames depth xs) (names-named depth xs h)
 
 -- ---- the layout
 
@@ -250,8 +250,8 @@ unfolding directContent
 direct-named depth xs h = every-filter itemNamed _ xs h
 
 pub inner-named : (depth : ℕ) (name : Name) (xs : List Item) → every itemNamed xs ≡ true →
-    every itemNamed (inner depth name xs) ≡ true
-unfolding inner
+    every itemNamed (nestedContent depth name xs) ≡ true
+unfolding nestedContent
 inner-named depth name xs h = every-filter itemNamed _ xs h
 
 entries-laid : (levels depth : ℕ) (apis : List Item) (ts : List Token) (r : List ℕ) → every itemNamed apis ≡ true →
@@ -260,11 +260,11 @@ unfolding entriesTree writeEntries writeDirect
 entries-laid zero depth apis ts r h d =
     lines-laid depth (directContent depth apis) forwardEnd ts r (direct-named depth apis h) d
 entries-laid (suc levels) depth apis ts r h d =
-    let tree : Name → Forward = λ name. entriesTree levels (depth + 1) (inner depth name apis) in
-    let spelled : Name → List ℕ = λ name. writeEntries levels (depth + 1) (inner depth name apis) in
+    let tree : Name → Forward = λ name. entriesTree levels (depth + 1) (nestedContent depth name apis) in
+    let spelled : Name → List ℕ = λ name. writeEntries levels (depth + 1) (nestedContent depth name apis) in
     let step : (name : Name) (ts : List Token) (r : List ℕ) → Layout ts r →
     Layout (forwardTokens (tree name) ts) (spelled name ++ r)
-    = λ name ts r d. entries-laid levels (depth + 1) (inner depth name apis) ts r (inner-named depth name apis h) d in
+    = λ name ts r d. entries-laid levels (depth + 1) (nestedContent depth name apis) ts r (inner-named depth name apis h) d in
     rw (append-assoc (writeDirect depth apis) (gather (written depth tree spelled step) (nestedNames depth apis)) r)
     (lines-laid depth (directContent depth apis) (namespacesTree tree (nestedNames depth apis)) ts
     (gather (written depth tree spelled step) (nestedNames depth apis) ++ r) (direct-named depth apis h)

@@ -19,6 +19,7 @@ ghost use mathlib.Core.Path.{_≡_};
 ghost use mathlib.Core.Bool.{false};
 ghost use Prim.Native.Nat.{_≤_};
 ghost use lib.ListN.{length};
+ghost use Rattle.format.specs.Limits.{mostArguments};
 ghost use Rattle.format.specs.declared.ItemKind.the-variants.{RustFunction};
 ghost use Rattle.syntax.specs.Items.{itemAt};
 ghost use Rattle.bridge.specs.Write.{writeRustFunctionDecl, writeOpaqueTypeLayoutDecls, layoutDefinition};
@@ -41,7 +42,7 @@ pub fn write_rust_function_decl(
     out: &mut [u8],
 ) -> Content
     requires { ⌜ Whole (now s) (now names) (now items) × (now digests ≡ digestsAt (now s) (now names)) ×
-        ItemAt (now s) (now names) (now items) v × (v .kind ≡ RustFunction) × (31 ≤ length (now offsets)) ×
+        ItemAt (now s) (now names) (now items) v × (v .kind ≡ RustFunction) × (mostArguments ≤ length (now offsets)) ×
         Representing (now s) (now names) (now out) c ⌝ }
     ensures { λ r. ⌜ Runs (now (s .entry)) (now (names .entry)) (now (out .entry)) (now (out .exit))
         (writeRustFunctionDecl (itemsAt (now (s .entry)) (now (names .entry)) (now (items .entry)))
@@ -152,7 +153,7 @@ pub fn write_rust_function_shim(
     out: &mut [u8],
 ) -> Content
     requires { ⌜ Whole (now s) (now names) (now items) × (now digests ≡ digestsAt (now s) (now names)) ×
-        ItemAt (now s) (now names) (now items) v × (v .kind ≡ RustFunction) × (31 ≤ length (now offsets)) ×
+        ItemAt (now s) (now names) (now items) v × (v .kind ≡ RustFunction) × (mostArguments ≤ length (now offsets)) ×
         Representing (now s) (now names) (now out) c ⌝ }
     ensures { λ r. ⌜ Runs (now (s .entry)) (now (names .entry)) (now (out .entry)) (now (out .exit))
         (shimSection

@@ -18,7 +18,7 @@ use Rattle.decoded.proofs.Decoded.{fits-parts}
 use Rattle.decoded.proofs.Kept.{All, argument-name, argument-type, ItemKept, FunctionKept}
 use Rattle.bridge.specs.WriteType.{constUnless, spaceAfterType, writeTypeSpace}
 use Rattle.bridge.specs.Write.{indirectReturn, writePointer, Shape, shape, directReturn, directReturnOf, externReturn}
-use Rattle.bridge.specs.Write.{externArgType, externArg, receiver, slotType, slotOf, slot, externParameters}
+use Rattle.bridge.specs.Write.{externArgType, externArg, receiver, slotType, returnedIf, slot, externParameters}
 use Rattle.bridge.specs.Write.{functionDecl, layoutDecl, layoutDefinition}
 use Rattle.grammar.specs.Token.{quoted}
 use Rattle.grammar.specs.Types as Cxx
@@ -42,7 +42,7 @@ use Rattle.spelling.proofs.Symbols.{externFn-spells, operator-spells}
 
 -- a return's type fits, in a list of none or one
 pub slot-fits : (items : ℕ) (b : Bool) (r : Ret) → returnFits items r ≡ true →
-    every (typeFits 8 items) (slotOf b r) ≡ true
+    every (typeFits 8 items) (returnedIf b r) ≡ true
 unfolding every returnFits
 slot-fits items b none h = refl
 slot-fits items true (gives t) h = rw h

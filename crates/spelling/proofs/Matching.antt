@@ -160,7 +160,7 @@ module _ (items : List Item) where
       one false false t = refl
 
       go : (r : Ret) →
-          map parameterName (map (declaredSlot items) (Write.slotOf (indirectReturn items f r) r)) ≡
+          map parameterName (map (declaredSlot items) (Write.returnedIf (indirectReturn items f r) r)) ≡
           slotOf items (f .throws) r
       go none = refl
       go (gives t) = one (f .throws) (needsIndirectAbi items t) t

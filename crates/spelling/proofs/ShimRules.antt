@@ -19,7 +19,7 @@ use Rattle.format.specs.Sheet.{Name, Form, free, constMethod, mutMethod, associ
 use Rattle.rules.specs.Rules.{gather, isMethod}
 use Rattle.decoded.specs.Fits.{typeFits, returnFits, argumentFits, formFits}
 use Rattle.decoded.proofs.Kept.{All, argument-name, argument-type, ItemKept, FunctionKept}
-use Rattle.bridge.specs.Write.{indirectReturn, Shape, slot, isRoot, isFree, isMain, isHeld, direct}
+use Rattle.bridge.specs.Write.{indirectReturn, Shape, slot, isRoot, isFree, isCxxMain, isHeld, direct}
 use Rattle.grammar.specs.Types.{CxxType}
 use Rattle.grammar.specs.Tree as Tree
 use Rattle.grammar.specs.Tree.{Operand}
@@ -189,9 +189,9 @@ module _ (items : List Item) (kept : All (ItemKept items) items) where
       (arguments-ok xs (q .1))
 
   -- `int` is for `main` in the root
-  main-root : (x : Item) (f : Function) → isMain x f ≡ true →
+  main-root : (x : Item) (f : Function) → isCxxMain x f ≡ true →
       Rules.isMain (length (x .namespace)) (headOf items x (f .form)) ≡ true
-  unfolding isMain
+  unfolding isCxxMain
   main-root x f h =
       let a = both _ _ h in
       let b = both _ _ (a .0) in
@@ -211,9 +211,9 @@ module _ (items : List Item) (kept : All (ItemKept items) items) where
 
   result-ok : (x : Item) (f : Function) → FunctionKept items f →
       resultOk (Rules.isMain (length (x .namespace)) (headOf items x (f .form)))
-      (pick (isMain x f) Tree.int (resultOf items (f .return))) ≡ true
+      (pick (isCxxMain x f) Tree.int (resultOf items (f .return))) ≡ true
   unfolding resultOk returnFits
-  result-ok x f g = go (isMain x f) (main-root x f) (f .return) (g .returnFits)
+  result-ok x f g = go (isCxxMain x f) (main-root x f) (f .return) (g .returnFits)
     where
       main : Bool
       main = Rules.isMain (length (x .namespace)) (headOf items x (f .form))

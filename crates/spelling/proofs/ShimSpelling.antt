@@ -23,7 +23,7 @@ use Rattle.decoded.proofs.Decoded.{fits-parts}
 use Rattle.decoded.proofs.Kept.{All, argument-name, argument-type, ItemKept, FunctionKept}
 use Rattle.bridge.specs.WriteType.{writeType, writeTypeSpace, writeReturnType}
 use Rattle.bridge.specs.Write as Write
-use Rattle.bridge.specs.Write.{indirectReturn, Shape, shape, slotType, slotOf, slot, isFree, isConst, isMain, localName}
+use Rattle.bridge.specs.Write.{indirectReturn, Shape, shape, slotType, returnedIf, slot, isFree, isConst, isCxxMain, localName}
 use Rattle.bridge.specs.Write.{shimDecl, isHeld, heldLocal, callBegin, callEnd, direct, operandEnd, operand, operands}
 use Rattle.bridge.specs.Write.{slotReturn, shimBody, writeDoc, functionShim}
 use Rattle.grammar.specs.Token.{Token, quoted}
@@ -107,11 +107,11 @@ module _ (items : List Item) (kept : All (ItemKept items) items) where
 
   signature-spells : (x : Item) (f : Function) → isName (x .cxx) ≡ true → FunctionKept items f →
       Spells inside (shimDecl items x f)
-      (signatureTokens (pick (isMain x f) Tree.int (resultOf items (f .return))) (headOf items x (f .form))
+      (signatureTokens (pick (isCxxMain x f) Tree.int (resultOf items (f .return))) (headOf items x (f .form))
       (map (argumentOf items) (f .arguments)) (isConst (f .form)) (not (f .throws)))
   unfolding shimDecl
   signature-spells x f n g =
-      result-spells (isMain x f) (f .return) (g .returnFits) ▷ head-spells x f n (g .formFits) ▷⟨ refl ⟩ lit "(" refl
+      result-spells (isCxxMain x f) (f .return) (g .returnFits) ▷ head-spells x f n (g .formFits) ▷⟨ refl ⟩ lit "(" refl
       ▷ list-spells parameterTokens
       (map-spells parameterTokens (argumentFits (length items)) (λ a. writeTypeSpace items (a .type) ++ a .name)
       (argumentOf items) argument-spells (f .arguments) (g .argumentsFit))
@@ -189,15 +189,15 @@ module _ (items : List Item) (kept : All (ItemKept items) items) where
   end-spells (isOther t plain) = empty
 
   begins-spell : (b : Bool) (r : Ret) → returnFits (length items) r ≡ true →
-      Spells closed (gather (λ t. bytes "return " ++ callBegin items t (shape t)) (slotOf b r))
-      (formTokens (returnForm items (slotOf b r)))
+      Spells closed (gather (λ t. bytes "return " ++ callBegin items t (shape t)) (returnedIf b r))
+      (formTokens (returnForm items (returnedIf b r)))
   unfolding gather returnFits
   begins-spell b none h = empty
   begins-spell true (gives t) h = begin-spells (shaped t) (fits-parts 8 (length items) t h) ▷ empty
   begins-spell false (gives t) h = empty
 
   ends-spell : (b : Bool) (r : Ret) →
-      Spells closed (gather (λ t. callEnd (shape t)) (slotOf b r)) (closeTokens (returnForm items (slotOf b r)))
+      Spells closed (gather (λ t. callEnd (shape t)) (returnedIf b r)) (closeTokens (returnForm items (returnedIf b r)))
   unfolding gather
   ends-spell b none = empty
   ends-spell true (gives t) = end-spells (shaped t) ▷ empty
@@ -223,7 +223,7 @@ module _ (items : List Item) (kept : All (ItemKept items) items) where
       something t true indirect = p
       something t false indirect = q (pick (not indirect) (t ∷ []) [])
 
-      go : (r : Ret) → P (f .throws) (slotOf (not (indirectReturn items f r)) r)
+      go : (r : Ret) → P (f .throws) (returnedIf (not (indirectReturn items f r)) r)
       go none = nothing (f .throws)
       go (gives t) = something t (f .throws) (needsIndirectAbi items t)
 
@@ -320,8 +320,8 @@ module _ (items : List Item) (kept : All (ItemKept items) items) where
   slotReturn-spells Write.other = lit "  return " refl ▷ lit "::std::move(return$.value)" refl ▷ lit ";\n" refl
 
   ending-spells : (b : Bool) (r : Ret) →
-      Spells closed (gather (λ t. bytes "  return " ++ slotReturn (shape t) ++ bytes ";\n") (slotOf b r))
-      (endingTokens (endingOf (slotOf b r)))
+      Spells closed (gather (λ t. bytes "  return " ++ slotReturn (shape t) ++ bytes ";\n") (returnedIf b r))
+      (endingTokens (endingOf (returnedIf b r)))
   unfolding gather
   ending-spells b none = empty
   ending-spells true (gives t) = slotReturn-spells (shape t) ▷ empty

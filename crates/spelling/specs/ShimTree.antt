@@ -12,7 +12,7 @@ use Rattle.syntax.specs.Items.{itemAt}
 use Rattle.syntax.specs.Mangle.{externFn}
 use Rattle.rules.specs.Rules.{gather, isMethod}
 use Rattle.bridge.specs.Write.{Shape, rustBox, uniquePtr, ref, str, sliceRef, other, shape, slot, direct, isFree}
-use Rattle.bridge.specs.Write.{isConst, isMain, isHeld}
+use Rattle.bridge.specs.Write.{isConst, isCxxMain, isHeld}
 use Rattle.grammar.specs.Types as Cxx
 use Rattle.grammar.specs.Types.{suffixed}
 use Rattle.grammar.specs.Tree as Tree
@@ -89,7 +89,7 @@ abbrev pub shimOf : Sheet → Item → Function → Shim
 shimOf s x f =
     record {
       comments = pick (isFree (f .form)) (commentsOf (s .doxygen) (f .comment)) [];
-      result = pick (isMain x f) Tree.int (resultOf (s .items) (f .return));
+      result = pick (isCxxMain x f) Tree.int (resultOf (s .items) (f .return));
       head = headOf (s .items) x (f .form);
       parameters = map (argumentOf (s .items)) (f .arguments);
       isConst = isConst (f .form);

@@ -16,6 +16,7 @@ ghost use mathlib.Core.Path.{_≡_};
 ghost use Prim.Native.Nat.{_≤_, _<_};
 ghost use lib.ListN.{length};
 ghost use Rattle.sink.specs.Sink.{sink, Wrote};
+ghost use Rattle.format.specs.Limits.{mostArguments};
 ghost use Rattle.syntax.specs.Items.{itemAt};
 ghost use Rattle.bridge.specs.Write.{forEach, writeFunctions, text};
 ghost use Rattle.view.specs.Values.{itemsAt, Whole};
@@ -37,7 +38,8 @@ fn declare(
     out: &mut [u8],
 ) -> Content
     requires { ⌜ Whole (now s) (now names) (now items) × (now digests ≡ digestsAt (now s) (now names)) ×
-        (i < length (now items)) × (31 ≤ length (now offsets)) × Representing (now s) (now names) (now out) c ⌝ }
+        (i < length (now items)) × (mostArguments ≤ length (now offsets)) ×
+        Representing (now s) (now names) (now out) c ⌝ }
     ensures { λ r. ⌜ Runs (now (s .entry)) (now (names .entry)) (now (out .entry)) (now (out .exit))
         (declareItem (itemsAt (now (s .entry)) (now (names .entry)) (now (items .entry)))
         (itemAt (itemsAt (now (s .entry)) (now (names .entry)) (now (items .entry))) i)) c r ⌝ }
@@ -70,7 +72,8 @@ fn define(
     out: &mut [u8],
 ) -> Content
     requires { ⌜ Whole (now s) (now names) (now items) × (now digests ≡ digestsAt (now s) (now names)) ×
-        (i < length (now items)) × (31 ≤ length (now offsets)) × Representing (now s) (now names) (now out) c ⌝ }
+        (i < length (now items)) × (mostArguments ≤ length (now offsets)) ×
+        Representing (now s) (now names) (now out) c ⌝ }
     ensures { λ r. ⌜ Runs (now (s .entry)) (now (names .entry)) (now (out .entry)) (now (out .exit))
         (defineItem (sheetOf header doxygen (itemsAt (now (s .entry)) (now (names .entry)) (now (items .entry))))
         (itemAt (itemsAt (now (s .entry)) (now (names .entry)) (now (items .entry))) i)) c r ⌝ }
@@ -113,7 +116,7 @@ fn declare_all(
     out: &mut [u8],
 ) -> Content
     requires { ⌜ Whole (now s) (now names) (now items) × (now digests ≡ digestsAt (now s) (now names)) ×
-        (31 ≤ length (now offsets)) × Representing (now s) (now names) (now out) c ⌝ }
+        (mostArguments ≤ length (now offsets)) × Representing (now s) (now names) (now out) c ⌝ }
     ensures { λ r. ⌜ Runs (now (s .entry)) (now (names .entry)) (now (out .entry)) (now (out .exit))
         (forEach (declareItem (itemsAt (now (s .entry)) (now (names .entry)) (now (items .entry))))
         (itemsAt (now (s .entry)) (now (names .entry)) (now (items .entry)))) c r ⌝ }
@@ -139,7 +142,7 @@ fn define_all(
     out: &mut [u8],
 ) -> Content
     requires { ⌜ Whole (now s) (now names) (now items) × (now digests ≡ digestsAt (now s) (now names)) ×
-        (31 ≤ length (now offsets)) × Representing (now s) (now names) (now out) c ⌝ }
+        (mostArguments ≤ length (now offsets)) × Representing (now s) (now names) (now out) c ⌝ }
     ensures { λ r. ⌜ Runs (now (s .entry)) (now (names .entry)) (now (out .entry)) (now (out .exit))
         (forEach (defineItem (sheetOf header doxygen
         (itemsAt (now (s .entry)) (now (names .entry)) (now (items .entry)))))
@@ -178,7 +181,7 @@ fn write_functions(
     out: &mut [u8],
 ) -> Content
     requires { ⌜ Whole (now s) (now names) (now items) × (now digests ≡ digestsAt (now s) (now names)) ×
-        (31 ≤ length (now offsets)) × Representing (now s) (now names) (now out) c ⌝ }
+        (mostArguments ≤ length (now offsets)) × Representing (now s) (now names) (now out) c ⌝ }
     ensures { λ r. ⌜ Runs (now (s .entry)) (now (names .entry)) (now (out .entry)) (now (out .exit))
         (writeFunctions (sheetOf header doxygen (itemsAt (now (s .entry)) (now (names .entry)) (now (items .entry)))))
         c r ⌝ }

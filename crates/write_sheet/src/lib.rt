@@ -11,6 +11,7 @@ use write::write_text;
 ghost use mathlib.Core.Path.{_≡_};
 ghost use Prim.Native.Nat.{_≤_};
 ghost use lib.ListN.{length};
+ghost use Rattle.format.specs.Limits.{mostNames, mostItems};
 ghost use Rattle.format.specs.Decoding.{decode as decodeOf};
 ghost use Rattle.decode.specs.Tables.{Tables, Answers};
 ghost use Rattle.bridge.specs.Write.{text};
@@ -53,7 +54,7 @@ fn deliver_with(
     doxygen: bool,
     buf: &mut [u8],
 ) -> Written
-    requires { ⌜ Whole (now s) (now names) (now items) × (1023 ≤ length (now digests)) ⌝ }
+    requires { ⌜ Whole (now s) (now names) (now items) × (mostNames ≤ length (now digests)) ⌝ }
     ensures { λ r. ⌜ Delivers
         (text (sheetOf header doxygen (itemsAt (now (s .entry)) (now (names .entry)) (now (items .entry)))))
         (now (buf .entry)) r (now (buf .exit)) ⌝ }
@@ -105,7 +106,7 @@ fn write_judged(
 // A decoded sheet, with the two tables that its decoding filled.
 fn write_decoded(sheet: &[u8], names: &[u32], items: &[u32], o: Outline, buf: &mut [u8]) -> Written
     requires { ⌜ Tables (now sheet) (decodeOf (now sheet)) o (now names) (now items) ×
-        (1023 ≤ length (now names)) × (255 ≤ length (now items)) ⌝ }
+        (mostNames ≤ length (now names)) × (mostItems ≤ length (now items)) ⌝ }
     ensures { λ r. ⌜ Writes (now (sheet .entry)) (now (buf .entry)) r (now (buf .exit)) ⌝ }
 {
     let n = o.names as usize;

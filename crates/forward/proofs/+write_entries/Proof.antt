@@ -1,13 +1,15 @@
--- Written by tools/proofkit from answers/+write_entries.tpl (e8d7fe1e c2029c4e).
+-- Written by tools/proofkit from answers/+write_entries.tpl (af79d672 d965b365).
+use borrow.Author.Needs.{needs}
 use native.Mathlib.Omega.{arith}
 use mathlib.Core.Path.{_≡_}
 use mathlib.Core.Bool.{true}
 use Prim.Native.Nat.{ℕ, _-_, _<_, _≤_}
 use lib.ListN.{length}
+use Rattle.format.specs.Limits.{mostNamespaces}
 use Rattle.sink.specs.Sink.{sink, Wrote}
 use Rattle.sink.proofs.SinkLaws.{_▷_, wrote-length}
-use Rattle.view.specs.Values.{itemsAt}
-use Rattle.nested.specs.Groups.{itemNo, opens}
+use Rattle.view.specs.Values.{itemsAt, itemNo}
+use Rattle.nested.specs.Groups.{opens}
 use Rattle.nested.proofs.ViewLaws.{count}
 use Rattle.forward.specs.Entries.{namespacesBefore}
 use Rattle.forward.proofs.EntryLaws.{spaces-begin, spaces-turn, entries-end, entries-last, view-deep, view-first}
@@ -25,7 +27,7 @@ use Rattle.forward.proofs.+write_entries.{statement}
 use Rattle.forward.proofs.+write_entries.Tie.{close}
 
 abbrev μ-write-entries : Measures 5 write-entries-kinds.ps ℕ
-μ-write-entries κs a = 7 - a .1 .1 .1 .1 .1 .0
+μ-write-entries κs a = mostNamespaces - a .1 .1 .1 .1 .1 .0
 
 abbrev write-entries-at : ℕ → In 5 write-entries-kinds.ps
 write-entries-at t = and 5 write-entries-kinds.ps (is 5 write-entries-kinds.ps μ-write-entries t) write-entries.Pre
@@ -110,6 +112,7 @@ pub +write-entries-spec : {M : Type 1} → statement M
     (λ t. write-entries-lts.spec (K-write-entries t) (write-entries-at t) write-entries.Post write-entries-Inv-loop write-entries-μ-loop
     (write-entries-cast-n t)
     (write-entries-write-direct-requires t)
+    (λ c. search needs)
     (write-entries-same-length t)
     (write-entries-returns t)
     (λ c. omega arith)

@@ -1,11 +1,10 @@
--- Written by tools/proofkit from answers/write_direct.tpl (82d5e015 9be05954).
+-- Written by tools/proofkit from answers/write_direct.tpl (9cdd2951 0231015c).
 use native.Mathlib.Omega.{arith}
 use Prim.Native.Nat.{_≤_, _-_}
 use lib.ListN.{length}
 use Rattle.sink.specs.Sink.{sink, Wrote}
 use Rattle.sink.proofs.SinkLaws.{wrote-length}
-use Rattle.view.specs.Values.{itemsAt}
-use Rattle.nested.specs.Groups.{itemNo}
+use Rattle.view.specs.Values.{itemsAt, itemNo}
 use Rattle.nested.proofs.ViewLaws.{count}
 use Rattle.forward.specs.Entries.{directBefore}
 use Rattle.forward.proofs.EntryLaws.{direct-begin, direct-turn, direct-end}

@@ -1,12 +1,12 @@
--- Written by tools/proofkit from answers/is_first.tpl (2e60de44 d8618acc).
+-- Written by tools/proofkit from answers/is_first.tpl (92584304 f7632bbd).
 use native.Mathlib.Omega.{arith}
 use mathlib.Core.Path.{_≡_}
 use mathlib.Core.Bool.{false}
 use Prim.Native.Nat.{_≤_, _-_}
 use lib.ListN.{take}
 use Rattle.rules.specs.Rules.{any}
-use Rattle.view.specs.Values.{itemsAt}
-use Rattle.nested.specs.Groups.{itemNo, belongs}
+use Rattle.view.specs.Values.{itemsAt, itemNo}
+use Rattle.nested.specs.Groups.{belongs}
 use Rattle.nested.proofs.ViewLaws.{first-begin, first-turn, first-found, first-end}
 use Rattle.nested.proofs.is_first.Statement.{statement}
 use Rattle.nested.proofs.is_first.Tie as tie

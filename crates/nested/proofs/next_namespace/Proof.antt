@@ -1,10 +1,10 @@
--- Written by tools/proofkit from answers/next_namespace.tpl (ee59bb07 d77bc495).
+-- Written by tools/proofkit from answers/next_namespace.tpl (cd4f57cb 73fd7678).
 use native.Mathlib.Omega.{arith}
 use mathlib.Core.Path.{_≡_, refl}
 use Prim.Native.Nat.{_≤_, _-_}
 use lib.ListN.{length}
-use Rattle.view.specs.Values.{itemsAt}
-use Rattle.nested.specs.Groups.{itemNo, namesBefore}
+use Rattle.view.specs.Values.{itemsAt, itemNo}
+use Rattle.nested.specs.Groups.{namesBefore}
 use Rattle.nested.proofs.ViewLaws.{next-turn, next-found, next-end}
 use Rattle.nested.proofs.next_namespace.Statement.{statement}
 use Rattle.nested.proofs.next_namespace.Tie as tie

@@ -1,10 +1,11 @@
--- Written by tools/proofkit from answers/shares.tpl (074a58bb e98843b5).
+-- Written by tools/proofkit from answers/shares.tpl (8cc0672e 3c767282).
 use native.Mathlib.Omega.{arith}
 use mathlib.Core.Path.{_≡_}
 use Prim.Native.Nat.{_≤_, _-_}
 use lib.ListN.{drop}
 use Rattle.lexical.proofs.BoolLaws.{not-true, not-false}
-use Rattle.nested.specs.Groups.{itemNo, shared}
+use Rattle.view.specs.Values.{itemNo}
+use Rattle.nested.specs.Groups.{shared}
 use Rattle.nested.proofs.ViewLaws.{first-short, second-short, spaces-begin, spaces-turn, spaces-differ, spaces-end}
 use Rattle.nested.proofs.shares.Statement.{statement}
 use Rattle.nested.proofs.shares.Tie as tie
