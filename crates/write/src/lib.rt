@@ -148,9 +148,9 @@ fn define_all(
         (itemsAt (now (s .entry)) (now (names .entry)) (now (items .entry)))))
         (itemsAt (now (s .entry)) (now (names .entry)) (now (items .entry)))) c r ⌝ }
 {
-    let n = items.len() as u32;
+    let count = items.len() as u32;
     let mut i: u32 = 0;
-    while i < n {
+    while i < count {
         c = define(
             s,
             names,

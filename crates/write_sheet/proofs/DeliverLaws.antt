@@ -1,11 +1,12 @@
 -- From a measuring and a writing pass, and from the rules, to the promise of the service.
 use mathlib.Core.Path.{_≡_, refl, sym, _∙_}
-use mathlib.Core.List.{List, [], _++_}
+use mathlib.Core.List.{List, [], _++_, append-nil}
 use mathlib.Core.Bool.{Bool, true, false}
 use Prim.Native.Nat.{ℕ, _≤_, _<_, _^_}
 use native.Mathlib.Omega.{arith}
 use native.Mathlib.Nat.{le-trans}
-use lib.ListN.{length, take}
+use lib.ListN.{length, take, drop, drop-of-length-le}
+use lib.Seq.{length-take-le}
 use borrow.Author.Tests.{le-leb, lt-leb}
 use Rattle.refusal.specs.declared.Refusal.{Refusal}
 use Rattle.refusal.specs.declared.Refusal.the-variants.{Overrun, WrongPart, Taken, UnfitArgument, Ring}
@@ -25,7 +26,7 @@ use Rattle.services.specs.declared.Written.{Written}
 use Rattle.services.specs.declared.Written.the-variants as Written
 use Rattle.services.specs.Services.{Writes}
 use Rattle.sink.specs.Sink.{sink, Wrote}
-use Rattle.sink.proofs.ServiceLaws.{delivered, too-long}
+use Rattle.sink.proofs.ServiceLaws.{measured-nil, delivered, too-long}
 use Rattle.check_sheet.specs.Ruled.{ruledParts, elseChecked, ruledItems}
 use Rattle.sections.specs.Runs.{sheetOf}
 use Rattle.write_sheet.specs.Delivers.{Delivers, JudgedBy, Judges}
@@ -39,12 +40,20 @@ module _ {bytes m : List ℕ} {length₁ : ℕ} (l : List ℕ) (p : Wrote (sink 
       let t = lt-leb (length bytes) (length l) (d .longer) in
       record { answers = rw t; leaves = rw t (d .kept) }
 
-  pub deliver-fits : {after : List ℕ} {at : ℕ} → length₁ ≤ length (m ++ l) → length l < 2 ^ 63 →
-      Wrote (sink (m ++ l) 0) bytes (sink after at) → Delivers bytes l (Written.Length length₁) after
-  deliver-fits h small q =
-      let d = delivered l p h small q in
-      let t = le-leb (length bytes) (length l) (omega (arith, d .counted, d .within)) in
-      record { answers = rw (t, d .counted); leaves = rw t (d .bytes) }
+  -- e is what the writing pass left of as many bytes
+  pub deliver-fits : {e : List ℕ} {at : ℕ} → length₁ ≤ length (m ++ l) → length l < 2 ^ 63 →
+      Wrote (sink (take length₁ (m ++ l)) 0) bytes (sink e at) →
+      Delivers bytes l (Written.Length length₁) (e ++ drop length₁ (m ++ l))
+  deliver-fits {e} h small q =
+      let z : m ≡ [] = measured-nil p in
+      let k : length₁ ≤ length l = rw z at h in
+      let part = take length₁ l in
+      let n : length part ≡ length₁ = length-take-le length₁ l k in
+      let front : take length₁ (m ++ l) ≡ m ++ part = rw z in
+      let d = delivered part p (rw (z, n) (omega arith)) (omega (arith, n)) (rw front at q) in
+      let t = le-leb (length bytes) (length l) (omega (arith, d .counted)) in
+      let none : drop (length bytes) part ≡ [] = drop-of-length-le part {i = length bytes} (omega (arith, n, d .counted)) in
+      record { answers = rw (t, d .counted); leaves = rw (t, z, d .bytes, none, d .counted, append-nil bytes) }
 
 -- ---- the rules
 

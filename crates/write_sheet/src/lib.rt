@@ -40,7 +40,15 @@ fn deliver(
     if buf.len() < length {
         return Written::Refused(Refusal::Overrun);
     }
-    write_text(s, names, items, digests, header, doxygen, buf);
+    write_text(
+        s,
+        names,
+        items,
+        digests,
+        header,
+        doxygen,
+        &mut buf[..length],
+    );
     Written::Length(length)
 }
 
