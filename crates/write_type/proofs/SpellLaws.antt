@@ -10,8 +10,7 @@ use Rattle.lexical.specs.Bytes.{bytes}
 use Rattle.lexical.specs.Decimal.{decimal}
 use Rattle.sink.specs.Sink.{Sink, sink, Wrote}
 use Rattle.sink.proofs.SinkLaws.{_▷_, wrote-as}
-use Rattle.refusal.specs.declared.Refusal.{Refusal}
-use Rattle.format.specs.Decode.{Got, fault, got, Dec, after, many}
+use Rattle.format.specs.Decode.{Got, got, Dec, after, many}
 use Rattle.format.specs.Bits.{bits, bit, widthOf, index}
 use Rattle.format.specs.Types.{Ty, atom, named, template, pointer, str, fn, array, none, gives, tys}
 use Rattle.format.specs.Sheet.{Item}
