@@ -1,7 +1,7 @@
 -- Laws of what stands around a call, by the kind of the type that it returns.
 use mathlib.Core.Path.{_≡_, refl}
 use mathlib.Core.List.{List, [], _++_}
-use mathlib.Core.Bool.{Bool, true, false}
+use mathlib.Core.Bool.{Bool}
 use Prim.Native.Nat.{ℕ}
 use Rattle.lexical.specs.Bytes.{bytes}
 use Rattle.lexical.specs.Decimal.{pickText}
@@ -9,7 +9,7 @@ use Rattle.format.specs.Types.{Ty}
 use Rattle.format.specs.Sheet.{Item}
 use Rattle.bridge.specs.Write.{Shape, callBegin, callEnd, slotReturn}
 use Rattle.sink.specs.Sink.{Sink, Wrote}
-use Rattle.sink.proofs.SinkLaws.{_▷_, wrote-nil, wrote-as}
+use Rattle.sink.proofs.SinkLaws.{_▷_, wrote-as}
 use Rattle.write_type.specs.TypeAt.{tyAt}
 use Rattle.shape.specs.declared.ShapeKind.{ShapeKind}
 use Rattle.shape.specs.declared.ShapeKind.the-variants.{RustBox, UniquePtr, Ref, Str, SliceRef, Other}

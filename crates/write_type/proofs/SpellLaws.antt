@@ -10,8 +10,7 @@ use Rattle.lexical.specs.Bytes.{bytes}
 use Rattle.lexical.specs.Decimal.{decimal}
 use Rattle.sink.specs.Sink.{Sink, sink, Wrote}
 use Rattle.sink.proofs.SinkLaws.{_▷_, wrote-as}
-use Rattle.refusal.specs.declared.Refusal.{Refusal}
-use Rattle.format.specs.Decode.{Got, fault, got, Dec, after, many}
+use Rattle.format.specs.Decode.{Got, got, Dec, after, many}
 use Rattle.format.specs.Bits.{bits, bit, widthOf, index}
 use Rattle.format.specs.Types.{Ty, atom, named, template, pointer, str, fn, array, none, gives, tys}
 use Rattle.format.specs.Sheet.{Item}
@@ -50,8 +49,8 @@ spells-got : {A : Type 0} (spell : A → List ℕ) (z : A) {p : Got A} {x : A} {
 spells-got spell z e w f = rw e (record { wrote = w; next = f })
 
 -- what was spelled on one of two ways that meet
-pub spells-met : {A : Type 0} {spell : A → List ℕ} {z : A} {p : Got A} {r : Sink} {o q : List ℕ} {i j : ℕ} {c d : Cursor} →
-    q ≡ o → j ≡ i → d ≡ c → Spells spell z p r (sink o i) (c .at) → Spells spell z p r (sink q j) (d .at)
+pub spells-met : {A : Type 0} {spell : A → List ℕ} {z : A} {p : Got A} {r : Sink} {o q : List ℕ} {i j : ℕ}
+    {c d : Cursor} → q ≡ o → j ≡ i → d ≡ c → Spells spell z p r (sink o i) (c .at) → Spells spell z p r (sink q j) (d .at)
 spells-met e f g w = rw (e, f, g) w
 
 -- ---- the type at a position
@@ -130,13 +129,14 @@ module _ (items : List Item) where
   spells-atom s at h f w =
       in-turn (bits 4 s at) _ (h .is) (λ x m d q. rw (found f d) (record { wrote = w; next = refl }))
 
-  pub spells-str : {b : ℕ} {r t : Sink} → Wrote r (bytes "::rust::Str") t → Spells (writeType items) str (got str b) r t b
+  pub spells-str : {b : ℕ} {r t : Sink} → Wrote r (bytes "::rust::Str") t →
+      Spells (writeType items) str (got str b) r t b
   unfolding writeType
   spells-str w = record { wrote = w; next = refl }
 
 -- a named type: an index into the table of items
-module _ (n : ℕ) (s : List ℕ) (at : ℕ) {y : Ty} {w : ℕ} {i : Found} (h : Yields (after (index n s at) (λ j k. got (named j) k)) y)
-    (z : w ≡ widthOf n) (f : Finds (bits w s at) w i) where
+module _ (n : ℕ) (s : List ℕ) (at : ℕ) {y : Ty} {w : ℕ} {i : Found}
+    (h : Yields (after (index n s at) (λ j k. got (named j) k)) y) (z : w ≡ widthOf n) (f : Finds (bits w s at) w i) where
   index-is : index n s at ≡ got (i .value) (i .next .at)
   index-is =
       let j = first-there 0 (index n s at) _ h .is in
@@ -248,8 +248,8 @@ module _ (n levels : ℕ) (s : List ℕ) (at : ℕ) {y : Ty} (h : Yields (bodyAt
   abbrev ty : Dec Ty
   ty = typeAt n levels
 
-  module _ (items : List Item) {a b : Sink} {i : ℕ} {f : Found} (v : Spells (writeRet items) none (optional ty s at) a b i)
-      (g : Finds (bits 4 s i) 4 f) where
+  module _ (items : List Item) {a b : Sink} {i : ℕ} {f : Found}
+      (v : Spells (writeRet items) none (optional ty s at) a b i) (g : Finds (bits 4 s i) 4 f) where
     fn-body : bodyAt Kind.Fn n levels s at ≡
         after (many (f .value) ty s (f .next .at)) (λ ts j. got (fn (valueOr none (optional ty s at)) (tys ts)) j)
     fn-body =

@@ -1,4 +1,4 @@
--- Written by tools/proofkit from answers/+write_type+write_type_space.tpl (7316306a 0e2b529a).
+-- Written by tools/proofkit from answers/+write_type+write_type_space.tpl (dc0deaf6 ad49f5a5).
 use borrow.Author.Needs.{needs}
 use Prim.Native.Nat.{ℕ, _+_, _-_, _*_, _<_}
 use native.Mathlib.Omega.{arith}
@@ -13,9 +13,11 @@ use Rattle.bridge.specs.WriteType.{writeRet}
 use Rattle.view.specs.Values.{itemsAt}
 use Rattle.write_type.proofs.Spelling.{Spells}
 use Rattle.write_type.proofs.SpellLaws.{level-left, kind-is, body-there, as-type, not-bad, as-space}
-use Rattle.write_type.proofs.SpellLaws.{spells-atom, item-there, spells-named, spells-str, template-there, spells-template}
+use Rattle.write_type.proofs.SpellLaws.{spells-atom, item-there, spells-named, spells-str}
+use Rattle.write_type.proofs.SpellLaws.{template-there, spells-template}
 use Rattle.write_type.proofs.SpellLaws.{array-there, spells-array, pointer-there, spells-pointer}
-use Rattle.write_type.proofs.SpellLaws.{gives-there, spells-gives, spells-void, spells-met, types-there, spells-fn}
+use Rattle.write_type.proofs.SpellLaws.{gives-there, spells-gives, spells-void, spells-met}
+use Rattle.write_type.proofs.SpellLaws.{types-there, spells-fn}
 use Rattle.write_type.proofs.ListLaws.{Going, going-none, going-there, going-turn, going-done}
 use borrow.Fn.Kinds.{In}
 use borrow.Fn.PlainCycle.{Measures, is, falls, and}
@@ -134,7 +136,8 @@ write-type-loop-holds : (t : ℕ) → write-type-lts.Need-loop-holds (K-write-ty
 write-type-loop-holds t c =
     let h = body-there _ _ _ _ (c .before .before .before .before .before .before .before .before .before .before .before .before .before .before .before .before .before .before .before .before .before .before .before .before .before .pre .1 .1) (c .before .before .before .before .before .before .before .before .before .before .before .before .before .before .before .before .before .before .before .before .field .ensures) (c .before .before .before .before .before .before .before .before .before .before .before .before .before .before .before .before .before .before .before .kind-of .ensures) (c .before .before .before .before .before .before .before .before .before .before .before .before .before .before .before .before .enum-told4 .given .1) in
     let v : Spells (writeRet (itemsAt _ _ _)) none (optional (typeAt _ _) _ _) _ _ _ = ⊎-elim
-    (λ w. spells-met (w .6) (w .7) (w .8) (spells-gives _ _ _ _ h (c .before .before .before .before .before .before .before .before .before .before .before .before .before .before .before .field5 .ensures) _ (w .0 .taken) (w .2 .ensures)))
+    (λ w. spells-met (w .6) (w .7) (w .8) (spells-gives _ _ _ _ h (c .before .before .before .before .before .before .before .before .before .before .before .before .before .before .before .field5 .ensures) _ (w .0 .taken)
+    (w .2 .ensures)))
     (λ w. spells-met (w .6) (w .7) (w .8) (spells-void _ _ _ _ h (c .before .before .before .before .before .before .before .before .before .before .before .before .before .before .before .field5 .ensures) _ (w .0 .left) (w .3 .ensures)))
     (c .before .before .before .before .before .before .before .if1 .came) in
     going-none _ _ _ _ _ _ _ (types-there _ _ _ _ h _ v (c .before .before .before .before .before .before .field6 .ensures))
@@ -149,7 +152,8 @@ write-type-returns-6 : (t : ℕ) → write-type-lts.Need-returns-6 (K-write-type
 write-type-returns-6 t c =
     as-type _ _ _ _ (c .before .before .before .before .before .before .before .before .before .before .before .before .before .before .before .before .before .before .before .before .before .before .before .before .before .before .before .before .before .before .before .before .pre .1 .1) (c .before .before .before .before .before .before .before .before .before .before .before .before .before .before .before .before .before .before .before .before .before .before .before .before .before .before .before .field .ensures) (c .before .before .before .before .before .before .before .before .before .before .before .before .before .before .before .before .before .before .before .before .before .before .before .before .before .before .kind-of .ensures) _ (c .before .before .before .before .before .before .before .before .before .before .before .before .before .before .before .before .before .before .before .before .before .before .before .enum-told4 .given .1) (λ h.
     let v : Spells (writeRet (itemsAt _ _ _)) none (optional (typeAt _ _) _ _) _ _ _ = ⊎-elim
-    (λ w. spells-met (w .6) (w .7) (w .8) (spells-gives _ _ _ _ h (c .before .before .before .before .before .before .before .before .before .before .before .before .before .before .before .before .before .before .before .before .before .before .field5 .ensures) _ (w .0 .taken) (w .2 .ensures)))
+    (λ w. spells-met (w .6) (w .7) (w .8) (spells-gives _ _ _ _ h (c .before .before .before .before .before .before .before .before .before .before .before .before .before .before .before .before .before .before .before .before .before .before .field5 .ensures) _ (w .0 .taken)
+    (w .2 .ensures)))
     (λ w. spells-met (w .6) (w .7) (w .8) (spells-void _ _ _ _ h (c .before .before .before .before .before .before .before .before .before .before .before .before .before .before .before .before .before .before .before .before .before .before .field5 .ensures) _ (w .0 .left) (w .3 .ensures)))
     (c .before .before .before .before .before .before .before .before .before .before .before .before .before .before .if1 .came) in
     spells-fn _ _ _ _ h _ v (c .before .before .before .before .before .before .before .before .before .before .before .before .before .field6 .ensures) (c .before .before .before .before .before .before .before .before .before .before .before .before .before .before .before .before .before .before .before .put-bytes3 .ensures) (c .before .before .before .before .before .before .before .before .before .before .put-bytes5 .ensures)
