@@ -84,7 +84,7 @@ pub fn judge(s: &[u8], names: &[u32], items: &[u32]) -> Checked
 }
 
 // A decoded sheet, with the two tables that its decoding filled.
-fn check_decoded(sheet: &[u8], o: Outline, names: &[u32], items: &[u32]) -> Checked
+fn check_decoded(sheet: &[u8], names: &[u32], items: &[u32], o: Outline) -> Checked
     requires { ⌜ Tables (now sheet) (decodeOf (now sheet)) o (now names) (now items) ×
         (mostNames ≤ length (now names)) × (mostItems ≤ length (now items)) ⌝ }
     ensures { λ r. ⌜ r ≡ checkOf (now (sheet .entry)) ⌝ }
@@ -97,16 +97,16 @@ fn check_decoded(sheet: &[u8], o: Outline, names: &[u32], items: &[u32]) -> Chec
 // The answer to a sheet, from that of its decoding.
 fn answer(
     sheet: &[u8],
-    d: Decoded,
     names: &[u32; Outline::NAMES],
     items: &[u32; Outline::ITEMS],
+    d: Decoded,
 ) -> Checked
     requires { ⌜ Answers (now sheet) (decodeOf (now sheet)) d (now names) (now items) ⌝ }
     ensures { λ r. ⌜ r ≡ checkOf (now (sheet .entry)) ⌝ }
 {
     match d {
         Decoded::Refused(e) => Checked::Refused(e),
-        Decoded::Whole(o) => check_decoded(sheet, o, names, items),
+        Decoded::Whole(o) => check_decoded(sheet, names, items, o),
     }
 }
 
@@ -117,5 +117,5 @@ pub fn check(sheet: &[u8]) -> Checked
     let mut names = [0u32; Outline::NAMES];
     let mut items = [0u32; Outline::ITEMS];
     let d = decode(sheet, &mut names, &mut items);
-    answer(sheet, d, &names, &items)
+    answer(sheet, &names, &items, d)
 }

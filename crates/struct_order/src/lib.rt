@@ -51,7 +51,7 @@ fn order_ruled(s: &[u8], names: &[u32], items: &[u32], buf: &mut [u8]) -> Writte
 }
 
 // A decoded sheet, with the two tables that its decoding filled.
-fn order_decoded(sheet: &[u8], o: Outline, names: &[u32], items: &[u32], buf: &mut [u8]) -> Written
+fn order_decoded(sheet: &[u8], names: &[u32], items: &[u32], o: Outline, buf: &mut [u8]) -> Written
     requires { ⌜ Tables (now sheet) (decodeOf (now sheet)) o (now names) (now items) ×
         (mostNames ≤ length (now names)) × (mostItems ≤ length (now items)) ⌝ }
     ensures { λ r. ⌜ Orders (now (sheet .entry)) (now (buf .entry)) r (now (buf .exit)) ⌝ }
@@ -64,9 +64,9 @@ fn order_decoded(sheet: &[u8], o: Outline, names: &[u32], items: &[u32], buf: &m
 // The answer to a sheet, from that of its decoding.
 fn answer(
     sheet: &[u8],
-    d: Decoded,
     names: &[u32; Outline::NAMES],
     items: &[u32; Outline::ITEMS],
+    d: Decoded,
     buf: &mut [u8],
 ) -> Written
     requires { ⌜ Answers (now sheet) (decodeOf (now sheet)) d (now names) (now items) ⌝ }
@@ -74,7 +74,7 @@ fn answer(
 {
     match d {
         Decoded::Refused(e) => Written::Refused(e),
-        Decoded::Whole(o) => order_decoded(sheet, o, names, items, buf),
+        Decoded::Whole(o) => order_decoded(sheet, names, items, o, buf),
     }
 }
 
@@ -85,5 +85,5 @@ pub fn struct_order(sheet: &[u8], buf: &mut [u8]) -> Written
     let mut names = [0u32; Outline::NAMES];
     let mut items = [0u32; Outline::ITEMS];
     let d = decode(sheet, &mut names, &mut items);
-    answer(sheet, d, &names, &items, buf)
+    answer(sheet, &names, &items, d, buf)
 }

@@ -1,4 +1,4 @@
--- Written by tools/proofkit from answers/declare_all.tpl (cf58be98 34f645a1).
+-- Written by tools/proofkit from answers/declare_all.tpl (e9bc0e7a 2d60fc22).
 use borrow.Author.Needs.{needs}
 use native.Mathlib.Omega.{arith}
 use mathlib.Core.Path.{_≡_, refl}
@@ -22,7 +22,7 @@ loop-holds : tie.Need-loop-holds Inv-loop μ-loop
 loop-holds c = (pass-none _ _ _ _ _ _, refl, refl)
 
 declare-requires : tie.Need-declare-requires Inv-loop μ-loop
-declare-requires c κs = (c .before .before .before .before .before .before .before .before .before .before .pre .0, c .before .before .before .before .before .before .before .before .before .before .pre .1, c .before .before .loop-test .taken, omega (arith, c .before .before .before .loop .inv .1, c .before .before .before .before .before .before .before .before .before .before .pre .2), representing-after (c .before .before .before .before .before .before .before .before .before .before .pre .3) (c .before .before .before .loop .inv .0 .runs))
+declare-requires c κs = (c .before .before .before .before .before .before .before .before .before .before .pre .0, c .before .before .before .before .before .before .before .before .before .before .pre .1, omega (arith, c .before .before .loop-test .taken), omega (arith, c .before .before .before .loop .inv .1, c .before .before .before .before .before .before .before .before .before .before .pre .2), representing-after (c .before .before .before .before .before .before .before .before .before .before .pre .3) (c .before .before .before .loop .inv .0 .runs))
 
 add-i : tie.Need-add-i Inv-loop μ-loop
 add-i c = omega (arith, c .before .before .before .before .before .before .before .loop-test .taken, c .before .before .before .before .before .before .before .before .before .before .before .before .before .before .before .pre .0 .few)

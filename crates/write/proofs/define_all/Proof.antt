@@ -1,4 +1,4 @@
--- Written by tools/proofkit from answers/define_all.tpl (2ac3467e 5b531554).
+-- Written by tools/proofkit from answers/define_all.tpl (b52f74e6 7a9216b6).
 use borrow.Author.Needs.{needs}
 use native.Mathlib.Omega.{arith}
 use mathlib.Core.Path.{_≡_, refl}
@@ -13,16 +13,16 @@ use Rattle.write.proofs.define_all.Statement.{statement}
 use Rattle.write.proofs.define_all.Tie as tie
 
 abbrev Inv-loop : tie.InvT-loop
-Inv-loop s names items digests header doxygen offsets₀ c₀ out₀ n i₀ offsets c out i = Passed s names items (defineItem (sheetOf header doxygen (itemsAt s names items))) out₀ out c₀ c i × (length offsets ≡ length offsets₀) × (length out ≡ length out₀)
+Inv-loop s names items digests header doxygen offsets₀ c₀ out₀ count i₀ offsets c out i = Passed s names items (defineItem (sheetOf header doxygen (itemsAt s names items))) out₀ out c₀ c i × (length offsets ≡ length offsets₀) × (length out ≡ length out₀)
 
 abbrev μ-loop : tie.MeasureT-loop
-μ-loop s names items digests header doxygen offsets₀ c₀ out₀ n i₀ offsets c out i = length items - i
+μ-loop s names items digests header doxygen offsets₀ c₀ out₀ count i₀ offsets c out i = length items - i
 
 loop-holds : tie.Need-loop-holds Inv-loop μ-loop
 loop-holds c = (pass-none _ _ _ _ _ _, refl, refl)
 
 define-requires : tie.Need-define-requires Inv-loop μ-loop
-define-requires c κs = (c .before .before .before .before .before .before .before .before .before .before .pre .0, c .before .before .before .before .before .before .before .before .before .before .pre .1, c .before .before .loop-test .taken, omega (arith, c .before .before .before .loop .inv .1, c .before .before .before .before .before .before .before .before .before .before .pre .2), representing-after (c .before .before .before .before .before .before .before .before .before .before .pre .3) (c .before .before .before .loop .inv .0 .runs))
+define-requires c κs = (c .before .before .before .before .before .before .before .before .before .before .pre .0, c .before .before .before .before .before .before .before .before .before .before .pre .1, omega (arith, c .before .before .loop-test .taken), omega (arith, c .before .before .before .loop .inv .1, c .before .before .before .before .before .before .before .before .before .before .pre .2), representing-after (c .before .before .before .before .before .before .before .before .before .before .pre .3) (c .before .before .before .loop .inv .0 .runs))
 
 add-i : tie.Need-add-i Inv-loop μ-loop
 add-i c = omega (arith, c .before .before .before .before .before .before .before .loop-test .taken, c .before .before .before .before .before .before .before .before .before .before .before .before .before .before .before .pre .0 .few)
