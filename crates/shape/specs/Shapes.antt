@@ -2,7 +2,8 @@
 use mathlib.Core.Path.{_≡_}
 use mathlib.Core.List.{List}
 use mathlib.Core.Bool.{Bool, true, false}
-use Prim.Native.Nat.{ℕ}
+use Prim.Native.Nat.{ℕ, _-_}
+use Rattle.format.specs.Limits.{mostLevels}
 use Rattle.format.specs.Types.{Ty}
 use Rattle.format.specs.Decoding.{typeAt}
 use Rattle.format.specs.declared.Template.{Template}
@@ -80,8 +81,12 @@ hasInner Str = false
 hasInner SliceRef = false
 hasInner Other = false
 
+-- the levels left inside an outermost type
+abbrev pub innerLevels : ℕ
+innerLevels = mostLevels - 1
+
 -- v is a view of the shape x, in a sheet of n items
 pub record ShapeOf (n : ℕ) (s : List ℕ) (x : Shape) (v : ShapeView) : Type 0 where
-  pub is : x ≡ shapeWith (v .kind) (v .mutable) (tyAt n 7 s (v .inner .at))
-  pub inner : hasInner (v .kind) ≡ true → Yields (typeAt n 7 s (v .inner .at)) (tyAt n 7 s (v .inner .at))
+  pub is : x ≡ shapeWith (v .kind) (v .mutable) (tyAt n innerLevels s (v .inner .at))
+  pub inner : hasInner (v .kind) ≡ true → Yields (typeAt n innerLevels s (v .inner .at)) (tyAt n innerLevels s (v .inner .at))
   pub owned : isOwner (v .kind) ≡ true → v .mutable ≡ true

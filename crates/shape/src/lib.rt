@@ -25,7 +25,7 @@ ghost use Rattle.cursor.specs.Checking.{Limited};
 ghost use Rattle.view.specs.Values.{Yields, itemsAt, functionAt, typeHere, Whole};
 ghost use Rattle.view.specs.Views.{FunctionAt};
 ghost use Rattle.write_type.specs.TypeAt.{tyAt};
-ghost use Rattle.shape.specs.Shapes.{templateKind, pointerKind, shapeKind, isRef, ShapeOf};
+ghost use Rattle.shape.specs.Shapes.{innerLevels, templateKind, pointerKind, shapeKind, isRef, ShapeOf};
 
 // ---- shapes
 
@@ -176,10 +176,11 @@ pub fn write_pointer(
     at: usize,
 ) -> usize
     requires { ⌜ Whole (now s) (now names) (now items) ×
-        Yields (typeAt (length (now items)) 7 (now s) (inner .at)) (tyAt (length (now items)) 7 (now s) (inner .at)) ⌝ }
+        Yields (typeAt (length (now items)) innerLevels (now s) (inner .at))
+        (tyAt (length (now items)) innerLevels (now s) (inner .at)) ⌝ }
     ensures { λ r. ⌜ Wrote (sink (now (out .entry)) at)
         (writePointer (itemsAt (now (s .entry)) (now (names .entry)) (now (items .entry))) mutable
-        (tyAt (length (now (items .entry))) 7 (now (s .entry)) (inner .at))) (sink (now (out .exit)) r) ⌝ }
+        (tyAt (length (now (items .entry))) innerLevels (now (s .entry)) (inner .at))) (sink (now (out .exit)) r) ⌝ }
 {
     let walked = write_type_space(s, names, items, inner, Levels::MOST - 1, out, at);
     let behind = put_unless(out, walked.at, mutable, b"const ");
