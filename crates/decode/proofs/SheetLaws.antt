@@ -2,13 +2,14 @@
 use mathlib.Core.Path.{_≡_, refl, sym, _∙_}
 use mathlib.Core.List.{List}
 use mathlib.Core.Bool.{Bool, true, false, _&&_}
-use Prim.Native.Nat.{ℕ, _+_, _-_, _*_, _/_, _%_}
+use Prim.Native.Nat.{ℕ, _+_, _-_, _*_, _/_, _%_, _≤_, _<_}
 use native.Mathlib.Omega.{arith}
 use lib.ListN.{length}
-use lib.Dec.{eqb}
-use borrow.Author.Tests.{eq-eqb, ne-eqb}
+use lib.Dec.{eqb, leb}
+use borrow.Author.Tests.{eq-eqb, ne-eqb, lt-leb, le-leb}
 use Rattle.refusal.specs.declared.Refusal.{Refusal}
 use Rattle.refusal.specs.declared.Refusal.the-variants.{CutSheet, Tail}
+use Rattle.format.specs.Limits.{mostBytes}
 use Rattle.format.specs.Decode.{Got, fault, got, pick, after, many}
 use Rattle.format.specs.Bits.{bits}
 use Rattle.format.specs.Sheet.{Name, Sheet}
@@ -25,7 +26,19 @@ use Rattle.decode.specs.declared.Decoded.{Decoded}
 use Rattle.decode.specs.declared.Decoded.the-variants.{Whole, Refused}
 use Rattle.decode.specs.Tables.{behindNames, behindBits, AnswersItems, Answers}
 
+-- ---- the sheet's length
+
+module _ {n : ℕ} where
+  pub too-long : mostBytes < n → leb n mostBytes ≡ false
+  too-long h = lt-leb n mostBytes h
+
+  pub not-too-long : n ≤ mostBytes → leb n mostBytes ≡ true
+  not-too-long h = le-leb n mostBytes h
+
 -- ---- the end of the sheet
+
+pub not-zero : {z : ℕ} → (z ≡ 0 → ⊥) → eqb z 0 ≡ false
+not-zero {z} h = ne-eqb z 0 h
 
 module _ (s : List ℕ) (at : ℕ) {n : ℕ} where
   pub at-end : n ≡ at + (8 - at % 8) % 8 → n / 8 ≡ length s → eqb n (8 * length s) ≡ true

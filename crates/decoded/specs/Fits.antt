@@ -94,7 +94,8 @@ bodyFits items (function f) = functionFits items f
 
 unfoldable pub itemFits : ℕ → Item → Bool
 itemFits items x =
-    leb (length (x .namespace)) mostNamespaces && (every isName (x .namespace) && (isName (x .cxx) && bodyFits items (x .body)))
+    leb (length (x .namespace)) mostNamespaces &&
+    (every isName (x .namespace) && (isName (x .cxx) && bodyFits items (x .body)))
 
 -- ---- the sheet
 

@@ -1,6 +1,7 @@
--- Demand 3 of the bytes in a caller's buffer: "The text of every accepted sheet with header bit 0 has exactly one reading
--- in document 01's grammar, and in it each Rust function, in sheet order, has exactly one declaration and one shim, both
--- in its namespace, and the shim calls the declared symbol with operands that fit the parameters one by one."
+-- Demand 3 of the bytes in a caller's buffer: "The text of every accepted sheet with header bit 0 has exactly one
+-- reading in document 01's grammar, and in it each Rust function, in sheet order, has exactly one declaration and one
+-- shim, both in its namespace, and the shim calls the declared symbol with operands that fit the parameters one by
+-- one."
 use mathlib.Core.Path.{_≡_}
 use mathlib.Core.List.{List}
 use mathlib.Core.Bool.{false}
@@ -11,8 +12,8 @@ use Rattle.rules.specs.Judge.{accepted, judge}
 use Rattle.grammar.specs.Reading.{OneReading}
 use Rattle.agreement.specs.Agreement.{Agrees}
 
--- the sheet is accepted; with header bit 0 the first n bytes of the buffer have exactly one reading, which agrees with the
--- sheet's items; behind those bytes nothing has changed
+-- the sheet is accepted; with header bit 0 the first n bytes of the buffer have exactly one reading, which agrees with
+-- the sheet's items; behind those bytes nothing has changed
 pub record TextAtFront (sheet buffer : List ℕ) (n : ℕ) (after : List ℕ) : Type 0 where
   pub value : Sheet
   pub accepts : judge sheet ≡ accepted value

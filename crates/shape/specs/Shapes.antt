@@ -88,5 +88,7 @@ innerLevels = mostLevels - 1
 -- v is a view of the shape x, in a sheet of n items
 pub record ShapeOf (n : ℕ) (s : List ℕ) (x : Shape) (v : ShapeView) : Type 0 where
   pub is : x ≡ shapeWith (v .kind) (v .mutable) (tyAt n innerLevels s (v .inner .at))
-  pub inner : hasInner (v .kind) ≡ true → Yields (typeAt n innerLevels s (v .inner .at)) (tyAt n innerLevels s (v .inner .at))
+  pub inner :
+      hasInner (v .kind) ≡ true →
+      Yields (typeAt n innerLevels s (v .inner .at)) (tyAt n innerLevels s (v .inner .at))
   pub owned : isOwner (v .kind) ≡ true → v .mutable ≡ true

@@ -1,11 +1,11 @@
--- Written by tools/proofkit from answers/check_tail.tpl (a2201d56 61ff10f6).
+-- Written by tools/proofkit from answers/check_tail.tpl (1b27d7fe 1bbfef9a).
 use borrow.Author.Needs.{needs}
 use mathlib.Core.Path.{refl}
 use native.Mathlib.Omega.{arith}
-use borrow.Author.Tests.{eq-eqb, ne-eqb}
+use borrow.Author.Tests.{eq-eqb}
 use Rattle.format.specs.Decoding.{tail}
 use Rattle.cursor.proofs.FieldLaws.{value, cut, field-next}
-use Rattle.decode.proofs.SheetLaws.{at-end, past-end}
+use Rattle.decode.proofs.SheetLaws.{not-zero, at-end, past-end}
 use Rattle.decode.proofs.check_tail.Statement.{statement}
 use Rattle.decode.proofs.check_tail.Tie as tie
 
@@ -17,7 +17,7 @@ read-requires c κs = omega arith
 
 returns : tie.Need-returns
 unfolding tail
-returns c = λ x. rw (value (c .before .before .before .before .read .ensures) (c .before .before .f .given .1), ne-eqb _ _ (c .if1 .taken)) record { step = refl }
+returns c = λ x. rw (value (c .before .before .before .before .read .ensures) (c .before .before .f .given .1), not-zero (c .if1 .taken)) record { step = refl }
 
 returns-2 : tie.Need-returns-2
 unfolding tail

@@ -1,4 +1,4 @@
--- Written by tools/proofkit from answers/+write_entries.tpl (af79d672 d965b365).
+-- Written by tools/proofkit from answers/+write_entries.tpl (1b9b1b15 7c95a43b).
 use borrow.Author.Needs.{needs}
 use native.Mathlib.Omega.{arith}
 use mathlib.Core.Path.{_≡_}
@@ -85,7 +85,7 @@ write-entries-write-entries-requires : (t : ℕ) → write-entries-lts.Need-writ
 write-entries-write-entries-requires t c κs = (omega (arith, c .before .before .before .before .before .before .before .before .before .before .before .before .before .before .before .before .before .before .before .pre .0, c .before .before .before .before .before .before .before .before .before .before .before .before .before .before .before .before .before .before .before .pre .1 .3, c .before .before .before .before .before .before .before .before .before .if1 .left), (c .before .before .before .before .before .before .before .before .before .before .before .before .before .before .before .before .before .before .before .pre .1 .0, c .before .before .before .before .before .before .before .before .before .before .before .before .before .before .before .before .before .before .before .pre .1 .1, c .before .before .before .before .before .item .ensures .1, omega (arith, c .before .before .before .before .before .before .before .before .before .before .before .before .before .before .before .before .before .before .before .pre .1 .3, c .before .before .before .before .before .before .before .before .before .if1 .left), view-first _ _ (c .before .before .before .before .before .item .ensures .1) (c .before .before .before .before .before .item .ensures .0) (omega arith) (c .before .before .before .before .before .before .before .loop .inv .1 (rw count (omega arith)))))
 
 write-entries-close-namespace-requires : (t : ℕ) → write-entries-lts.Need-close-namespace-requires (K-write-entries t) (write-entries-at t) write-entries.Post write-entries-Inv-loop write-entries-μ-loop
-write-entries-close-namespace-requires t c κs = c .before .before .before .before .before .before .before .before .before .before .before .before .before .before .before .before .before .before .before .before .before .before .before .pre .1 .3
+write-entries-close-namespace-requires t c κs = omega (arith, c .before .before .before .before .before .before .before .before .before .before .before .before .before .before .before .before .before .before .before .before .before .before .before .pre .1 .3)
 
 write-entries-add-from : (t : ℕ) → write-entries-lts.Need-add-from (K-write-entries t) (write-entries-at t) write-entries.Post write-entries-Inv-loop write-entries-μ-loop
 write-entries-add-from t c = omega (arith, c .before .before .before .before .before .before .before .before .before .before .before .before .before .before .before .before .before .before .before .before .before .before .before .before .before .before .pre .1 .0 .few)

@@ -1,4 +1,4 @@
--- Written by tools/proofkit from answers/deliver.tpl (70355671 23713602).
+-- Written by tools/proofkit from answers/deliver.tpl (b76b5cfb d6875339).
 use borrow.Author.Needs.{needs}
 use native.Mathlib.Omega.{arith}
 use mathlib.Core.Path.{sym}
@@ -11,7 +11,7 @@ returns : tie.Need-returns
 returns c = deliver-long _ (c .before .before .before .write-text .ensures) (c .if1 .taken)
 
 slice-aggregate-write-text-2 : tie.Need-slice-aggregate-write-text-2
-slice-aggregate-write-text-2 c = sym (length-take-le _ _ (omega (arith, c .before .if1 .left)))
+slice-aggregate-write-text-2 c = search (needs, length-take-le, c .before .if1 .left)
 
 returns-2 : tie.Need-returns-2
 returns-2 c = deliver-fits _ (c .before .before .before .before .before .before .before .write-text .ensures) (c .before .before .before .before .if1 .left) (omega (arith, c .before .before .before .before .before .before .before .before .before .before .before .before .before .before .good)) (c .before .before .write-text2 .ensures)

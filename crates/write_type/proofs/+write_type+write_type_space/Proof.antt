@@ -1,4 +1,4 @@
--- Written by tools/proofkit from answers/+write_type+write_type_space.tpl (dc0deaf6 ad49f5a5).
+-- Written by tools/proofkit from answers/+write_type+write_type_space.tpl (65eae20d 38b9befa).
 use borrow.Author.Needs.{needs}
 use Prim.Native.Nat.{ℕ, _+_, _-_, _*_, _<_}
 use native.Mathlib.Omega.{arith}
@@ -97,7 +97,7 @@ abbrev write-type-μ-loop : write-type-lts.MeasureT-loop
 write-type-μ-loop s names items levels out₀ at inner here₀ next₀ count i₀ t53 t54 out here next i = count - i
 
 write-type-sub-inner : (t : ℕ) → write-type-lts.Need-sub-inner (K-write-type t) (write-type-at t) write-type.Post write-type-Inv-loop write-type-μ-loop
-write-type-sub-inner t c = level-left _ _ _ _ (c .before .before .before .before .before .before .pre .1 .1)
+write-type-sub-inner t c = omega (arith, level-left _ _ _ _ (c .before .before .before .before .before .before .pre .1 .1))
 
 write-type-returns : (t : ℕ) → write-type-lts.Need-returns (K-write-type t) (write-type-at t) write-type.Post write-type-Inv-loop write-type-μ-loop
 write-type-returns t c = as-type _ _ _ _ (c .before .before .before .before .before .before .before .before .before .before .before .before .before .before .before .pre .1 .1) (c .before .before .before .before .before .before .before .before .before .before .field .ensures) (c .before .before .before .before .before .before .before .before .before .kind-of .ensures) _ (c .before .before .before .before .before .before .enum-told .given .1) (λ h. spells-atom _ _ _ h (c .before .before .before .before .before .field2 .ensures) (c .before .before .before .write-atom .ensures))
