@@ -72,32 +72,55 @@ byte-next s b k {x} {y} h e =
     let z : 8 * (b + 1) ≡ 8 * b + 8 = omega arith in
     rw (bits-split s (8 * b) 8 k, byte-is s b h, ← z, e)
 
-pub window-is : (s : List ℕ) (b : ℕ) {b0 b1 b2 b3 b4 : ℕ} → IsByte s b b0 → IsByte s (b + 1) b1 →
-    IsByte s (b + 2) b2 → IsByte s (b + 3) b3 → IsByte s (b + 4) b4 →
-    b0 * 4294967296 + (b1 * 16777216 + (b2 * 65536 + (b3 * 256 + b4))) ≡ bitsAt s (8 * b) 40
-window-is s b h0 h1 h2 h3 h4 =
+pub word-is : (s : List ℕ) (b : ℕ) {b0 b1 b2 b3 b4 b5 b6 b7 r : ℕ} → IsByte s b b0 → IsByte s (b + 1) b1 →
+    IsByte s (b + 2) b2 → IsByte s (b + 3) b3 → IsByte s (b + 4) b4 → IsByte s (b + 5) b5 → IsByte s (b + 6) b6 →
+    IsByte s (b + 7) b7 → r ≡ b0 * 72057594037927936 + (b1 * 281474976710656 + (b2 * 1099511627776 + (b3 * 4294967296 +
+    (b4 * 16777216 + (b5 * 65536 + (b6 * 256 + b7)))))) → r ≡ bitsAt s (8 * b) 64
+word-is s b h0 h1 h2 h3 h4 h5 h6 h7 e =
     let e1 : b + 1 + 1 ≡ b + 2 = omega arith in
     let e2 : b + 2 + 1 ≡ b + 3 = omega arith in
     let e3 : b + 3 + 1 ≡ b + 4 = omega arith in
-    byte-next s b 32 h0 (byte-next s (b + 1) 24 h1 (rw e1 (byte-next s (b + 2) 16 h2 (rw e2
-    (byte-next s (b + 3) 8 h3 (rw e3 (sym (byte-is s (b + 4) h4))))))))
+    let e4 : b + 4 + 1 ≡ b + 5 = omega arith in
+    let e5 : b + 5 + 1 ≡ b + 6 = omega arith in
+    let e6 : b + 6 + 1 ≡ b + 7 = omega arith in
+    e ∙ byte-next s b 56 h0 (byte-next s (b + 1) 48 h1 (rw e1 (byte-next s (b + 2) 40 h2 (rw e2
+    (byte-next s (b + 3) 32 h3 (rw e3 (byte-next s (b + 4) 24 h4 (rw e4 (byte-next s (b + 5) 16 h5 (rw e5
+    (byte-next s (b + 6) 8 h6 (rw e6 (sym (byte-is s (b + 7) h7))))))))))))))
 
--- ---- a field out of the window
+-- ---- a field out of the word
 
-one-shifted : (n : ℕ) → n ≤ 32 → (1 * 2 ^ n) % 2 ^ 64 ≡ 2 ^ n
+one-shifted : (n : ℕ) → n ≤ 57 → (1 * 2 ^ n) % 2 ^ 64 ≡ 2 ^ n
 one-shifted n h = shl-exact {a = 1} 1 n 64 (omega arith) (omega arith) ∙ one-mul (2 ^ n)
 
-pub shl-pos : (n : ℕ) → n ≤ 32 → 0 < (1 * 2 ^ n) % 2 ^ 64
+pub shl-pos : (n : ℕ) → n ≤ 57 → 0 < (1 * 2 ^ n) % 2 ^ 64
 shl-pos n h = rw (one-shifted n h) (pow-pos n)
 
-pub extract-is : (s : List ℕ) (at n : ℕ) {w : ℕ} → n ≤ 32 → w ≡ bitsAt s (8 * (at / 8)) 40 →
-    (w / 2 ^ (40 - (at % 8 + n))) % ((1 * 2 ^ n) % 2 ^ 64) ≡ bitsAt s at n
-extract-is s at n {w} h e =
-    let d = 40 - (at % 8 + n) in
-    let z : 40 ≡ at % 8 + n + d = omega arith in
-    let y : 8 * (at / 8) + at % 8 ≡ at = omega arith in
-    let g = rw y at (bits-within s (8 * (at / 8)) (at % 8) n d) in
-    rw (one-shifted n h, e) (ap (λ (k : ℕ). bitsAt s (8 * (at / 8)) k / 2 ^ d % 2 ^ n) z ∙ g)
+-- the word begins r bits before the field
+pub extract-is : (s : List ℕ) (p at n d : ℕ) {w : ℕ} → n ≤ 57 → w ≡ bitsAt s p 64 → p ≤ at → at + n + d ≡ p + 64 →
+    (w / 2 ^ d) % ((1 * 2 ^ n) % 2 ^ 64) ≡ bitsAt s at n
+extract-is s p at n d {w} h e l q =
+    let r = at - p in
+    let z : 64 ≡ r + n + d = omega arith in
+    let y : p + r ≡ at = omega arith in
+    let g = rw y at (bits-within s p r n d) in
+    rw (one-shifted n h, e) (ap (λ (k : ℕ). bitsAt s p k / 2 ^ d % 2 ^ n) z ∙ g)
 
 pub extract-fits : (s : List ℕ) (at n : ℕ) → n ≤ 32 → bitsAt s at n < 2 ^ 32
 extract-fits s at n h = omega (arith, bits-lt s at n, pow-mono h)
+
+-- ---- bit by bit
+
+pub bits-none : (s : List ℕ) (at n : ℕ) → n ≡ 0 → 0 ≡ bitsAt s at n
+unfolding bitsAt
+bits-none s at n h = rw h
+
+pub bits-more : (s : List ℕ) (at i : ℕ) {v b : ℕ} → v ≡ bitsAt s at i → b ≡ bitAt s (at + i) →
+    2 * v + b ≡ bitsAt s at (i + 1)
+unfolding bitsAt
+bits-more s at i e h = let z : i + 1 ≡ suc i = omega arith in rw (z, e, h)
+
+pub bits-short : (s : List ℕ) (at i : ℕ) {v : ℕ} → v ≡ bitsAt s at i → i ≤ 57 → v < 2 ^ 57
+bits-short s at i e h = omega (arith, bits-lt s at i, pow-mono h)
+
+pub bits-all : (s : List ℕ) (at : ℕ) {i n v : ℕ} → v ≡ bitsAt s at i → i ≡ n → v ≡ bitsAt s at n
+bits-all s at e h = rw (← h) e

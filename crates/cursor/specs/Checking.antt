@@ -1,10 +1,15 @@
 -- What the code that walks a sheet promises, by the decoder of the definition that it stands for.
 use mathlib.Core.Path.{_≡_}
-use mathlib.Core.List.{List}
-use Prim.Native.Nat.{ℕ, _≤_, _<_}
+use mathlib.Core.List.{List, [], _∷_}
+use Prim.Native.Nat.{ℕ, _-_, _≤_, _<_}
+use lib.Dec.{leb}
 use lib.ListN.{length, take, getD}
-use Rattle.format.specs.Limits.{mostBytes}
-use Rattle.format.specs.Decode.{Got, fault, got, Dec, after}
+use Rattle.refusal.specs.declared.Refusal.{Refusal}
+use Rattle.refusal.specs.declared.Refusal.the-variants.{CutSheet, Edition, BadName, LooseIndex, BadKind, TooDeep}
+use Rattle.refusal.specs.declared.Refusal.the-variants.{BadComment, Tail, WrongPart, Taken, UnfitArgument, Ring}
+use Rattle.refusal.specs.declared.Refusal.the-variants.{Overrun}
+use Rattle.format.specs.Limits.{mostBytes, mostBits}
+use Rattle.format.specs.Decode.{Got, fault, got, Dec, pick, after}
 use Rattle.cursor.specs.declared.Field.{Field}
 use Rattle.cursor.specs.declared.Field.the-variants.{Value, Cut}
 use Rattle.cursor.specs.declared.Step.{Step}
@@ -34,6 +39,21 @@ stepOf (got x n) = At (record { at = n })
 -- a checker's answer is that of the decoder's p
 pub record Checks {A : Type 0} (p : Got A) (r : Step) : Type 0 where
   pub step : r ≡ stepOf p
+
+-- ---- checkers that answer by one number
+
+-- the refusals by number; 0 is none's
+abbrev pub refusals : List Refusal
+refusals =
+    Overrun ∷ CutSheet ∷ Edition ∷ BadName ∷ LooseIndex ∷ BadKind ∷ TooDeep ∷ BadComment ∷ Tail ∷ WrongPart ∷ Taken ∷
+    UnfitArgument ∷ Ring ∷ Overrun ∷ []
+
+unfoldable pub refusalOf : ℕ → Refusal
+refusalOf n = getD refusals n Overrun
+
+-- what a number says: a position, or behind the last one a refusal's number
+unfoldable pub stepIn : ℕ → Step
+stepIn r = pick (leb r mostBits) (At (record { at = r })) (Fault (refusalOf (r - mostBits)))
 
 -- ---- tables that are filled
 

@@ -1,4 +1,4 @@
--- Written by tools/proofkit from answers/read.tpl (7c4c051d 29a9c22f).
+-- Written by tools/proofkit from answers/read.tpl (7c4c051d f96ea996).
 use borrow.Author.Needs.{needs}
 use native.Mathlib.Omega.{arith}
 use Rattle.cursor.proofs.FieldLaws.{field-past, field-cut, field-whole}
@@ -9,10 +9,10 @@ returns : tie.Need-returns
 returns c = field-past _ _ _ (c .before .before .pre .0) (c .if1 .taken)
 
 returns-2 : tie.Need-returns-2
-returns-2 c = field-cut _ (c .before .before .before .args .s .now) _ (omega arith)
+returns-2 c = field-cut _ (c .before .before .before .before .args .s .now) _ (omega arith)
 
 returns-3 : tie.Need-returns-3
-returns-3 c = field-whole (c .before .before .before .before .args .n) (c .before .before .before .before .args .s .now) (c .before .before .before .before .args .c .at) (omega arith) (c .extract .ensures)
+returns-3 c = field-whole (c .before .before .before .before .before .args .n) (c .before .before .before .before .before .args .s .now) (c .before .before .before .before .before .args .c .at) (omega arith) (c .extract .ensures)
 
 pub read-spec : {M : Type 1} → statement M
 read-spec =
@@ -20,8 +20,7 @@ read-spec =
     (tie.spec
     returns
     (λ c. search needs)
-    (λ c. search needs)
-    (λ c. search needs)
+    (λ c κs. search needs)
     returns-2
     (λ c κs. search needs)
     returns-3)
