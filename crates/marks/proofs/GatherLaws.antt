@@ -8,7 +8,10 @@ use Rattle.format.specs.Decode.{Got, fault, got, Dec, after, many}
 use Rattle.cursor.specs.declared.Cursor.{Cursor}
 use Rattle.cursor.specs.declared.Step.{Step}
 use Rattle.cursor.specs.declared.Step.the-variants.{At, Fault}
-use Rattle.cursor.specs.Checking.{stepOf, Checks}
+use Rattle.format.specs.Limits.{mostBits}
+use Rattle.cursor.specs.Checking.{stepOf, Checks, stepIn}
+use Rattle.cursor.proofs.CheckLaws.{stopped}
+use Rattle.cursor.proofs.CodeLaws.{fault-in}
 use Rattle.marks.specs.Gathering.{each, gatheredOf, answered, Gathers}
 
 module _ {A S : Type 0} {f : A → S → S} where
@@ -64,6 +67,15 @@ module _ {A S : Type 0} {f : A → S → S} where
   -- what refuses says nothing of the facts
   pub refused : {p : Got A} {u v : S} {e : Refusal} → p ≡ fault e → Gathers f p u (Fault e) v
   refused e = rw e record { gathered = refl }
+
+-- what comes behind a refusal that is passed on does not matter
+pub stays : {A B S T : Type 0} {f : A → S → S} {g : B → T → T} (k : A → ℕ → Got B) {p : Got A} {u v : S} {w x : T} {r : ℕ} →
+    Gathers f p u (stepIn r) v → mostBits < r → Gathers g (after p k) w (stepIn r) x
+stays k {r} h l = rw (fault-in l, halted h (fault-in l)) record { gathered = refl }
+
+pub stays-checks : {A B T : Type 0} {g : B → T → T} (k : A → ℕ → Got B) {p : Got A} {w x : T} {r : ℕ} →
+    Checks p (stepIn r) → mostBits < r → Gathers g (after p k) w (stepIn r) x
+stays-checks k {r} h l = rw (fault-in l, stopped h (fault-in l)) record { gathered = refl }
 
 -- a call with no facts
 pub idle : {A B S : Type 0} {h : B → S → S} (g : A → B) {p : Got A} {u v : S} {r : Step} →

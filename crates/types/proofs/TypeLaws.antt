@@ -3,22 +3,23 @@ use mathlib.Core.Path.{_≡_, sym, ap, _∙_}
 use mathlib.Core.List.{List}
 use Prim.Native.Nat.{ℕ, zero, suc, _-_, _<_, _≤_}
 use native.Mathlib.Omega.{arith}
-use lib.ListN.{getD, List·getD-eq-default}
+use lib.ListN.{List·getD-eq-default}
 use Rattle.refusal.specs.declared.Refusal.the-variants.{CutSheet}
 use Rattle.format.specs.Decode.{Got, fault, got, after}
 use Rattle.format.specs.Bits.{bits}
-use Rattle.format.specs.declared.TypeKind.{TypeKind}
 use Rattle.format.specs.declared.TypeKind.the-variants as Kind
 use Rattle.format.specs.Decoding.{kinds, kindOf, typeBody, tooDeep, typeAt}
-use Rattle.cursor.proofs.CheckLaws.{getD-same}
 
 pub kind-past : (k : ℕ) → 15 < k → Kind.Bad ≡ kindOf k
 unfolding kindOf
 kind-past k h = sym (List·getD-eq-default kinds Kind.Bad h)
 
-pub kind-at : (k : ℕ) (d : TypeKind) → k ≤ 15 → getD kinds k d ≡ kindOf k
-unfolding kindOf
-kind-at k d h = getD-same kinds k d Kind.Bad (omega arith)
+-- a number that is none of 0, 1, .. lies above them
+pub above-none : (k : ℕ) → 0 ≤ k
+above-none k = omega arith
+
+pub above : (i : ℕ) {k : ℕ} → i ≤ k → (k ≡ i → ⊥) → i < k
+above i l h = omega arith
 
 module _ (items levels : ℕ) (s : List ℕ) (at : ℕ) where
   pub type-cut : bits 4 s at ≡ fault CutSheet → typeAt items levels s at ≡ fault CutSheet

@@ -1,20 +1,29 @@
-// The types of a sheet, walked by recursion over the levels left (document 01, "A type is a 4-bit kind").
+// The types of a sheet, walked by recursion over the levels left (document 01, "A type is a 4-bit kind"). What they name
+// is marked on the way, as far as the lent table reaches: who wants no marks lends an empty one.
 use cursor::Cursor;
-use cursor::Field;
 use cursor::Step;
-use cursor::check_index;
-use cursor::read;
-use cursor::skip;
+use cursor::end_of;
+use cursor::extract;
+use cursor::pass;
+use cursor::step_in;
+use cursor::width;
 use format::Pointer;
 use format::Template;
 use format::TypeKind;
+use marks::Mark;
+use marks::set_mark;
 use refusal::Refusal;
 ghost use mathlib.Core.Path.{_≡_};
-ghost use Rattle.format.specs.Limits.{mostLevels};
+ghost use Prim.Native.Nat.{_≤_};
+ghost use Rattle.format.specs.Limits.{mostLevels, mostBits};
 ghost use Rattle.format.specs.Decode.{many};
+ghost use Rattle.format.specs.Bits.{index};
 ghost use Rattle.format.specs.Decoding.{kindOf, tooDeep, typeBody, typeAt, type, optional};
 ghost use Rattle.format.specs.declared.TypeKind.the-variants.{Fn};
-ghost use Rattle.cursor.specs.Checking.{Limited, Checks};
+ghost use Rattle.cursor.specs.declared.Step.the-variants.{Fault};
+ghost use Rattle.cursor.specs.Checking.{Limited, Checks, stepIn};
+ghost use Rattle.marks.specs.Gathering.{each, Gathers};
+ghost use Rattle.marks.specs.Marking.{markIndex, markTy, markRet};
 
 // The levels that a type may still have.
 pub struct Levels {
@@ -33,177 +42,223 @@ impl Levels {
     }
 }
 
-const KINDS: [TypeKind; 16] = [
-    TypeKind::Atom,
-    TypeKind::Named,
-    TypeKind::Template(Template::RustBox),
-    TypeKind::Template(Template::RustVec),
-    TypeKind::Template(Template::UniquePtr),
-    TypeKind::Template(Template::SharedPtr),
-    TypeKind::Template(Template::WeakPtr),
-    TypeKind::Pointer(Pointer::Ref),
-    TypeKind::Pointer(Pointer::Ptr),
-    TypeKind::Str,
-    TypeKind::Template(Template::CxxVector),
-    TypeKind::Fn,
-    TypeKind::Bad,
-    TypeKind::Pointer(Pointer::SliceRef),
-    TypeKind::Array,
-    TypeKind::Bad,
-];
-
 // What the number k of a kind says.
 pub fn kind_of(k: u32) -> TypeKind
     ensures { λ r. ⌜ r ≡ kindOf k ⌝ }
 {
-    if 15 < k {
-        return TypeKind::Bad;
+    match k {
+        0 => TypeKind::Atom,
+        1 => TypeKind::Named,
+        2 => TypeKind::Template(Template::RustBox),
+        3 => TypeKind::Template(Template::RustVec),
+        4 => TypeKind::Template(Template::UniquePtr),
+        5 => TypeKind::Template(Template::SharedPtr),
+        6 => TypeKind::Template(Template::WeakPtr),
+        7 => TypeKind::Pointer(Pointer::Ref),
+        8 => TypeKind::Pointer(Pointer::Ptr),
+        9 => TypeKind::Str,
+        10 => TypeKind::Template(Template::CxxVector),
+        11 => TypeKind::Fn,
+        12 => TypeKind::Bad,
+        13 => TypeKind::Pointer(Pointer::SliceRef),
+        14 => TypeKind::Array,
+        15 => TypeKind::Bad,
+        _ => TypeKind::Bad,
     }
-    KINDS[k as usize]
 }
+
+// The walks answer by a number, as `stepIn` of crate cursor reads it.
 
 // The refusal of a kind where no level is left.
-fn too_deep(k: TypeKind) -> Refusal
-    ensures { λ r. ⌜ r ≡ tooDeep k ⌝ }
+fn too_deep(k: TypeKind) -> u32
+    ensures { λ r. ⌜ stepIn r ≡ Fault (tooDeep k) ⌝ }
 {
     match k {
-        TypeKind::Bad => Refusal::BadKind,
-        TypeKind::Atom => Refusal::TooDeep,
-        TypeKind::Named => Refusal::TooDeep,
-        TypeKind::Template(_) => Refusal::TooDeep,
-        TypeKind::Pointer(_) => Refusal::TooDeep,
-        TypeKind::Str => Refusal::TooDeep,
-        TypeKind::Fn => Refusal::TooDeep,
-        TypeKind::Array => Refusal::TooDeep,
+        TypeKind::Bad => Cursor::BAD_KIND,
+        TypeKind::Atom => Cursor::TOO_DEEP,
+        TypeKind::Named => Cursor::TOO_DEEP,
+        TypeKind::Template(_) => Cursor::TOO_DEEP,
+        TypeKind::Pointer(_) => Cursor::TOO_DEEP,
+        TypeKind::Str => Cursor::TOO_DEEP,
+        TypeKind::Fn => Cursor::TOO_DEEP,
+        TypeKind::Array => Cursor::TOO_DEEP,
     }
 }
 
-// Past the type at c.
-fn walk_type(s: &[u8], c: Cursor, items: u32, levels: Levels) -> Step
-    requires { ⌜ Limited (now s) ⌝ }
-    ensures { λ r. ⌜ Checks (typeAt items (levels .left) (now (s .entry)) (c .at)) r ⌝ }
+// Past an item index, which is marked.
+fn walk_index(s: &[u8], at: u32, items: u32, marks: &mut [u8]) -> u32
+    requires { ⌜ Limited (now s) × (at ≤ mostBits) ⌝ }
+    ensures { λ r. ⌜ Gathers markIndex (index items (now (s .entry)) at) (now (marks .entry)) (stepIn r)
+        (now (marks .exit)) ⌝ }
 {
-    let f = read(s, c, 4);
-    match f {
-        Field::Cut => Step::Fault(Refusal::CutSheet),
-        Field::Value(k, inside) => {
-            let kind = kind_of(k);
-            let left = levels.left;
-            if left == 0 {
-                return Step::Fault(too_deep(kind));
-            }
-            let deeper = Levels { left: left - 1 };
-            walk_body(s, inside, items, deeper, kind)
-        }
+    let w = width(items);
+    let end = at + w;
+    if end_of(s) < end {
+        return Cursor::CUT;
     }
+    let i = extract(s, at, w);
+    if items <= i {
+        return Cursor::LOOSE;
+    }
+    set_mark(marks, Mark::NAMED + i as usize);
+    end
+}
+
+// Past the type at a position.
+fn walk_type(s: &[u8], at: u32, items: u32, left: u32, marks: &mut [u8]) -> u32
+    requires { ⌜ Limited (now s) × (at ≤ mostBits) ⌝ }
+    ensures { λ r. ⌜ Gathers markTy (typeAt items left (now (s .entry)) at) (now (marks .entry)) (stepIn r)
+        (now (marks .exit)) ⌝ }
+{
+    let body = at + 4;
+    if end_of(s) < body {
+        return Cursor::CUT;
+    }
+    let kind = kind_of(extract(s, at, 4));
+    if left == 0 {
+        return too_deep(kind);
+    }
+    walk_body(s, body, items, left - 1, kind, marks)
 }
 
 // Past what stands behind a kind.
-fn walk_body(s: &[u8], c: Cursor, items: u32, levels: Levels, kind: TypeKind) -> Step
-    requires { ⌜ Limited (now s) ⌝ }
-    ensures { λ r. ⌜ Checks (typeBody kind items (typeAt items (levels .left)) (now (s .entry)) (c .at)) r ⌝ }
+fn walk_body(s: &[u8], at: u32, items: u32, left: u32, kind: TypeKind, marks: &mut [u8]) -> u32
+    requires { ⌜ Limited (now s) × (at ≤ mostBits) ⌝ }
+    ensures { λ r. ⌜ Gathers markTy (typeBody kind items (typeAt items left) (now (s .entry)) at)
+        (now (marks .entry)) (stepIn r) (now (marks .exit)) ⌝ }
 {
     match kind {
-        TypeKind::Atom => skip(s, c, 4),
-        TypeKind::Named => check_index(s, c, items),
-        TypeKind::Template(_) => walk_type(s, c, items, levels),
+        TypeKind::Atom => pass(s, at, 4),
+        TypeKind::Named => walk_index(s, at, items, marks),
+        TypeKind::Template(_) => walk_type(s, at, items, left, marks),
         TypeKind::Pointer(_) => {
-            let r = skip(s, c, 1);
-            match r {
-                Step::At(inner) => walk_type(s, inner, items, levels),
-                Step::Fault(e) => Step::Fault(e),
+            let r = pass(s, at, 1);
+            if Cursor::LAST < r {
+                return r;
             }
+            walk_type(s, r, items, left, marks)
         }
-        TypeKind::Str => Step::At(c),
-        TypeKind::Fn => walk_fn(s, c, items, levels),
+        TypeKind::Str => at,
+        TypeKind::Fn => walk_fn(s, at, items, left, marks),
         TypeKind::Array => {
-            let r = walk_type(s, c, items, levels);
-            match r {
-                Step::At(next) => skip(s, next, 32),
-                Step::Fault(e) => Step::Fault(e),
+            let r = walk_type(s, at, items, left, marks);
+            if Cursor::LAST < r {
+                return r;
             }
+            pass(s, r, 32)
         }
-        TypeKind::Bad => Step::Fault(Refusal::BadKind),
+        TypeKind::Bad => Cursor::BAD_KIND,
     }
 }
 
 // Past a type that a bit may leave out.
-fn walk_return(s: &[u8], c: Cursor, items: u32, levels: Levels) -> Step
-    requires { ⌜ Limited (now s) ⌝ }
-    ensures { λ r. ⌜ Checks (optional (typeAt items (levels .left)) (now (s .entry)) (c .at)) r ⌝ }
+fn walk_return(s: &[u8], at: u32, items: u32, left: u32, marks: &mut [u8]) -> u32
+    requires { ⌜ Limited (now s) × (at ≤ mostBits) ⌝ }
+    ensures { λ r. ⌜ Gathers markRet (optional (typeAt items left) (now (s .entry)) at) (now (marks .entry)) (stepIn r)
+        (now (marks .exit)) ⌝ }
 {
-    let f = read(s, c, 1);
-    match f {
-        Field::Cut => Step::Fault(Refusal::CutSheet),
-        Field::Value(b, next) => {
-            if b == 1 {
-                return walk_type(s, next, items, levels);
-            }
-            Step::At(next)
-        }
+    let next = at + 1;
+    if end_of(s) < next {
+        return Cursor::CUT;
     }
+    if extract(s, at, 1) == 1 {
+        return walk_type(s, next, items, left, marks);
+    }
+    next
 }
 
 // Past a Fn's return type, count and types.
-fn walk_fn(s: &[u8], c: Cursor, items: u32, levels: Levels) -> Step
-    requires { ⌜ Limited (now s) ⌝ }
-    ensures { λ r. ⌜ Checks (typeBody Fn items (typeAt items (levels .left)) (now (s .entry)) (c .at)) r ⌝ }
+fn walk_fn(s: &[u8], at: u32, items: u32, left: u32, marks: &mut [u8]) -> u32
+    requires { ⌜ Limited (now s) × (at ≤ mostBits) ⌝ }
+    ensures { λ r. ⌜ Gathers markTy (typeBody Fn items (typeAt items left) (now (s .entry)) at) (now (marks .entry))
+        (stepIn r) (now (marks .exit)) ⌝ }
 {
-    let r = walk_return(s, c, items, levels);
-    match r {
-        Step::Fault(e) => Step::Fault(e),
-        Step::At(count) => {
-            let f = read(s, count, 4);
-            match f {
-                Field::Cut => Step::Fault(Refusal::CutSheet),
-                Field::Value(n, first) => walk_types(s, first, items, levels, n),
-            }
-        }
+    let r = walk_return(s, at, items, left, marks);
+    if Cursor::LAST < r {
+        return r;
     }
+    let first = r + 4;
+    if end_of(s) < first {
+        return Cursor::CUT;
+    }
+    let n = extract(s, r, 4);
+    walk_types(s, first, items, left, n, marks)
 }
 
 // Past n types.
-fn walk_types(s: &[u8], c: Cursor, items: u32, levels: Levels, n: u32) -> Step
-    requires { ⌜ Limited (now s) ⌝ }
-    ensures { λ r. ⌜ Checks (many n (typeAt items (levels .left)) (now (s .entry)) (c .at)) r ⌝ }
+fn walk_types(s: &[u8], at: u32, items: u32, left: u32, n: u32, marks: &mut [u8]) -> u32
+    requires { ⌜ Limited (now s) × (at ≤ mostBits) ⌝ }
+    ensures { λ r. ⌜ Gathers (each markTy) (many n (typeAt items left) (now (s .entry)) at) (now (marks .entry))
+        (stepIn r) (now (marks .exit)) ⌝ }
 {
-    let mut next = c;
+    let mut next = at;
     let mut i: u32 = 0;
     while i < n {
-        let r = walk_type(s, next, items, levels);
-        match r {
-            Step::At(p) => {
-                next = p;
-            }
-            Step::Fault(e) => {
-                return Step::Fault(e);
-            }
+        let r = walk_type(s, next, items, left, marks);
+        if Cursor::LAST < r {
+            return r;
         }
+        next = r;
         i = i + 1;
     }
-    Step::At(next)
+    next
+}
+
+// Past an item index.
+pub fn check_item_index(s: &[u8], c: Cursor, items: u32, marks: &mut [u8]) -> Step
+    requires { ⌜ Limited (now s) ⌝ }
+    ensures { λ r. ⌜ Gathers markIndex (index items (now (s .entry)) (c .at)) (now (marks .entry)) r
+        (now (marks .exit)) ⌝ }
+{
+    let at = c.at;
+    if Cursor::LAST < at {
+        return Step::Fault(Refusal::CutSheet);
+    }
+    let r = walk_index(s, at, items, marks);
+    step_in(r)
 }
 
 // Past an outermost type, in a sheet of so many items.
-pub fn check_type(s: &[u8], c: Cursor, items: u32) -> Step
+pub fn check_type(s: &[u8], c: Cursor, items: u32, marks: &mut [u8]) -> Step
     requires { ⌜ Limited (now s) ⌝ }
-    ensures { λ r. ⌜ Checks (type items (now (s .entry)) (c .at)) r ⌝ }
+    ensures { λ r. ⌜ Gathers markTy (type items (now (s .entry)) (c .at)) (now (marks .entry)) r
+        (now (marks .exit)) ⌝ }
 {
-    walk_type(s, c, items, Levels::new())
+    let at = c.at;
+    if Cursor::LAST < at {
+        return Step::Fault(Refusal::CutSheet);
+    }
+    let r = walk_type(s, at, items, Levels::MOST, marks);
+    step_in(r)
 }
 
 // Past n outermost types.
-pub fn check_types(s: &[u8], c: Cursor, items: u32, n: u32) -> Step
+pub fn check_types(s: &[u8], c: Cursor, items: u32, n: u32, marks: &mut [u8]) -> Step
     requires { ⌜ Limited (now s) ⌝ }
-    ensures { λ r. ⌜ Checks (many n (type items) (now (s .entry)) (c .at)) r ⌝ }
+    ensures { λ r. ⌜ Gathers (each markTy) (many n (type items) (now (s .entry)) (c .at)) (now (marks .entry)) r
+        (now (marks .exit)) ⌝ }
 {
-    walk_types(s, c, items, Levels::new(), n)
+    if n == 0 {
+        return Step::At(c);
+    }
+    let at = c.at;
+    if Cursor::LAST < at {
+        return Step::Fault(Refusal::CutSheet);
+    }
+    let r = walk_types(s, at, items, Levels::MOST, n, marks);
+    step_in(r)
 }
 
 // Past an outermost type that a bit may leave out.
-pub fn check_return(s: &[u8], c: Cursor, items: u32) -> Step
+pub fn check_return(s: &[u8], c: Cursor, items: u32, marks: &mut [u8]) -> Step
     requires { ⌜ Limited (now s) ⌝ }
-    ensures { λ r. ⌜ Checks (optional (type items) (now (s .entry)) (c .at)) r ⌝ }
+    ensures { λ r. ⌜ Gathers markRet (optional (type items) (now (s .entry)) (c .at)) (now (marks .entry)) r
+        (now (marks .exit)) ⌝ }
 {
-    walk_return(s, c, items, Levels::new())
+    let at = c.at;
+    if Cursor::LAST < at {
+        return Step::Fault(Refusal::CutSheet);
+    }
+    let r = walk_return(s, at, items, Levels::MOST, marks);
+    step_in(r)
 }
