@@ -4,3 +4,4 @@ pub mod WidthLaws
 pub mod CheckLaws
 pub mod TableLaws
 pub mod ReadLaws
+pub mod YieldLaws

@@ -1,5 +1,6 @@
 // Rules 9 to 11 of document 01's table, on a decoded sheet.
 use cursor::Cursor;
+use cursor::fields::field;
 use cursor::width;
 use format::ItemKind;
 use format::Template;
@@ -7,7 +8,6 @@ use format::TypeKind;
 use types::Levels;
 use view::FunctionView;
 use view::argument;
-use view::field;
 use view::fill_arguments;
 use view::function;
 use view::is_function;

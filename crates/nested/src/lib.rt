@@ -1,8 +1,8 @@
 // nested.rs: the items of a namespace's level, without a list of them. A group is named by one of its items, the
 // leader, and a depth: its members need a forward declaration and lie in the leader's first so many namespaces.
+use cursor::fields::field;
 use format::ItemKind;
 use view::ItemView;
-use view::field;
 use view::item;
 use view::kind_at;
 use view::namespace;

@@ -1,12 +1,12 @@
 // Text with pending boundaries and sections: the port of block.rs and out.rs. The text stands in a buffer that the
 // caller lends, from its first byte on.
 use cursor::Cursor;
+use cursor::fields::field;
 use cursor::width;
 use put_name::put_name_of;
 use sink::put_bytes;
 use sink::put_when;
 use view::ItemView;
-use view::field;
 use view::same_name;
 ghost use mathlib.Core.Path.{_≡_};
 ghost use mathlib.Core.List.{[]};

@@ -1,4 +1,3 @@
-pub mod ValueLaws
 pub mod PartLaws
 pub mod NameLaws
 pub mod DigestLaws

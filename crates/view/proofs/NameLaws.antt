@@ -17,11 +17,11 @@ use Rattle.cursor.proofs.CheckLaws.{getD-same}
 use Rattle.cursor.proofs.FieldLaws.{field-next}
 use Rattle.cursor.proofs.WidthLaws.{index-field, index-lt}
 use Rattle.names.specs.Fetching.{Fetched}
-use Rattle.view.specs.declared.Found.{Found}
+use Rattle.cursor.specs.declared.Found.{Found}
 use Rattle.view.specs.Values.{valueOr, nextOf, Yields, nameAt, namesAt}
 use Rattle.view.specs.Digests.{digest, digestsAt}
 use Rattle.view.specs.Views.{Finds}
-use Rattle.view.proofs.ValueLaws.{in-turn, got-value, got-next, found}
+use Rattle.cursor.proofs.YieldLaws.{in-turn, got-value, got-next, found}
 
 pub map-at : {A : Type 0} (f : ℕ → A) (l : List ℕ) (i : ℕ) (z : A) → i < length l → getD (map f l) i z ≡ f (getD l i 0)
 map-at f l i z h =

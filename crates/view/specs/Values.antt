@@ -5,27 +5,12 @@ use mathlib.Core.Bool.{false}
 use Prim.Native.Nat.{ℕ, _<_, _≤_}
 use lib.ListN.{length, getD}
 use Rattle.format.specs.Limits.{mostNames, mostItems}
-use Rattle.format.specs.Decode.{Got, fault, got}
 use Rattle.format.specs.Types.{Ty, str, none}
 use Rattle.format.specs.Sheet.{Name, free, Argument, Function, Body, struct, enum, cxxType, rustType, function, Item}
 use Rattle.format.specs.Decoding.{name, item, type}
 use Rattle.syntax.specs.Items.{itemAt}
 use Rattle.cursor.specs.Checking.{Limited}
-
--- ---- what a decoder gives, where it gives anything
-
-abbrev pub valueOr : {A : Type 0} → A → Got A → A
-valueOr z (fault e) = z
-valueOr z (got x n) = x
-
--- the position behind it
-abbrev pub nextOf : {A : Type 0} → Got A → ℕ
-nextOf (fault e) = 0
-nextOf (got x n) = n
-
--- the decoder's p is the value x
-pub record Yields {A : Type 0} (p : Got A) (x : A) : Type 0 where
-  pub is : p ≡ got x (nextOf p)
+pub use Rattle.cursor.specs.Yielding.{valueOr, nextOf, Yields}
 
 -- ---- values by position
 

@@ -1,9 +1,8 @@
 // Random access into a decoded sheet: its names, items and types by number. Every reader is lent the sheet and the
 // tables of the positions of its names and items, cut to their lengths.
 use cursor::Cursor;
-use cursor::Field;
 use cursor::Step;
-use cursor::read;
+use cursor::fields::field;
 use cursor::width;
 use format::ItemKind;
 use format::Template;
@@ -20,7 +19,6 @@ ghost use Prim.Native.Nat.{ℕ, _≤_, _<_};
 ghost use lib.ListN.{length, getD};
 ghost use Rattle.lexical.specs.Bytes.{same};
 ghost use Rattle.format.specs.Limits.{mostArguments};
-ghost use Rattle.format.specs.Bits.{bits, widthOf};
 ghost use Rattle.format.specs.Decode.{many};
 ghost use Rattle.format.specs.Decoding.{name, type, optional, argument as argumentOf, form};
 ghost use Rattle.format.specs.declared.ItemKind.the-variants.{RustFunction};
@@ -30,31 +28,8 @@ ghost use Rattle.cursor.specs.Checking.{Limited};
 ghost use Rattle.view.specs.Values.{nextOf, Yields, nameAt, namesAt, itemsAt, functionAt, argumentAt, typeHere};
 ghost use Rattle.view.specs.Values.{Named, Whole};
 ghost use Rattle.view.specs.Digests.{mix as mixOf, digest as digestOf, digestsAt};
-ghost use Rattle.view.specs.Views.{Finds, kindOfBody, ItemAt, Formed, FunctionAt, ArgumentsAt, ArgumentOf};
+ghost use Rattle.view.specs.Views.{kindOfBody, ItemAt, Formed, FunctionAt, ArgumentsAt, ArgumentOf};
 ghost use Rattle.view.specs.Views.{isFunctionKind, kindOfType, isAtomKind, isNamedKind, isIndirectKind};
-
-// ---- fields
-
-// The value of a field, and the position behind it.
-pub struct Found {
-    pub value: u32,
-    pub next: Cursor,
-}
-
-// The field of n bits at c.
-pub fn field(s: &[u8], c: Cursor, n: u32) -> Found
-    requires { ⌜ Limited (now s) × (n ≤ 32) ⌝ }
-    ensures { λ r. ⌜ Finds (bits n (now (s .entry)) (c .at)) n r ⌝ }
-{
-    let f = read(s, c, n);
-    match f {
-        Field::Value(value, next) => Found { value, next },
-        Field::Cut => Found {
-            value: 0,
-            next: Cursor::new(0),
-        },
-    }
-}
 
 // ---- names
 
