@@ -23,7 +23,7 @@ use Rattle.view.specs.Values.{nameAt, namesAt, itemsAt, functionIn, Whole, item
 use Rattle.view.specs.Views.{kindOfBody, isFunctionKind}
 use Rattle.cursor.proofs.YieldLaws.{in-turn, got-value}
 use Rattle.view.proofs.PartLaws.{ItemParts, item-parts, FunctionParts, function-parts, body-kind}
-use Rattle.view.proofs.NameLaws.{indexed}
+use Rattle.names.proofs.NameLaws.{indexed}
 use Rattle.clash.specs.Clashes.{ownerNames}
 
 pub function-kind : (k : ItemKind) → isFunctionKind k ≡ true → k ≡ RustFunction

@@ -20,7 +20,7 @@ use Rattle.view.specs.declared.ItemView.{ItemView}
 use Rattle.view.specs.Values.{Yields, namesAt, itemsAt}
 use Rattle.view.specs.Views.{Finds, kindOfBody, ItemAt, returnOf}
 use Rattle.cursor.proofs.YieldLaws.{in-turn, got-value, got-next, found-value, found-next, bit-next}
-use Rattle.view.proofs.NameLaws.{name-read}
+use Rattle.names.proofs.NameLaws.{name-read}
 use Rattle.judge.specs.declared.Seen.{Seen}
 use Rattle.judge.specs.Seeing.{isFunctionAt, Sees}
 use Rattle.judge.proofs.SeeLaws.{sees-map, or-false}

@@ -21,7 +21,7 @@ use Rattle.view.specs.declared.FunctionView.{FunctionView}
 use Rattle.view.specs.Values.{nextOf, Yields, namesAt, functionAt, argumentAt}
 use Rattle.view.specs.Views.{Finds, FunctionOf, FunctionAt, ArgumentsAt, ArgumentOf}
 use Rattle.cursor.proofs.YieldLaws.{yields, in-turn, got-value, got-next}
-use Rattle.view.proofs.NameLaws.{Read, name-read}
+use Rattle.names.proofs.NameLaws.{Read, name-read}
 
 -- ---- a table of positions, filled where all values are known to be there
 

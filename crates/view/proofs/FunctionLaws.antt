@@ -25,7 +25,7 @@ use Rattle.view.specs.Views.{Finds, ItemAt, FormOf, Formed, returnOf, co
 use Rattle.cursor.proofs.YieldLaws.{yields, in-turn, got-value, got-next, found-value, found-next}
 use Rattle.cursor.proofs.YieldLaws.{bit-value, bit-next}
 use Rattle.view.proofs.PartLaws.{FunctionParts, function-parts}
-use Rattle.view.proofs.NameLaws.{Read, name-read}
+use Rattle.names.proofs.NameLaws.{Read, name-read}
 
 -- ---- forms
 

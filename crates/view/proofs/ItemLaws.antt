@@ -18,7 +18,7 @@ use Rattle.view.specs.Values.{Yields, nameAt, namesAt, itemsAt, Whole}
 use Rattle.view.specs.Views.{Finds, kindOfBody, ViewOf, ItemAt}
 use Rattle.cursor.proofs.YieldLaws.{yields, found-value, found-next}
 use Rattle.view.proofs.PartLaws.{ItemParts, item-parts, body-kind}
-use Rattle.view.proofs.NameLaws.{Read, name-read, spaces-next, spaces-each}
+use Rattle.names.proofs.NameLaws.{Read, name-read, spaces-next, spaces-each}
 
 -- the bits of an item's namespaces
 pub span : (d w : ℕ) → d ≤ mostNamespaces → w ≤ 32 → d * w ≤ 224

@@ -1,6 +1,4 @@
 pub mod PartLaws
-pub mod NameLaws
-pub mod DigestLaws
 pub mod ItemLaws
 pub mod FunctionLaws
 pub mod ArgumentLaws

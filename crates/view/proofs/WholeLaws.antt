@@ -15,7 +15,7 @@ use Rattle.format.specs.declared.Outline.{Outline}
 use Rattle.decode.specs.Tables.{Items, Tables}
 use Rattle.view.specs.Values.{valueOr, nextOf, Yields, nameAt, namesAt, oneItemAt, itemsAt, Named, Whole}
 use Rattle.cursor.proofs.YieldLaws.{yields, yielded}
-use Rattle.view.proofs.NameLaws.{map-at}
+use Rattle.names.proofs.NameLaws.{map-at}
 
 -- ---- the values of a table of positions
 
