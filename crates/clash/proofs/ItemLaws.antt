@@ -21,9 +21,9 @@ use Rattle.syntax.specs.Items.{itemAt, isFunction}
 use Rattle.cursor.proofs.WidthLaws.{index-lt}
 use Rattle.view.specs.Values.{nameAt, namesAt, itemsAt, functionIn, Whole, itemNo}
 use Rattle.view.specs.Views.{kindOfBody, isFunctionKind}
-use Rattle.view.proofs.ValueLaws.{in-turn, got-value}
+use Rattle.cursor.proofs.YieldLaws.{in-turn, got-value}
 use Rattle.view.proofs.PartLaws.{ItemParts, item-parts, FunctionParts, function-parts, body-kind}
-use Rattle.view.proofs.NameLaws.{indexed}
+use Rattle.names.proofs.NameLaws.{indexed}
 use Rattle.clash.specs.Clashes.{ownerNames}
 
 pub function-kind : (k : ItemKind) → isFunctionKind k ≡ true → k ≡ RustFunction

@@ -13,7 +13,7 @@ use Rattle.syntax.specs.Items.{path, fullName, isFunction}
 use Rattle.syntax.specs.Symbol.{join}
 use Rattle.syntax.specs.Mangle.{version, externFn}
 use Rattle.view.specs.Values.{functionIn}
-use Rattle.view.specs.Digests.{digest}
+use Rattle.names.specs.Digests.{digest}
 use Rattle.clash.specs.Clashes.{sameNames, ownerNames, itemSymbol, clashes, ownName}
 use Rattle.clash.proofs.SegmentLaws.{end-eq, path-eq, symbol-eq}
 use Rattle.clash.proofs.NameLaws.{names-eq, names-refl}

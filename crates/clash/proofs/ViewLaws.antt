@@ -16,8 +16,8 @@ use Rattle.syntax.specs.Items.{itemAt, fullName, isFunction}
 use Rattle.view.specs.declared.ItemView.{ItemView}
 use Rattle.view.specs.declared.FunctionView.{FunctionView}
 use Rattle.view.specs.Values.{nameAt, itemsAt, functionIn, functionAt, Whole, itemNo}
-use Rattle.view.specs.Digests.{digest, digestsAt}
-use Rattle.view.proofs.NameLaws.{digest-there}
+use Rattle.names.specs.Digests.{digest, digestsAt}
+use Rattle.names.proofs.NameLaws.{digest-there}
 use Rattle.view.specs.Views.{isFunctionKind, ItemAt, FunctionAt}
 use Rattle.clash.specs.Clashes.{sameNames, ownerNames, itemSymbol, clashes, ownName, Keyed}
 use Rattle.clash.proofs.NameLaws.{names-turn, names-differ, names-end, names-unlike}

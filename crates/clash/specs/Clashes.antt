@@ -10,7 +10,7 @@ use Rattle.format.specs.Sheet.{Name, Form, Item}
 use Rattle.syntax.specs.Items.{itemAt, fullName, selfType, isFunction}
 use Rattle.syntax.specs.Mangle.{externFn}
 use Rattle.view.specs.Values.{itemNo, functionIn, Whole}
-use Rattle.view.specs.Digests.{digest, digestsAt}
+use Rattle.names.specs.Digests.{digest, digestsAt}
 
 -- a decoded sheet, with the digests of its names
 pub record Ready (s names items digests : List ℕ) : Type 0 where

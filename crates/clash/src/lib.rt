@@ -1,13 +1,13 @@
 // Rule 10 of document 01's table for pairs of items: two types with the same full name, two functions with the same
 // symbol. Each is told by the names that it is made of.
 use format::Outline;
+use names::same_name;
 use view::FunctionView;
 use view::ItemView;
 use view::function;
 use view::is_function;
 use view::item;
 use view::namespace;
-use view::same_name;
 ghost use mathlib.Core.Path.{_≡_};
 ghost use mathlib.Core.Bool.{true, _||_};
 ghost use Prim.Native.Nat.{_+_, _<_, _≤_};

@@ -5,3 +5,4 @@ pub mod CheckLaws
 pub mod TableLaws
 pub mod ReadLaws
 pub mod CodeLaws
+pub mod YieldLaws

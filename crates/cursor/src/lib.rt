@@ -250,3 +250,11 @@ pub fn check_index(s: &[u8], c: Cursor, n: u32) -> Step
         }
     }
 }
+
+// The value of a field, and the position behind it.
+pub struct Found {
+    pub value: u32,
+    pub next: Cursor,
+}
+
+pub mod fields;

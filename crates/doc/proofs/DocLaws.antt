@@ -18,10 +18,10 @@ use Rattle.rules.specs.Rules.{gather}
 use Rattle.bridge.specs.Write.{writeDoc}
 use Rattle.cursor.proofs.CheckLaws.{many-length}
 use Rattle.cursor.proofs.FieldLaws.{field-next}
-use Rattle.view.specs.declared.Found.{Found}
+use Rattle.cursor.specs.declared.Found.{Found}
 use Rattle.view.specs.Values.{valueOr, nextOf, Yields}
 use Rattle.view.specs.Views.{Finds, commentLines}
-use Rattle.view.proofs.ValueLaws.{in-turn, passed, yields, found-value, found-next}
+use Rattle.cursor.proofs.YieldLaws.{in-turn, passed, yields, found-value, found-next}
 use Rattle.put_name.specs.Chars.{charsAt}
 use Rattle.put_name.proofs.CharLaws.{chars-are}
 use Rattle.put_name.proofs.RowLaws.{row, row-end}

@@ -1,9 +1,9 @@
 // Comments.
 use cursor::Cursor;
+use cursor::fields::field;
 use put_name::put_chars;
 use sink::put_bytes;
 use sink::put_when;
-use view::field;
 ghost use mathlib.Core.Bool.{_&&_};
 ghost use mathlib.Core.List.{[], _++_};
 ghost use mathlib.Core.Path.{_≡_};

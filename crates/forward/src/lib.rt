@@ -24,7 +24,7 @@ ghost use Rattle.format.specs.declared.ItemKind.the-variants.{Enum};
 ghost use Rattle.syntax.specs.Items.{fullName};
 ghost use Rattle.bridge.specs.Write.{forwardLine, indent as indentOf, writeDirect, writeEntries, forwardDeclarations};
 ghost use Rattle.view.specs.Values.{itemsAt, itemNo, Whole};
-ghost use Rattle.view.specs.Digests.{digestsAt};
+ghost use Rattle.names.specs.Digests.{digestsAt};
 ghost use Rattle.view.specs.Views.{ItemAt};
 ghost use Rattle.nested.specs.Groups.{members, isDirect, isFirst};
 ghost use Rattle.forward.specs.Entries.{entry};

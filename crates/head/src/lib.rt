@@ -1,5 +1,6 @@
 // The head of a shim.
 use mangle::write_cxx_name;
+use names::name_reads;
 use put_name::put_name_of;
 use shape::write_outermost_space;
 use sink::put_bytes;
@@ -8,7 +9,6 @@ use sink::put_when;
 use view::FunctionView;
 use view::ItemView;
 use view::argument;
-use view::name_is;
 ghost use mathlib.Core.Path.{_≡_};
 ghost use mathlib.Core.List.{_++_, map};
 ghost use mathlib.Core.Bool.{false, _&&_};
@@ -39,7 +39,7 @@ fn is_main(s: &[u8], names: &[u32], items: &[u32], v: ItemView, f: FunctionView)
     ensures { λ r. ⌜ r ≡ isCxxMain (itemAt (itemsAt (now (s .entry)) (now (names .entry)) (now (items .entry)))
         (v .number)) (functionAt (now (s .entry)) (now (names .entry)) (now (items .entry)) (f .number)) ⌝ }
 {
-    let named = name_is(s, names, v.name, b"main");
+    let named = name_reads(s, names, v.name, b"main");
     let root = both(named, v.depth == 0);
     let free = both(root, f.form == 0);
     let bare = both(free, f.arguments == 0);

@@ -20,10 +20,10 @@ use Rattle.rules.specs.Rules.{gather, heldBy, fieldsOf, heldStructs}
 use Rattle.cursor.specs.declared.Cursor.{Cursor}
 use Rattle.cursor.proofs.CheckLaws.{many-length}
 use Rattle.cursor.proofs.WidthLaws.{index-field, index-lt}
-use Rattle.view.specs.declared.Found.{Found}
+use Rattle.cursor.specs.declared.Found.{Found}
 use Rattle.view.specs.Values.{valueOr, nextOf, Yields, typeHere}
 use Rattle.view.specs.Views.{Finds, kindOfBody, isNamedKind}
-use Rattle.view.proofs.ValueLaws.{in-turn, found, got-value, got-next}
+use Rattle.cursor.proofs.YieldLaws.{in-turn, found, got-value, got-next}
 use Rattle.holds.specs.declared.FieldView.{FieldView}
 use Rattle.holds.specs.Edges.{isStructKind, counted, namedAt, fieldsHere, Tells, Puts}
 use Rattle.holds.proofs.PutLaws.{put-both, put-nothing}

@@ -1,13 +1,13 @@
 // Which structs the structs of a sheet hold by named fields: the table that crate toposort sorts by. Every reader is
 // lent the sheet and the tables of the positions of its names and items, cut to their lengths.
 use cursor::Cursor;
+use cursor::fields::field;
 use cursor::width;
 use format::ItemKind;
 use format::Outline;
 use toposort::Traversal;
 use types::kind_of;
 use view::ItemView;
-use view::field;
 use view::is_named;
 use view::item;
 use view::kind_at;

@@ -21,10 +21,10 @@ use Rattle.rules.specs.Rules.{any, anyNamed, anyNamedRet, anyNamedTys}
 use Rattle.cursor.specs.declared.Cursor.{Cursor}
 use Rattle.cursor.proofs.WidthLaws.{index-field, index-lt}
 use Rattle.types.proofs.TypeLaws.{type-body}
-use Rattle.view.specs.declared.Found.{Found}
+use Rattle.cursor.specs.declared.Found.{Found}
 use Rattle.view.specs.Values.{itemsAt}
 use Rattle.view.specs.Views.{Finds, kindOfBody, isFunctionKind}
-use Rattle.view.proofs.ValueLaws.{in-turn, got-value, got-next, found-value, found-next, bit-value, bit-next}
+use Rattle.cursor.proofs.YieldLaws.{in-turn, got-value, got-next, found-value, found-next, bit-value, bit-next}
 use Rattle.judge.specs.declared.Seen.{Seen}
 use Rattle.judge.specs.Seeing.{isFunctionAt, Sees}
 

@@ -22,7 +22,7 @@ use Rattle.view.specs.declared.ArgumentView.{ArgumentView}
 use Rattle.view.specs.declared.ItemView.{ItemView}
 use Rattle.view.specs.Values.{Yields, nameAt, namesAt, itemsAt, functionAt, argumentAt, typeHere}
 use Rattle.view.specs.Views.{kindOfBody, isFunctionKind, ItemAt, FunctionOf, FunctionAt, ArgumentOf, kindOfType}
-use Rattle.view.proofs.ValueLaws.{yielded}
+use Rattle.cursor.proofs.YieldLaws.{yielded}
 use Rattle.judge.specs.Kinds.{isMethodForm, isVectorKind}
 use Rattle.judge.proofs.AnyLaws.{any-turn, any-yes, any-end, any-gather}
 use Rattle.judge.proofs.SeeLaws.{or-false}

@@ -15,12 +15,12 @@ use Rattle.format.specs.declared.ItemKind.{ItemKind}
 use Rattle.format.specs.declared.ItemKind.the-variants as Part
 use Rattle.syntax.specs.Items.{itemAt, selfType}
 use Rattle.rules.specs.Rules.{any, anyNamed, anyNamedRet, anyIndex}
-use Rattle.view.specs.declared.Found.{Found}
+use Rattle.cursor.specs.declared.Found.{Found}
 use Rattle.view.specs.declared.ItemView.{ItemView}
 use Rattle.view.specs.Values.{Yields, namesAt, itemsAt}
 use Rattle.view.specs.Views.{Finds, kindOfBody, ItemAt, returnOf}
-use Rattle.view.proofs.ValueLaws.{in-turn, got-value, got-next, found-value, found-next, bit-next}
-use Rattle.view.proofs.NameLaws.{name-read}
+use Rattle.cursor.proofs.YieldLaws.{in-turn, got-value, got-next, found-value, found-next, bit-next}
+use Rattle.names.proofs.NameLaws.{name-read}
 use Rattle.judge.specs.declared.Seen.{Seen}
 use Rattle.judge.specs.Seeing.{isFunctionAt, Sees}
 use Rattle.judge.proofs.SeeLaws.{sees-map, or-false}

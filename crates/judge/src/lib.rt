@@ -1,20 +1,20 @@
 // Rules 9 to 11 of document 01's table, on a decoded sheet.
 use cursor::Cursor;
+use cursor::fields::field;
 use cursor::width;
 use format::ItemKind;
 use format::Template;
 use format::TypeKind;
+use names::name_is;
 use types::Levels;
 use view::FunctionView;
 use view::argument;
-use view::field;
 use view::fill_arguments;
 use view::function;
 use view::is_function;
 use view::is_rust_string;
 use view::item;
 use view::kind_at;
-use view::name_is;
 use view::needs_indirect_abi;
 use view::type_kind;
 ghost use mathlib.Core.Path.{_≡_};

@@ -1,2 +1,4 @@
 pub mod WordLaws
 mod FetchLaws
+pub mod NameLaws
+pub mod DigestLaws

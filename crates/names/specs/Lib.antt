@@ -1,2 +1,4 @@
 pub mod Words
 pub mod Fetching
+pub mod Naming
+pub mod Digests

@@ -1,4 +1,4 @@
-// The names of a sheet: the name rule, the table of their positions, and access to a name by its position.
+// The names of a sheet: the name rule, the table of their positions, and access to names by position and by number.
 use cursor::Cursor;
 use cursor::Field;
 use cursor::Step;
@@ -7,16 +7,19 @@ use text::equal;
 use text::in_range;
 use text::read_text;
 ghost use mathlib.Core.Path.{_≡_};
-ghost use Prim.Native.Nat.{_≤_};
-ghost use lib.ListN.{length};
-ghost use Rattle.lexical.specs.Bytes.{every, member};
+ghost use Prim.Native.Nat.{_≤_, _<_};
+ghost use lib.ListN.{length, getD};
+ghost use Rattle.lexical.specs.Bytes.{every, same, member};
 ghost use Rattle.lexical.specs.Names.{letter, nameStart, nameChar, reserved, isName};
 ghost use Rattle.format.specs.Limits.{longestName};
 ghost use Rattle.format.specs.Decode.{many};
 ghost use Rattle.format.specs.Decoding.{name};
 ghost use Rattle.cursor.specs.Checking.{Limited, Checks, positionOf, Fills};
+ghost use Rattle.cursor.specs.Yielding.{Yields};
 ghost use Rattle.names.specs.Words.{wordsOf, total};
 ghost use Rattle.names.specs.Fetching.{Fetched};
+ghost use Rattle.names.specs.Naming.{nameAt, Named};
+ghost use Rattle.names.specs.Digests.{mix as mixOf, digest as digestChars, digestsAt};
 
 mod keywords;
 
@@ -126,6 +129,43 @@ fn is_name(w: &[u8]) -> bool
     !word
 }
 
+// ---- digests
+
+fn to_u32(c: u8) -> u32
+    ensures { λ r. ⌜ r ≡ c ⌝ }
+{
+    c as u32
+}
+
+fn to_u64(c: u32) -> u64
+    ensures { λ r. ⌜ r ≡ c ⌝ }
+{
+    c as u64
+}
+
+// A digest with one number more.
+pub fn mix(h: u32, c: u32) -> u32
+    ensures { λ r. ⌜ r ≡ mixOf h c ⌝ }
+{
+    let sum = to_u64(h) * 31 + to_u64(c);
+    (sum % 4294967296) as u32
+}
+
+// The digest of characters.
+pub fn digest(w: &[u8]) -> u32
+    ensures { λ r. ⌜ r ≡ digestChars (now (w .entry)) ⌝ }
+{
+    let mut h: u32 = 0;
+    let mut i: usize = 0;
+    while i < w.len() {
+        h = mix(h, to_u32(w[i]));
+        i = i + 1;
+    }
+    h
+}
+
+// ---- a walk over the names
+
 // Past the name at c.
 fn check_name(s: &[u8], c: Cursor) -> Step
     requires { ⌜ Limited (now s) ⌝ }
@@ -181,4 +221,65 @@ pub fn fetch(s: &[u8], at: u32, buf: &mut [u8]) -> Name
         Field::Cut => Name { length: 0 },
         Field::Value(n, _) => Name { length: n as usize },
     }
+}
+
+// ---- names by number
+
+// Whether the names at two positions are the same.
+fn same_chars(s: &[u8], a: u32, b: u32) -> bool
+    requires { ⌜ Limited (now s) × Yields (name (now s) a) (nameAt (now s) a) ×
+        Yields (name (now s) b) (nameAt (now s) b) ⌝ }
+    ensures { λ r. ⌜ r ≡ same (nameAt (now (s .entry)) a) (nameAt (now (s .entry)) b) ⌝ }
+{
+    let mut x = [0u8; Name::LONGEST];
+    let mut y = [0u8; Name::LONGEST];
+    let n = fetch(s, a, &mut x);
+    let m = fetch(s, b, &mut y);
+    let k = n.length;
+    let l = m.length;
+    equal(&x[..k], &y[..l])
+}
+
+// Whether names i and j are the same; unequal digests tell them apart.
+pub fn same_name(s: &[u8], names: &[u32], digests: &[u32], i: u32, j: u32) -> bool
+    requires { ⌜ Named (now s) (now names) × (now digests ≡ digestsAt (now s) (now names)) ×
+        (i < length (now names)) × (j < length (now names)) ⌝ }
+    ensures { λ r. ⌜ r ≡ same (nameAt (now (s .entry)) (getD (now (names .entry)) i 0))
+        (nameAt (now (s .entry)) (getD (now (names .entry)) j 0)) ⌝ }
+{
+    if i == j {
+        return true;
+    }
+    let a = i as usize;
+    let b = j as usize;
+    if digests[a] != digests[b] {
+        return false;
+    }
+    same_chars(s, names[a], names[b])
+}
+
+// Whether name i is the text, by its characters alone.
+pub fn name_reads(s: &[u8], names: &[u32], i: u32, text: &[u8]) -> bool
+    requires { ⌜ Named (now s) (now names) × (i < length (now names)) ⌝ }
+    ensures { λ r. ⌜ r ≡ same (nameAt (now (s .entry)) (getD (now (names .entry)) i 0)) (now (text .entry)) ⌝ }
+{
+    let k = i as usize;
+    let mut x = [0u8; Name::LONGEST];
+    let n = fetch(s, names[k], &mut x);
+    let l = n.length;
+    equal(&x[..l], text)
+}
+
+// Whether name i is the text; unequal digests tell them apart.
+pub fn name_is(s: &[u8], names: &[u32], digests: &[u32], i: u32, text: &[u8]) -> bool
+    requires { ⌜ Named (now s) (now names) × (now digests ≡ digestsAt (now s) (now names)) ×
+        (i < length (now names)) ⌝ }
+    ensures { λ r. ⌜ r ≡ same (nameAt (now (s .entry)) (getD (now (names .entry)) i 0)) (now (text .entry)) ⌝ }
+{
+    let k = i as usize;
+    let h = digest(text);
+    if digests[k] != h {
+        return false;
+    }
+    name_reads(s, names, i, text)
 }

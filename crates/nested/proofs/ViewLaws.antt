@@ -18,11 +18,11 @@ use Rattle.format.specs.declared.ItemKind.the-variants.{Struct, Enum, CxxType, 
 use Rattle.syntax.specs.Items.{itemAt}
 use Rattle.rules.specs.Rules.{any}
 use Rattle.bridge.specs.Write.{needsForwardDeclaration}
-use Rattle.view.specs.declared.Found.{Found}
+use Rattle.cursor.specs.declared.Found.{Found}
 use Rattle.view.specs.declared.ItemView.{ItemView}
 use Rattle.view.specs.Values.{Yields, oneItemAt, itemsAt, itemNo}
 use Rattle.view.specs.Views.{Finds, kindOfBody, ItemAt}
-use Rattle.view.proofs.ValueLaws.{in-turn, passed, got-value, bit-value, bit-next, found-value, found-next}
+use Rattle.cursor.proofs.YieldLaws.{in-turn, passed, got-value, bit-value, bit-next, found-value, found-next}
 use Rattle.nested.specs.declared.EnumView.{EnumView}
 use Rattle.nested.specs.Groups.{EnumOf, shared, belongs, isDirect, isFirst, opens, namesBefore, Next}
 use Rattle.nested.proofs.ListLaws.{and-true, and-false, any-last, any-there}

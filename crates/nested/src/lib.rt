@@ -1,12 +1,12 @@
 // nested.rs: the items of a namespace's level, without a list of them. A group is named by one of its items, the
 // leader, and a depth: its members need a forward declaration and lie in the leader's first so many namespaces.
+use cursor::fields::field;
 use format::ItemKind;
+use names::same_name;
 use view::ItemView;
-use view::field;
 use view::item;
 use view::kind_at;
 use view::namespace;
-use view::same_name;
 ghost use mathlib.Core.Path.{_≡_};
 ghost use Prim.Native.Nat.{_<_, _≤_};
 ghost use lib.ListN.{length, getD};
@@ -14,7 +14,7 @@ ghost use Rattle.lexical.specs.Bytes.{same};
 ghost use Rattle.format.specs.declared.ItemKind.the-variants.{Enum};
 ghost use Rattle.bridge.specs.Write.{needsForwardDeclaration};
 ghost use Rattle.view.specs.Values.{nameAt, itemsAt, itemNo, Named, Whole};
-ghost use Rattle.view.specs.Digests.{digestsAt};
+ghost use Rattle.names.specs.Digests.{digestsAt};
 ghost use Rattle.view.specs.Views.{ItemAt};
 ghost use Rattle.nested.specs.Groups.{EnumOf, shared, belongs, isDirect, isFirst, Next};
 ghost use Rattle.nested.specs.Groups.{opens as opensOf};

@@ -18,9 +18,9 @@ use Rattle.sink.specs.Sink.{sink, Wrote}
 use Rattle.sink.proofs.SinkLaws.{_▷_, wrote-nil}
 use Rattle.view.specs.Values.{nameAt, namesAt}
 use Rattle.view.specs.Views.{Finds, ViewOf}
-use Rattle.view.specs.declared.Found.{Found}
+use Rattle.cursor.specs.declared.Found.{Found}
 use Rattle.view.specs.declared.ItemView.{ItemView}
-use Rattle.view.proofs.ValueLaws.{yielded}
+use Rattle.cursor.proofs.YieldLaws.{yielded}
 use Rattle.view.proofs.ItemLaws.{space-there}
 use Rattle.bridge.specs.Block.{Block, userDefinedNamespace, externC, sameBlock}
 use Rattle.bridge.specs.Out as machine

@@ -1,13 +1,13 @@
 // Text with pending boundaries and sections: the port of block.rs and out.rs. The text stands in a buffer that the
 // caller lends, from its first byte on.
 use cursor::Cursor;
+use cursor::fields::field;
 use cursor::width;
+use names::same_name;
 use put_name::put_name_of;
 use sink::put_bytes;
 use sink::put_when;
 use view::ItemView;
-use view::field;
-use view::same_name;
 ghost use mathlib.Core.Path.{_≡_};
 ghost use mathlib.Core.List.{[]};
 ghost use mathlib.Core.Bool.{_&&_};
@@ -18,7 +18,7 @@ ghost use Rattle.sink.specs.Sink.{sink, Wrote};
 ghost use Rattle.format.specs.Limits.{mostBits, mostNamespaces};
 ghost use Rattle.syntax.specs.Items.{itemAt};
 ghost use Rattle.view.specs.Values.{itemsAt, Named, Whole};
-ghost use Rattle.view.specs.Digests.{digestsAt};
+ghost use Rattle.names.specs.Digests.{digestsAt};
 ghost use Rattle.view.specs.Views.{ItemAt};
 ghost use Rattle.bridge.specs.Block as block;
 ghost use Rattle.bridge.specs.Out as machine;

@@ -16,10 +16,10 @@ use Rattle.format.specs.Bits.{bitsAt, bits}
 use Rattle.format.specs.Decoding.{name}
 use Rattle.cursor.proofs.BitLaws.{bits-split}
 use Rattle.cursor.proofs.FieldLaws.{field-lt, field-next}
-use Rattle.view.specs.declared.Found.{Found}
+use Rattle.cursor.specs.declared.Found.{Found}
 use Rattle.view.specs.Values.{valueOr, nextOf, Yields, nameAt}
 use Rattle.view.specs.Views.{Finds}
-use Rattle.view.proofs.ValueLaws.{in-turn, passed, got-value, yields, field-end}
+use Rattle.cursor.proofs.YieldLaws.{in-turn, passed, got-value, yields, field-end}
 use Rattle.put_name.specs.Chars.{charsAt, fourOf}
 use Rattle.put_name.proofs.RowLaws.{Row, row, row-end}
 

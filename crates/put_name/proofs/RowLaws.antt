@@ -3,7 +3,7 @@ use mathlib.Core.Path.{_≡_, sym, _∙_}
 use mathlib.Core.List.{List, [], _∷_}
 use Prim.Native.Nat.{ℕ, suc}
 use Rattle.format.specs.Decode.{got, Dec, many}
-use Rattle.view.proofs.ValueLaws.{in-turn, got-value, got-next}
+use Rattle.cursor.proofs.YieldLaws.{in-turn, got-value, got-next}
 
 pub record Row {A : Type 0} (d : Dec A) (s : List ℕ) (n at : ℕ) (xs : List A) (end : ℕ) : Type 0 where
   pub head : A

@@ -1,8 +1,8 @@
 // Writers of characters that stand in a sheet: those of a name, and any in a row.
 use cursor::Cursor;
+use cursor::fields::field;
 use sink::put_byte;
 use sink::put_bytes;
-use view::field;
 ghost use Prim.Native.Nat.{_<_};
 ghost use lib.ListN.{length, getD};
 ghost use Rattle.sink.specs.Sink.{sink, Wrote};

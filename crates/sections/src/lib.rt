@@ -25,7 +25,7 @@ ghost use Rattle.syntax.specs.Items.{itemAt};
 ghost use Rattle.bridge.specs.Write.{writeRustFunctionDecl, writeOpaqueTypeLayoutDecls, layoutDefinition};
 ghost use Rattle.bridge.specs.Write.{writeOpaqueTypeLayout};
 ghost use Rattle.view.specs.Values.{functionAt, itemsAt, Whole};
-ghost use Rattle.view.specs.Digests.{digestsAt};
+ghost use Rattle.names.specs.Digests.{digestsAt};
 ghost use Rattle.view.specs.Views.{ItemAt};
 ghost use Rattle.sections.specs.Runs.{Representing, Runs, hiddenForm, sectionOf, shimSection, sheetOf};
 

@@ -18,7 +18,7 @@ use Rattle.bridge.specs.Write.{indirectReturn, slot, direct}
 use Rattle.view.specs.declared.FunctionView.{FunctionView}
 use Rattle.view.specs.Values.{Yields, itemsAt, functionAt, typeHere}
 use Rattle.view.specs.Views.{returnOf, FunctionAt, ArgumentsAt}
-use Rattle.view.proofs.ValueLaws.{in-turn, got-value, yields}
+use Rattle.cursor.proofs.YieldLaws.{in-turn, got-value, yields}
 use Rattle.shape.proofs.TypeLaws.{here-is, here-yields}
 
 -- ---- what a function returns

@@ -20,10 +20,10 @@ use Rattle.bridge.specs.Write.{Shape, other, shape, slotType}
 use Rattle.sink.specs.Sink.{Sink, Wrote}
 use Rattle.sink.proofs.SinkLaws.{wrote-as}
 use Rattle.cursor.specs.declared.Cursor.{Cursor}
-use Rattle.view.specs.declared.Found.{Found}
+use Rattle.cursor.specs.declared.Found.{Found}
 use Rattle.view.specs.Values.{nextOf, Yields, typeHere, itemsAt}
 use Rattle.view.specs.Views.{Finds}
-use Rattle.view.proofs.ValueLaws.{in-turn, got-value, yields, bit-value, bit-next}
+use Rattle.cursor.proofs.YieldLaws.{in-turn, got-value, yields, bit-value, bit-next}
 use Rattle.view.proofs.TypeLaws.{type-body}
 use Rattle.write_type.specs.TypeAt.{tyAt}
 use Rattle.shape.specs.declared.ShapeKind.{ShapeKind}

@@ -5,7 +5,7 @@ use Prim.Native.Nat.{ℕ}
 use Rattle.format.specs.Types.{Ty, str}
 use Rattle.format.specs.Decoding.{type}
 use Rattle.view.specs.Values.{Yields, typeHere}
-use Rattle.view.proofs.ValueLaws.{yielded}
+use Rattle.cursor.proofs.YieldLaws.{yielded}
 use Rattle.write_type.specs.TypeAt.{tyAt}
 
 module _ (n : ℕ) (s : List ℕ) (at : ℕ) where

@@ -1,5 +1,6 @@
 // The types that a call treats in a way of their own, and what a declaration and a shim write alike.
 use cursor::Cursor;
+use cursor::fields::field;
 use format::Pointer;
 use format::Template;
 use format::TypeKind;
@@ -8,7 +9,6 @@ use sink::put_unless;
 use types::Levels;
 use types::kind_of;
 use view::FunctionView;
-use view::field;
 use view::needs_indirect_abi;
 use write_type::write_type;
 use write_type::write_type_space;

@@ -20,7 +20,7 @@ use Rattle.sink.proofs.SinkLaws.{_▷_, wrote-nil, wrote-as}
 use Rattle.view.specs.declared.FunctionView.{FunctionView}
 use Rattle.view.specs.Values.{valueOr, nextOf, Yields, namesAt, itemsAt, functionAt, typeHere}
 use Rattle.view.specs.Views.{commentLines, FunctionAt}
-use Rattle.view.proofs.ValueLaws.{yielded}
+use Rattle.cursor.proofs.YieldLaws.{yielded}
 use Rattle.shape.proofs.FunctionLaws.{returned, indirect-returns, slot-some, slot-empty, direct-some, direct-slot, direct-none}
 use Rattle.shape.proofs.CommaLaws.{gather-none, gather-one}
 

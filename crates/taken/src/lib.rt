@@ -1,21 +1,21 @@
 // Rule 10 of document 01's table, on a decoded sheet: what is taken.
 use clash::name_clash;
+use names::name_is;
+use names::same_name;
 use view::FunctionView;
 use view::argument;
 use view::fill_arguments;
 use view::function;
 use view::is_function;
 use view::item;
-use view::name_is;
 use view::namespace;
-use view::same_name;
 ghost use mathlib.Core.Path.{_≡_};
 ghost use Prim.Native.Nat.{_<_, _≤_};
 ghost use lib.ListN.{length};
 ghost use Rattle.lexical.specs.Bytes.{same};
 ghost use Rattle.rules.specs.Rules.{any, twice, functions, reservedNamespace, argumentNames, taken as takenOf};
 ghost use Rattle.view.specs.Values.{itemsAt, itemNo, functionAt, Whole};
-ghost use Rattle.view.specs.Digests.{digestsAt};
+ghost use Rattle.names.specs.Digests.{digestsAt};
 ghost use Rattle.view.specs.Views.{FunctionAt, ArgumentsAt};
 ghost use Rattle.clash.specs.Clashes.{Ready};
 ghost use Rattle.taken.specs.Arguments.{repeatsName, ArgumentNames};

@@ -16,12 +16,12 @@ use Rattle.cursor.specs.declared.Step.the-variants.{At}
 use Rattle.cursor.specs.Checking.{positionOf, Fills, Table}
 use Rattle.cursor.proofs.CheckLaws.{many-length}
 use Rattle.cursor.proofs.TableLaws.{Filling, fill-none, fill-turn, fill-done, placed-got, Located, located}
-use Rattle.view.specs.declared.Found.{Found}
+use Rattle.cursor.specs.declared.Found.{Found}
 use Rattle.view.specs.declared.FunctionView.{FunctionView}
 use Rattle.view.specs.Values.{nextOf, Yields, namesAt, functionAt, argumentAt}
 use Rattle.view.specs.Views.{Finds, FunctionOf, FunctionAt, ArgumentsAt, ArgumentOf}
-use Rattle.view.proofs.ValueLaws.{yields, in-turn, got-value, got-next}
-use Rattle.view.proofs.NameLaws.{Read, name-read}
+use Rattle.cursor.proofs.YieldLaws.{yields, in-turn, got-value, got-next}
+use Rattle.names.proofs.NameLaws.{Read, name-read}
 
 -- ---- a table of positions, filled where all values are known to be there
 

@@ -17,15 +17,15 @@ use Rattle.format.specs.declared.ItemKind.the-variants.{RustFunction}
 use Rattle.syntax.specs.Items.{itemAt}
 use Rattle.cursor.specs.declared.Cursor.{Cursor}
 use Rattle.cursor.proofs.WidthLaws.{index-field, index-lt}
-use Rattle.view.specs.declared.Found.{Found}
+use Rattle.cursor.specs.declared.Found.{Found}
 use Rattle.view.specs.declared.FormView.{FormView}
 use Rattle.view.specs.declared.ItemView.{ItemView}
 use Rattle.view.specs.Values.{nextOf, Yields, namesAt, itemsAt, functionIn, functionAt, Whole}
 use Rattle.view.specs.Views.{Finds, ItemAt, FormOf, Formed, returnOf, commentLines, FunctionOf, FunctionAt}
-use Rattle.view.proofs.ValueLaws.{yields, in-turn, got-value, got-next, found-value, found-next}
-use Rattle.view.proofs.ValueLaws.{bit-value, bit-next}
+use Rattle.cursor.proofs.YieldLaws.{yields, in-turn, got-value, got-next, found-value, found-next}
+use Rattle.cursor.proofs.YieldLaws.{bit-value, bit-next}
 use Rattle.view.proofs.PartLaws.{FunctionParts, function-parts}
-use Rattle.view.proofs.NameLaws.{Read, name-read}
+use Rattle.names.proofs.NameLaws.{Read, name-read}
 
 -- ---- forms
 

@@ -13,12 +13,12 @@ use Rattle.format.specs.Decoding.{nameOf, partOf, itemBody}
 use Rattle.format.specs.declared.ItemKind.{ItemKind}
 use Rattle.syntax.specs.Items.{itemAt}
 use Rattle.cursor.proofs.CheckLaws.{many-length}
-use Rattle.view.specs.declared.Found.{Found}
+use Rattle.cursor.specs.declared.Found.{Found}
 use Rattle.view.specs.Values.{Yields, nameAt, namesAt, itemsAt, Whole}
 use Rattle.view.specs.Views.{Finds, kindOfBody, ViewOf, ItemAt}
-use Rattle.view.proofs.ValueLaws.{yields, found-value, found-next}
+use Rattle.cursor.proofs.YieldLaws.{yields, found-value, found-next}
 use Rattle.view.proofs.PartLaws.{ItemParts, item-parts, body-kind}
-use Rattle.view.proofs.NameLaws.{Read, name-read, spaces-next, spaces-each}
+use Rattle.names.proofs.NameLaws.{Read, name-read, spaces-next, spaces-each}
 
 -- the bits of an item's namespaces
 pub span : (d w : ℕ) → d ≤ mostNamespaces → w ≤ 32 → d * w ≤ 224

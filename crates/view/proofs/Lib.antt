@@ -1,7 +1,4 @@
-pub mod ValueLaws
 pub mod PartLaws
-pub mod NameLaws
-pub mod DigestLaws
 pub mod ItemLaws
 pub mod FunctionLaws
 pub mod ArgumentLaws

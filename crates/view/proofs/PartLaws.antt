@@ -16,7 +16,7 @@ use Rattle.format.specs.Decoding.{partOf, isBad, itemBody, namespace, item}
 use Rattle.format.specs.declared.ItemKind.{ItemKind}
 use Rattle.format.specs.declared.ItemKind.the-variants as Part
 use Rattle.view.specs.Views.{kindOfBody}
-use Rattle.view.proofs.ValueLaws.{in-turn, passed, got-value}
+use Rattle.cursor.proofs.YieldLaws.{in-turn, passed, got-value}
 
 module _ (ns : List Name) (n : ℕ) (s : List ℕ) where
   pub record ItemParts (at : ℕ) (x : Item) : Type 0 where

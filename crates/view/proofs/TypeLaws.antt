@@ -24,11 +24,11 @@ use Rattle.format.specs.Decoding.{atoms, atomOf, kindOf, optional, typeBody, ty
 use Rattle.syntax.specs.Types.{pointerBit, atomNumber, needsIndirectAbi, isRustString}
 use Rattle.cursor.proofs.WidthLaws.{index-field, index-lt}
 use Rattle.syntax.specs.Items.{itemAt}
-use Rattle.view.specs.declared.Found.{Found}
+use Rattle.cursor.specs.declared.Found.{Found}
 use Rattle.view.specs.declared.ItemView.{ItemView}
 use Rattle.view.specs.Values.{nextOf, Yields, namesAt, itemsAt}
 use Rattle.view.specs.Views.{Finds, kindOfBody, ItemAt, isFunctionKind, kindOfType, isAtomKind, isNamedKind, isIndirectKind}
-use Rattle.view.proofs.ValueLaws.{in-turn, passed, got-value, found-value, found-next, bit-value}
+use Rattle.cursor.proofs.YieldLaws.{in-turn, passed, got-value, found-value, found-next, bit-value}
 
 -- what stands behind the kind says it
 pub body-type : (k : TypeKind) (n : ℕ) (ty : Dec Ty) (s : List ℕ) (at : ℕ) {t : Ty} {m : ℕ} →

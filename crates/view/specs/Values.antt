@@ -1,44 +1,21 @@
 -- The names, items and types of a decoded sheet, as functions of its bytes and of its two tables of positions.
-use mathlib.Core.Path.{_≡_}
 use mathlib.Core.List.{List, [], map}
 use mathlib.Core.Bool.{false}
 use Prim.Native.Nat.{ℕ, _<_, _≤_}
 use lib.ListN.{length, getD}
-use Rattle.format.specs.Limits.{mostNames, mostItems}
-use Rattle.format.specs.Decode.{Got, fault, got}
+use Rattle.format.specs.Limits.{mostItems}
 use Rattle.format.specs.Types.{Ty, str, none}
-use Rattle.format.specs.Sheet.{Name, free, Argument, Function, Body, struct, enum, cxxType, rustType, function, Item}
-use Rattle.format.specs.Decoding.{name, item, type}
+use Rattle.format.specs.Sheet.{free, Argument, Function, Body, struct, enum, cxxType, rustType, function, Item}
+use Rattle.format.specs.Decoding.{item, type}
 use Rattle.syntax.specs.Items.{itemAt}
-use Rattle.cursor.specs.Checking.{Limited}
-
--- ---- what a decoder gives, where it gives anything
-
-abbrev pub valueOr : {A : Type 0} → A → Got A → A
-valueOr z (fault e) = z
-valueOr z (got x n) = x
-
--- the position behind it
-abbrev pub nextOf : {A : Type 0} → Got A → ℕ
-nextOf (fault e) = 0
-nextOf (got x n) = n
-
--- the decoder's p is the value x
-pub record Yields {A : Type 0} (p : Got A) (x : A) : Type 0 where
-  pub is : p ≡ got x (nextOf p)
+pub use Rattle.cursor.specs.Yielding.{valueOr, nextOf, Yields}
+unfoldable pub use Rattle.names.specs.Naming.{nameAt, namesAt}
+pub use Rattle.names.specs.Naming.{Named}
 
 -- ---- values by position
 
 abbrev noFunction : Function
 noFunction = record { rust = []; form = free; throws = false; return = none; arguments = []; comment = [] }
-
--- the name at a position
-unfoldable pub nameAt : List ℕ → ℕ → Name
-nameAt s at = valueOr [] (name s at)
-
--- the names of a table of positions
-unfoldable pub namesAt : List ℕ → List ℕ → List Name
-namesAt s names = map (nameAt s) names
 
 -- the item at a position, in a sheet with these two tables
 unfoldable pub oneItemAt : List ℕ → List ℕ → List ℕ → ℕ → Item
@@ -75,13 +52,7 @@ typeHere n s at = valueOr str (type n s at)
 
 -- ---- a decoded sheet
 
--- at each position of the table stands a name
-pub record Named (s names : List ℕ) : Type 0 where
-  pub limited : Limited s
-  pub few : length names ≤ mostNames
-  pub each : (i : ℕ) → i < length names → Yields (name s (getD names i 0)) (nameAt s (getD names i 0))
-
--- and at each position of the other table the item of that number
+-- at each position of the first table stands a name, and at each of the other the item of that number
 pub record Whole (s names items : List ℕ) : Type 0 where
   pub named : Named s names
   pub few : length items ≤ mostItems

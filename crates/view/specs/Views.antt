@@ -17,19 +17,12 @@ use Rattle.format.specs.declared.ItemKind.the-variants.{Struct, Enum, CxxType, 
 use Rattle.syntax.specs.Items.{itemAt}
 use Rattle.syntax.specs.Types.{isIndirectTemplate}
 use Rattle.cursor.specs.Checking.{Table}
-use Rattle.view.specs.declared.Found.{Found}
+pub use Rattle.cursor.specs.Yielding.{Finds}
 use Rattle.view.specs.declared.ItemView.{ItemView}
 use Rattle.view.specs.declared.FormView.{FormView}
 use Rattle.view.specs.declared.FunctionView.{FunctionView}
 use Rattle.view.specs.declared.ArgumentView.{ArgumentView}
-use Rattle.view.specs.Values.{valueOr, nextOf, Yields, nameAt, namesAt, itemsAt, functionAt, argumentAt}
-
--- a field of n bits that is read as the decoder's p
-pub record Finds (p : Got ℕ) (n : ℕ) (r : Found) : Type 0 where
-  pub value : r .value ≡ valueOr 0 p
-  pub next : r .next .at ≡ nextOf p
-  pub low : r .value < 2 ^ n
-  pub near : r .next .at ≤ mostBits
+use Rattle.view.specs.Values.{nextOf, Yields, nameAt, namesAt, itemsAt, functionAt, argumentAt}
 
 -- what a body's kind is
 abbrev pub kindOfBody : Body → ItemKind

@@ -1,26 +1,23 @@
 // Random access into a decoded sheet: its names, items and types by number. Every reader is lent the sheet and the
 // tables of the positions of its names and items, cut to their lengths.
 use cursor::Cursor;
-use cursor::Field;
 use cursor::Step;
-use cursor::read;
+use cursor::fields::field;
 use cursor::width;
 use format::ItemKind;
 use format::Template;
 use format::TypeKind;
 use items::part_of;
 use names::Name;
+use names::digest;
 use names::fetch;
-use text::equal;
 use types::check_return;
 use types::check_type;
 ghost use mathlib.Core.Path.{_≡_};
 ghost use mathlib.Core.List.{[]};
 ghost use Prim.Native.Nat.{ℕ, _≤_, _<_};
 ghost use lib.ListN.{length, getD};
-ghost use Rattle.lexical.specs.Bytes.{same};
 ghost use Rattle.format.specs.Limits.{mostArguments};
-ghost use Rattle.format.specs.Bits.{bits, widthOf};
 ghost use Rattle.format.specs.Decode.{many};
 ghost use Rattle.format.specs.Decoding.{name, type, optional, argument as argumentOf, form};
 ghost use Rattle.format.specs.declared.ItemKind.the-variants.{RustFunction};
@@ -29,111 +26,11 @@ ghost use Rattle.syntax.specs.Types.{pointerBit, isIndirectTemplate, needsIndir
 ghost use Rattle.cursor.specs.Checking.{Limited};
 ghost use Rattle.view.specs.Values.{nextOf, Yields, nameAt, namesAt, itemsAt, functionAt, argumentAt, typeHere};
 ghost use Rattle.view.specs.Values.{Named, Whole};
-ghost use Rattle.view.specs.Digests.{mix as mixOf, digest as digestOf, digestsAt};
-ghost use Rattle.view.specs.Views.{Finds, kindOfBody, ItemAt, Formed, FunctionAt, ArgumentsAt, ArgumentOf};
+ghost use Rattle.names.specs.Digests.{digest as digestOf, digestsAt};
+ghost use Rattle.view.specs.Views.{kindOfBody, ItemAt, Formed, FunctionAt, ArgumentsAt, ArgumentOf};
 ghost use Rattle.view.specs.Views.{isFunctionKind, kindOfType, isAtomKind, isNamedKind, isIndirectKind};
 
-// ---- fields
-
-// The value of a field, and the position behind it.
-pub struct Found {
-    pub value: u32,
-    pub next: Cursor,
-}
-
-// The field of n bits at c.
-pub fn field(s: &[u8], c: Cursor, n: u32) -> Found
-    requires { ⌜ Limited (now s) × (n ≤ 32) ⌝ }
-    ensures { λ r. ⌜ Finds (bits n (now (s .entry)) (c .at)) n r ⌝ }
-{
-    let f = read(s, c, n);
-    match f {
-        Field::Value(value, next) => Found { value, next },
-        Field::Cut => Found {
-            value: 0,
-            next: Cursor::new(0),
-        },
-    }
-}
-
-// ---- names
-
-// Whether the names at two positions are the same.
-fn same_chars(s: &[u8], a: u32, b: u32) -> bool
-    requires { ⌜ Limited (now s) × Yields (name (now s) a) (nameAt (now s) a) ×
-        Yields (name (now s) b) (nameAt (now s) b) ⌝ }
-    ensures { λ r. ⌜ r ≡ same (nameAt (now (s .entry)) a) (nameAt (now (s .entry)) b) ⌝ }
-{
-    let mut x = [0u8; Name::LONGEST];
-    let mut y = [0u8; Name::LONGEST];
-    let n = fetch(s, a, &mut x);
-    let m = fetch(s, b, &mut y);
-    let k = n.length;
-    let l = m.length;
-    equal(&x[..k], &y[..l])
-}
-
-// Whether names i and j are the same; unequal digests tell them apart.
-pub fn same_name(s: &[u8], names: &[u32], digests: &[u32], i: u32, j: u32) -> bool
-    requires { ⌜ Named (now s) (now names) × (now digests ≡ digestsAt (now s) (now names)) ×
-        (i < length (now names)) × (j < length (now names)) ⌝ }
-    ensures { λ r. ⌜ r ≡ same (nameAt (now (s .entry)) (getD (now (names .entry)) i 0))
-        (nameAt (now (s .entry)) (getD (now (names .entry)) j 0)) ⌝ }
-{
-    let a = i as usize;
-    let b = j as usize;
-    if digests[a] != digests[b] {
-        return false;
-    }
-    same_chars(s, names[a], names[b])
-}
-
-// Whether name i is the text.
-pub fn name_is(s: &[u8], names: &[u32], i: u32, text: &[u8]) -> bool
-    requires { ⌜ Named (now s) (now names) × (i < length (now names)) ⌝ }
-    ensures { λ r. ⌜ r ≡ same (nameAt (now (s .entry)) (getD (now (names .entry)) i 0)) (now (text .entry)) ⌝ }
-{
-    let k = i as usize;
-    let mut x = [0u8; Name::LONGEST];
-    let n = fetch(s, names[k], &mut x);
-    let l = n.length;
-    equal(&x[..l], text)
-}
-
 // ---- digests
-
-fn to_u32(c: u8) -> u32
-    ensures { λ r. ⌜ r ≡ c ⌝ }
-{
-    c as u32
-}
-
-fn to_u64(c: u32) -> u64
-    ensures { λ r. ⌜ r ≡ c ⌝ }
-{
-    c as u64
-}
-
-// A digest with one number more.
-pub fn mix(h: u32, c: u32) -> u32
-    ensures { λ r. ⌜ r ≡ mixOf h c ⌝ }
-{
-    let sum = to_u64(h) * 31 + to_u64(c);
-    (sum % 4294967296) as u32
-}
-
-// The digest of characters.
-fn digest(w: &[u8]) -> u32
-    ensures { λ r. ⌜ r ≡ digestOf (now (w .entry)) ⌝ }
-{
-    let mut h: u32 = 0;
-    let mut i: usize = 0;
-    while i < w.len() {
-        h = mix(h, to_u32(w[i]));
-        i = i + 1;
-    }
-    h
-}
 
 // The digest of the name at a position.
 fn digest_at(s: &[u8], at: u32) -> u32

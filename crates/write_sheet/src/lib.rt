@@ -17,7 +17,7 @@ ghost use Rattle.decode.specs.Tables.{Tables, Answers};
 ghost use Rattle.bridge.specs.Write.{text};
 ghost use Rattle.services.specs.Services.{Writes};
 ghost use Rattle.view.specs.Values.{itemsAt, Whole};
-ghost use Rattle.view.specs.Digests.{digestsAt};
+ghost use Rattle.names.specs.Digests.{digestsAt};
 ghost use Rattle.sections.specs.Runs.{sheetOf};
 ghost use Rattle.write_sheet.specs.Delivers.{Delivers, Judges};
 

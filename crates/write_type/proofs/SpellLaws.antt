@@ -24,10 +24,10 @@ use Rattle.bridge.specs.WriteType.{writeAtom, templateName, pointerBegin, point
 use Rattle.bridge.specs.WriteType.{writeType, writeRet, writeTypeSpace}
 use Rattle.cursor.specs.declared.Cursor.{Cursor}
 use Rattle.cursor.proofs.WidthLaws.{index-field, index-lt}
-use Rattle.view.specs.declared.Found.{Found}
+use Rattle.cursor.specs.declared.Found.{Found}
 use Rattle.view.specs.Values.{valueOr, nextOf, Yields}
 use Rattle.view.specs.Views.{Finds, kindOfType}
-use Rattle.view.proofs.ValueLaws.{yields, in-turn, found, found-value, found-next, bit-value, bit-next}
+use Rattle.cursor.proofs.YieldLaws.{yields, in-turn, found, found-value, found-next, bit-value, bit-next}
 use Rattle.view.proofs.TypeLaws.{body-type}
 use Rattle.write_atom.specs.Texts.{spaceOfKind}
 use Rattle.write_type.specs.TypeAt.{tyAt}

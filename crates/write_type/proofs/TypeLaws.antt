@@ -8,7 +8,7 @@ use Rattle.format.specs.Decoding.{typeAt, type}
 use Rattle.bridge.specs.WriteType.{spaceAfterType}
 use Rattle.view.specs.Values.{Yields}
 use Rattle.view.specs.Views.{kindOfType}
-use Rattle.view.proofs.ValueLaws.{yielded}
+use Rattle.cursor.proofs.YieldLaws.{yielded}
 use Rattle.write_atom.specs.Texts.{spaceOfKind}
 use Rattle.write_type.specs.TypeAt.{tyAt}
 

@@ -1,5 +1,6 @@
 // How types are spelled in C++: `write_type` and `write_type_space` of write.rs.
 use cursor::Cursor;
+use cursor::fields::field;
 use cursor::width;
 use format::TypeKind;
 use mangle::write_full_name;
@@ -7,7 +8,6 @@ use sink::put_bytes;
 use sink::put_decimal;
 use sink::put_when;
 use types::kind_of;
-use view::field;
 use write_atom::put_pointer_begin;
 use write_atom::put_pointer_end;
 use write_atom::put_template;

@@ -1,9 +1,9 @@
--- Written by tools/proofkit from answers/digest_at.tpl (0f890a30 051edcb7).
+-- Written by tools/proofkit from answers/digest_at.tpl (36553904 ffcb4a51).
 use borrow.Author.Needs.{needs}
 use native.Mathlib.Omega.{arith}
 use mathlib.Core.Path.{sym}
 use lib.Seq.{length-take-le}
-use Rattle.view.proofs.NameLaws.{fetched}
+use Rattle.names.proofs.NameLaws.{fetched}
 use Rattle.view.proofs.digest_at.Statement.{statement}
 use Rattle.view.proofs.digest_at.Tie as tie
 

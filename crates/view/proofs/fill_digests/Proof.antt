@@ -1,12 +1,12 @@
--- Written by tools/proofkit from answers/fill_digests.tpl (ba464d26 d253a5f3).
+-- Written by tools/proofkit from answers/fill_digests.tpl (f91e0352 544fe3a4).
 use borrow.Author.Needs.{needs}
 use native.Mathlib.Omega.{arith}
 use mathlib.Core.Path.{_≡_, refl, sym, _∙_}
 use Prim.Native.Nat.{_≤_, _-_}
 use lib.ListN.{length, take, length-set}
-use Rattle.view.specs.Digests.{digestsAt}
-use Rattle.view.proofs.NameLaws.{digests-length, digest-there}
-use Rattle.view.proofs.DigestLaws.{copy-turn, copy-done}
+use Rattle.names.specs.Digests.{digestsAt}
+use Rattle.names.proofs.NameLaws.{digests-length, digest-there}
+use Rattle.names.proofs.DigestLaws.{copy-turn, copy-done}
 use Rattle.view.proofs.fill_digests.Statement.{statement}
 use Rattle.view.proofs.fill_digests.Tie as tie
 

@@ -1,6 +1,6 @@
--- Written by tools/proofkit from answers/past_return.tpl (69c0c442 99c8aaa2).
+-- Written by tools/proofkit from answers/past_return.tpl (ad86e657 97cad36b).
 use borrow.Author.Needs.{needs}
-use Rattle.view.proofs.ValueLaws.{next-at, next-none}
+use Rattle.cursor.proofs.YieldLaws.{next-at, next-none}
 use Rattle.view.proofs.past_return.Statement.{statement}
 use Rattle.view.proofs.past_return.Tie as tie
 

@@ -1,6 +1,6 @@
--- Written by tools/proofkit from answers/past_type.tpl (f9c8600f 1d15dbfa).
+-- Written by tools/proofkit from answers/past_type.tpl (b2df3ab0 8d50c49a).
 use borrow.Author.Needs.{needs}
-use Rattle.view.proofs.ValueLaws.{next-at, next-none}
+use Rattle.cursor.proofs.YieldLaws.{next-at, next-none}
 use Rattle.view.proofs.past_type.Statement.{statement}
 use Rattle.view.proofs.past_type.Tie as tie
 

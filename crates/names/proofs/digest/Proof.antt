@@ -1,13 +1,13 @@
--- Written by tools/proofkit from answers/digest.tpl (ad68e872 2d8ccc65).
+-- Written by tools/proofkit from answers/digest.tpl (86b05c7c 3550b1df).
 use borrow.Author.Needs.{needs}
 use native.Mathlib.Omega.{arith}
 use mathlib.Core.Path.{_≡_, refl, sym, _∙_}
 use Prim.Native.Nat.{_≤_, _-_}
 use lib.ListN.{length, drop}
-use Rattle.view.specs.Digests.{digestFrom}
-use Rattle.view.proofs.DigestLaws.{digest-turn, digest-end}
-use Rattle.view.proofs.digest.Statement.{statement}
-use Rattle.view.proofs.digest.Tie as tie
+use Rattle.names.specs.Digests.{digestFrom}
+use Rattle.names.proofs.DigestLaws.{digest-turn, digest-end}
+use Rattle.names.proofs.digest.Statement.{statement}
+use Rattle.names.proofs.digest.Tie as tie
 
 abbrev Inv-loop : tie.InvT-loop
 Inv-loop w h₀ i₀ h i = (i ≤ length w) × (digestFrom 0 w ≡ digestFrom h (drop i w))

@@ -16,12 +16,12 @@ use Rattle.format.specs.Decoding.{name, nameOf}
 use Rattle.cursor.proofs.CheckLaws.{getD-same}
 use Rattle.cursor.proofs.FieldLaws.{field-next}
 use Rattle.cursor.proofs.WidthLaws.{index-field, index-lt}
+use Rattle.cursor.specs.declared.Found.{Found}
+use Rattle.cursor.specs.Yielding.{Yields, Finds}
+use Rattle.cursor.proofs.YieldLaws.{in-turn, got-value, got-next, found}
 use Rattle.names.specs.Fetching.{Fetched}
-use Rattle.view.specs.declared.Found.{Found}
-use Rattle.view.specs.Values.{valueOr, nextOf, Yields, nameAt, namesAt}
-use Rattle.view.specs.Digests.{digest, digestsAt}
-use Rattle.view.specs.Views.{Finds}
-use Rattle.view.proofs.ValueLaws.{in-turn, got-value, got-next, found}
+use Rattle.names.specs.Naming.{nameAt, namesAt}
+use Rattle.names.specs.Digests.{digest, digestsAt}
 
 pub map-at : {A : Type 0} (f : ℕ → A) (l : List ℕ) (i : ℕ) (z : A) → i < length l → getD (map f l) i z ≡ f (getD l i 0)
 map-at f l i z h =
@@ -59,6 +59,10 @@ module _ (s names : List ℕ) where
       same (nameAt s (getD names i 0)) (nameAt s (getD names j 0)) ≡ false
   differ {i} {j} e h l d =
       digests-differ _ _ (λ z. d (rw (e, digest-there i h, digest-there j l) z))
+
+  pub unlike : (text : List ℕ) {digests : List ℕ} {i h : ℕ} → digests ≡ digestsAt s names → i < length names →
+      h ≡ digest text → (getD digests i 0 ≡ h → ⊥) → same (nameAt s (getD names i 0)) text ≡ false
+  unlike text {i} e l t d = digests-differ _ _ (λ z. d (rw (e, digest-there i l, t) z))
 
   -- an index that is decoded as a name
   pub record Indexed (at : ℕ) (x : Name) (m : ℕ) (i : ℕ) : Type 0 where

@@ -12,17 +12,16 @@ use Rattle.refusal.specs.declared.Refusal.{Refusal}
 use Rattle.refusal.specs.declared.Refusal.the-variants.{CutSheet}
 use Rattle.format.specs.Decode.{Got, fault, got, Dec, pick, after, many}
 use Rattle.format.specs.Bits.{bitsAt, bits, bit}
 use Rattle.cursor.specs.declared.Cursor.{Cursor}
 use Rattle.cursor.specs.declared.Field.{Field}
 use Rattle.cursor.specs.declared.Field.the-variants.{Value, Cut}
 use Rattle.cursor.specs.declared.Step.{Step}
 use Rattle.cursor.specs.declared.Step.the-variants.{At, Fault}
 use Rattle.cursor.specs.Checking.{Limited, ReadsField, Checks}
 use Rattle.cursor.proofs.CheckLaws.{stepped, stopped}
 use Rattle.cursor.proofs.FieldLaws.{value, cut, field-lt}
-use Rattle.view.specs.declared.Found.{Found}
-use Rattle.view.specs.Values.{valueOr, nextOf, Yields}
-use Rattle.view.specs.Views.{Finds}
+use Rattle.cursor.specs.declared.Found.{Found}
+use Rattle.cursor.specs.Yielding.{valueOr, nextOf, Yields, Finds}
 
 -- what is read with a known value
 pub yields : {A : Type 0} {p : Got A} {x : A} {m : ℕ} → p ≡ got x m → Yields p x

@@ -6,7 +6,7 @@ use native.Mathlib.Omega.{arith}
 use native.Mathlib.Numerals.{add-one}
 use lib.ListN.{length, getD, take, drop, set, drop-of-length-le}
 use lib.Seq.{drop-cons, take-suc, take-suc-set, take-all}
-use Rattle.view.specs.Digests.{mix, digestFrom}
+use Rattle.names.specs.Digests.{mix, digestFrom}
 
 module _ (w : List ℕ) (i h : ℕ) where
   pub digest-turn : {x y : ℕ} → i < length w → x ≡ getD w i 0 → y ≡ mix h x →

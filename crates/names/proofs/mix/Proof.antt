@@ -1,8 +1,8 @@
--- Written by tools/proofkit from answers/mix.tpl (7b73d4e9 3eda9e1e).
+-- Written by tools/proofkit from answers/mix.tpl (ee31b474 c8c60ffa).
 use borrow.Author.Needs.{needs}
-use Rattle.view.specs.Digests.{mix}
-use Rattle.view.proofs.mix.Statement.{statement}
-use Rattle.view.proofs.mix.Tie as tie
+use Rattle.names.specs.Digests.{mix}
+use Rattle.names.proofs.mix.Statement.{statement}
+use Rattle.names.proofs.mix.Tie as tie
 
 returns : tie.Need-returns
 unfolding mix

@@ -1,7 +1,7 @@
 -- Digests: numbers that tell most unequal names apart.
 use mathlib.Core.List.{List, [], _∷_, map}
 use Prim.Native.Nat.{ℕ, _+_, _*_, _%_}
-use Rattle.view.specs.Values.{nameAt}
+use Rattle.names.specs.Naming.{nameAt}
 
 unfoldable pub mix : ℕ → ℕ → ℕ
 mix h c = (h * 31 + c) % 4294967296

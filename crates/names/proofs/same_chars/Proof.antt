@@ -1,11 +1,11 @@
--- Written by tools/proofkit from answers/same_chars.tpl (bdb09ed3 a50c8164).
+-- Written by tools/proofkit from answers/same_chars.tpl (8f9fefc0 99c9ed9f).
 use borrow.Author.Needs.{needs}
 use native.Mathlib.Omega.{arith}
 use mathlib.Core.Path.{sym}
 use lib.Seq.{length-take-le}
-use Rattle.view.proofs.NameLaws.{fetched}
-use Rattle.view.proofs.same_chars.Statement.{statement}
-use Rattle.view.proofs.same_chars.Tie as tie
+use Rattle.names.proofs.NameLaws.{fetched}
+use Rattle.names.proofs.same_chars.Statement.{statement}
+use Rattle.names.proofs.same_chars.Tie as tie
 
 slice-aggregate-equal : tie.Need-slice-aggregate-equal
 slice-aggregate-equal c = sym (length-take-le _ _ (omega arith))

@@ -1,9 +1,9 @@
--- Written by tools/proofkit from answers/field.tpl (550a81fa 0b8d4887).
+-- Written by tools/proofkit from answers/fields/field.tpl (e62f1508 54eaf869).
 use borrow.Author.Needs.{needs}
 use native.Mathlib.Omega.{arith}
-use Rattle.view.proofs.ValueLaws.{finds-value, finds-none}
-use Rattle.view.proofs.field.Statement.{statement}
-use Rattle.view.proofs.field.Tie as tie
+use Rattle.cursor.proofs.YieldLaws.{finds-value, finds-none}
+use Rattle.cursor.proofs.fields.field.Statement.{statement}
+use Rattle.cursor.proofs.fields.field.Tie as tie
 
 returns : tie.Need-returns
 returns c = finds-value _ _ _ (omega arith) (c .before .before .before .read .ensures) (c .before .f .given .1)
