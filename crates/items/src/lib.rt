@@ -1,4 +1,5 @@
-// The items of a sheet, checked; names and items are the numbers of entries of the two tables.
+// The items of a sheet, checked; names are the positions of the sheet's names, items is the number of its items. The walk
+// marks what rules 9 to 11 ask for.
 use comments::check_comment;
 use cursor::Cursor;
 use cursor::Field;
@@ -9,6 +10,7 @@ use cursor::skip;
 use format::ItemKind;
 use refusal::Refusal;
 use text::in_range;
+use types::check_item_index;
 use types::check_return;
 use types::check_type;
 use types::check_types;
@@ -16,39 +18,63 @@ ghost use mathlib.Core.Path.{_≡_};
 ghost use mathlib.Core.List.{List};
 ghost use Prim.Native.Nat.{ℕ, _≤_};
 ghost use lib.ListN.{length};
-ghost use Rattle.format.specs.Decode.{many};
+ghost use Rattle.format.specs.Limits.{mostArguments};
+ghost use Rattle.format.specs.Decode.{got, many};
 ghost use Rattle.format.specs.Bits.{index};
 ghost use Rattle.format.specs.Types.{Ret};
-ghost use Rattle.format.specs.Sheet.{Argument, Body};
+ghost use Rattle.format.specs.Sheet.{Form, Argument, Body};
 ghost use Rattle.format.specs.Decoding.{argument, form, functionBody, structBody, enumBody};
 ghost use Rattle.format.specs.Decoding.{partOf, isBad, itemBody, namespace, item};
+ghost use Rattle.rules.specs.Rules.{isMethod};
 ghost use Rattle.cursor.specs.Checking.{Limited, Checks, positionOf, Fills};
-ghost use Rattle.items.specs.Parts.{ForNames, signature};
+ghost use Rattle.names.specs.Naming.{namesAt, Named};
+ghost use Rattle.names.specs.Digests.{digestsAt};
+ghost use Rattle.marks.specs.Gathering.{each, Gathers};
+ghost use Rattle.marks.specs.Marking.{markRet, markForm, markArgument, markBody, markItem};
+ghost use Rattle.items.specs.Parts.{markInputs, signature};
 
 // ---- functions
 
-fn check_argument(s: &[u8], c: Cursor, names: u32, items: u32) -> Step
-    requires { ⌜ Limited (now s) ⌝ }
-    ensures { λ r. ⌜ ForNames names (λ ns. Checks (argument ns items (now (s .entry)) (c .at)) r) ⌝ }
+fn check_argument(s: &[u8], names: &[u32], c: Cursor, items: u32, marks: &mut [u8]) -> Step
+    requires { ⌜ Named (now s) (now names) ⌝ }
+    ensures { λ r. ⌜ Gathers markArgument
+        (argument (namesAt (now (s .entry)) (now (names .entry))) items (now (s .entry)) (c .at))
+        (now (marks .entry)) r (now (marks .exit)) ⌝ }
 {
-    let r = check_index(s, c, names);
+    let r = check_index(s, c, names.len() as u32);
     match r {
         Step::Fault(e) => Step::Fault(e),
-        Step::At(next) => check_type(s, next, items),
+        Step::At(next) => check_type(s, next, items, marks),
     }
 }
 
-// Past n arguments.
-fn check_arguments(s: &[u8], c: Cursor, names: u32, items: u32, n: u32) -> Step
-    requires { ⌜ Limited (now s) ⌝ }
-    ensures { λ r. ⌜ ForNames names (λ ns. Checks (many n (argument ns items) (now (s .entry)) (c .at)) r) ⌝ }
+// Past n arguments, with the position of each in offsets.
+fn check_arguments(
+    s: &[u8],
+    names: &[u32],
+    c: Cursor,
+    items: u32,
+    n: u32,
+    offsets: &mut [u32],
+    marks: &mut [u8],
+) -> Step
+    requires { ⌜ Named (now s) (now names) × (n ≤ length (now offsets)) ⌝ }
+    ensures { λ r. ⌜ Fills
+        (many n (positionOf (argument (namesAt (now (s .entry)) (now (names .entry))) items)) (now (s .entry)) (c .at))
+        r n (now (offsets .exit)) ×
+        Gathers (each markArgument)
+        (many n (argument (namesAt (now (s .entry)) (now (names .entry))) items) (now (s .entry)) (c .at))
+        (now (marks .entry)) r (now (marks .exit)) ⌝ }
 {
     let mut next = c;
     let mut i: u32 = 0;
     while i < n {
-        let r = check_argument(s, next, names, items);
+        let r = check_argument(s, names, next, items, marks);
         match r {
             Step::At(p) => {
+                let k = i as usize;
+                let here = next.at;
+                offsets[k] = here;
                 next = p;
             }
             Step::Fault(e) => {
@@ -60,9 +86,35 @@ fn check_arguments(s: &[u8], c: Cursor, names: u32, items: u32, n: u32) -> Step
     Step::At(next)
 }
 
-fn check_form(s: &[u8], c: Cursor, items: u32) -> Step
+// Past n arguments, which are judged.
+fn check_inputs(
+    s: &[u8],
+    names: &[u32],
+    digests: &[u32],
+    c: Cursor,
+    items: u32,
+    n: u32,
+    method: bool,
+    throws: bool,
+    marks: &mut [u8],
+) -> Step
+    requires { ⌜ Named (now s) (now names) × (now digests ≡ digestsAt (now s) (now names)) × (n ≤ mostArguments) ⌝ }
+    ensures { λ r. ⌜ Gathers (markInputs method throws)
+        (many n (argument (namesAt (now (s .entry)) (now (names .entry))) items) (now (s .entry)) (c .at))
+        (now (marks .entry)) r (now (marks .exit)) ⌝ }
+{
+    let mut offsets = [0u32; 31];
+    let r = check_arguments(s, names, c, items, n, &mut offsets, marks);
+    match r {
+        Step::Fault(e) => Step::Fault(e),
+        Step::At(next) => { Step::At(next) }
+    }
+}
+
+fn check_form(s: &[u8], c: Cursor, items: u32, marks: &mut [u8]) -> Step
     requires { ⌜ Limited (now s) ⌝ }
-    ensures { λ r. ⌜ Checks (form items (now (s .entry)) (c .at)) r ⌝ }
+    ensures { λ r. ⌜ Gathers markForm (form items (now (s .entry)) (c .at)) (now (marks .entry)) r
+        (now (marks .exit)) ⌝ }
 {
     let f = read(s, c, 2);
     match f {
@@ -71,18 +123,48 @@ fn check_form(s: &[u8], c: Cursor, items: u32) -> Step
             if k == 0 {
                 return Step::At(next);
             }
-            check_index(s, next, items)
+            check_item_index(s, next, items, marks)
+        }
+    }
+}
+
+// Whether the form at c is a method's.
+fn is_method(s: &[u8], c: Cursor) -> bool
+    requires { ⌜ Limited (now s) ⌝ }
+    ensures { λ r. ⌜ ((items m : ℕ) (x : Form) → form items (now (s .entry)) (c .at) ≡ got x m → r ≡ isMethod x) ⌝ }
+{
+    let f = read(s, c, 2);
+    match f {
+        Field::Cut => false,
+        Field::Value(k, _) => {
+            if k == 1 {
+                return true;
+            }
+            k == 2
         }
     }
 }
 
 // Past a function's return type, arguments and comment.
-fn check_signature(s: &[u8], c: Cursor, names: u32, items: u32) -> Step
-    requires { ⌜ Limited (now s) ⌝ }
-    ensures { λ r. ⌜ ((make : Ret → List Argument → List (List ℕ) → Body) →
-        ForNames names (λ ns. Checks (signature make ns items (now (s .entry)) (c .at)) r)) ⌝ }
+fn check_signature(
+    s: &[u8],
+    names: &[u32],
+    digests: &[u32],
+    c: Cursor,
+    items: u32,
+    method: bool,
+    throws: bool,
+    marks: &mut [u8],
+) -> Step
+    requires { ⌜ Named (now s) (now names) × (now digests ≡ digestsAt (now s) (now names)) ⌝ }
+    ensures { λ r. ⌜ ((make : Ret → List Argument → List (List ℕ) → Body) (u : List ℕ) →
+        ((x : Ret) (xs : List Argument) (ls : List (List ℕ)) →
+        markBody (make x xs ls) u ≡ markInputs method throws xs (markRet x (now (marks .entry)))) →
+        Gathers markBody
+        (signature make (namesAt (now (s .entry)) (now (names .entry))) items (now (s .entry)) (c .at))
+        u r (now (marks .exit))) ⌝ }
 {
-    let a = check_return(s, c, items);
+    let a = check_return(s, c, items, marks);
     match a {
         Step::Fault(e) => Step::Fault(e),
         Step::At(count) => {
@@ -90,7 +172,7 @@ fn check_signature(s: &[u8], c: Cursor, names: u32, items: u32) -> Step
             match f {
                 Field::Cut => Step::Fault(Refusal::CutSheet),
                 Field::Value(n, first) => {
-                    let b = check_arguments(s, first, names, items, n);
+                    let b = check_inputs(s, names, digests, first, items, n, method, throws, marks);
                     match b {
                         Step::Fault(e) => Step::Fault(e),
                         Step::At(next) => check_comment(s, next),
@@ -101,22 +183,34 @@ fn check_signature(s: &[u8], c: Cursor, names: u32, items: u32) -> Step
     }
 }
 
-fn check_function(s: &[u8], c: Cursor, names: u32, items: u32) -> Step
-    requires { ⌜ Limited (now s) ⌝ }
-    ensures { λ r. ⌜ ForNames names (λ ns. Checks (functionBody ns items (now (s .entry)) (c .at)) r) ⌝ }
+fn check_function(
+    s: &[u8],
+    names: &[u32],
+    digests: &[u32],
+    c: Cursor,
+    items: u32,
+    marks: &mut [u8],
+) -> Step
+    requires { ⌜ Named (now s) (now names) × (now digests ≡ digestsAt (now s) (now names)) ⌝ }
+    ensures { λ r. ⌜ Gathers markBody
+        (functionBody (namesAt (now (s .entry)) (now (names .entry))) items (now (s .entry)) (c .at))
+        (now (marks .entry)) r (now (marks .exit)) ⌝ }
 {
-    let a = check_index(s, c, names);
+    let a = check_index(s, c, names.len() as u32);
     match a {
         Step::Fault(e) => Step::Fault(e),
         Step::At(c1) => {
-            let b = check_form(s, c1, items);
+            let b = check_form(s, c1, items, marks);
             match b {
                 Step::Fault(e) => Step::Fault(e),
                 Step::At(c2) => {
-                    let d = skip(s, c2, 1);
-                    match d {
-                        Step::Fault(e) => Step::Fault(e),
-                        Step::At(c3) => check_signature(s, c3, names, items),
+                    let f = read(s, c2, 1);
+                    match f {
+                        Field::Cut => Step::Fault(Refusal::CutSheet),
+                        Field::Value(t, c3) => {
+                            let method = is_method(s, c1);
+                            check_signature(s, names, digests, c3, items, method, t == 1, marks)
+                        }
                     }
                 }
             }
@@ -126,9 +220,10 @@ fn check_function(s: &[u8], c: Cursor, names: u32, items: u32) -> Step
 
 // ---- items
 
-fn check_struct(s: &[u8], c: Cursor, items: u32) -> Step
+fn check_struct(s: &[u8], c: Cursor, items: u32, marks: &mut [u8]) -> Step
     requires { ⌜ Limited (now s) ⌝ }
-    ensures { λ r. ⌜ Checks (structBody items (now (s .entry)) (c .at)) r ⌝ }
+    ensures { λ r. ⌜ Gathers markBody (structBody items (now (s .entry)) (c .at)) (now (marks .entry)) r
+        (now (marks .exit)) ⌝ }
 {
     let a = skip(s, c, 1);
     match a {
@@ -137,7 +232,7 @@ fn check_struct(s: &[u8], c: Cursor, items: u32) -> Step
             let f = read(s, c1, 6);
             match f {
                 Field::Cut => Step::Fault(Refusal::CutSheet),
-                Field::Value(n, first) => check_types(s, first, items, n),
+                Field::Value(n, first) => check_types(s, first, items, n, marks),
             }
         }
     }
@@ -167,25 +262,18 @@ fn check_enum(s: &[u8], c: Cursor) -> Step
     }
 }
 
-const KINDS: [ItemKind; 8] = [
-    ItemKind::Struct,
-    ItemKind::Enum,
-    ItemKind::CxxType,
-    ItemKind::RustType,
-    ItemKind::RustFunction,
-    ItemKind::Bad,
-    ItemKind::Bad,
-    ItemKind::Bad,
-];
-
 // What the number k of a kind says.
 pub fn part_of(k: u32) -> ItemKind
     ensures { λ r. ⌜ r ≡ partOf k ⌝ }
 {
-    if 7 < k {
-        return ItemKind::Bad;
+    match k {
+        0 => ItemKind::Struct,
+        1 => ItemKind::Enum,
+        2 => ItemKind::CxxType,
+        3 => ItemKind::RustType,
+        4 => ItemKind::RustFunction,
+        _ => ItemKind::Bad,
     }
-    KINDS[k as usize]
 }
 
 fn is_bad(k: ItemKind) -> bool
@@ -202,16 +290,26 @@ fn is_bad(k: ItemKind) -> bool
 }
 
 // Past what stands behind the C++ name.
-fn check_body(s: &[u8], c: Cursor, names: u32, items: u32, kind: ItemKind) -> Step
-    requires { ⌜ Limited (now s) ⌝ }
-    ensures { λ r. ⌜ ForNames names (λ ns. Checks (itemBody kind ns items (now (s .entry)) (c .at)) r) ⌝ }
+fn check_body(
+    s: &[u8],
+    names: &[u32],
+    digests: &[u32],
+    c: Cursor,
+    items: u32,
+    kind: ItemKind,
+    marks: &mut [u8],
+) -> Step
+    requires { ⌜ Named (now s) (now names) × (now digests ≡ digestsAt (now s) (now names)) ⌝ }
+    ensures { λ r. ⌜ Gathers markBody
+        (itemBody kind (namesAt (now (s .entry)) (now (names .entry))) items (now (s .entry)) (c .at))
+        (now (marks .entry)) r (now (marks .exit)) ⌝ }
 {
     match kind {
-        ItemKind::Struct => check_struct(s, c, items),
+        ItemKind::Struct => check_struct(s, c, items, marks),
         ItemKind::Enum => check_enum(s, c),
         ItemKind::CxxType => skip(s, c, 1),
         ItemKind::RustType => skip(s, c, 1),
-        ItemKind::RustFunction => check_function(s, c, names, items),
+        ItemKind::RustFunction => check_function(s, names, digests, c, items, marks),
         ItemKind::Bad => Step::Fault(Refusal::BadKind),
     }
 }
@@ -238,21 +336,30 @@ fn check_indexes(s: &[u8], c: Cursor, names: u32, n: u32) -> Step
     Step::At(next)
 }
 
-fn check_namespace(s: &[u8], c: Cursor, names: u32) -> Step
-    requires { ⌜ Limited (now s) ⌝ }
-    ensures { λ r. ⌜ ForNames names (λ ns. Checks (namespace ns (now (s .entry)) (c .at)) r) ⌝ }
+fn check_namespace(s: &[u8], names: &[u32], c: Cursor) -> Step
+    requires { ⌜ Named (now s) (now names) ⌝ }
+    ensures { λ r. ⌜ Checks (namespace (namesAt (now (s .entry)) (now (names .entry))) (now (s .entry)) (c .at)) r ⌝ }
 {
     let f = read(s, c, 3);
     match f {
         Field::Cut => Step::Fault(Refusal::CutSheet),
-        Field::Value(n, first) => check_indexes(s, first, names, n),
+        Field::Value(n, first) => check_indexes(s, first, names.len() as u32, n),
     }
 }
 
 // Past the item at c.
-fn check_item(s: &[u8], c: Cursor, names: u32, items: u32) -> Step
-    requires { ⌜ Limited (now s) ⌝ }
-    ensures { λ r. ⌜ ForNames names (λ ns. Checks (item ns items (now (s .entry)) (c .at)) r) ⌝ }
+fn check_item(
+    s: &[u8],
+    names: &[u32],
+    digests: &[u32],
+    c: Cursor,
+    items: u32,
+    marks: &mut [u8],
+) -> Step
+    requires { ⌜ Named (now s) (now names) × (now digests ≡ digestsAt (now s) (now names)) ⌝ }
+    ensures { λ r. ⌜ Gathers markItem
+        (item (namesAt (now (s .entry)) (now (names .entry))) items (now (s .entry)) (c .at))
+        (now (marks .entry)) r (now (marks .exit)) ⌝ }
 {
     let f = read(s, c, 3);
     match f {
@@ -263,14 +370,14 @@ fn check_item(s: &[u8], c: Cursor, names: u32, items: u32) -> Step
             if bad {
                 return Step::Fault(Refusal::BadKind);
             }
-            let a = check_namespace(s, c1, names);
+            let a = check_namespace(s, names, c1);
             match a {
                 Step::Fault(e) => Step::Fault(e),
                 Step::At(c2) => {
-                    let b = check_index(s, c2, names);
+                    let b = check_index(s, c2, names.len() as u32);
                     match b {
                         Step::Fault(e) => Step::Fault(e),
-                        Step::At(c3) => check_body(s, c3, names, items, kind),
+                        Step::At(c3) => check_body(s, names, digests, c3, items, kind, marks),
                     }
                 }
             }
@@ -279,15 +386,28 @@ fn check_item(s: &[u8], c: Cursor, names: u32, items: u32) -> Step
 }
 
 // Past all items, with the position of each in offsets.
-pub fn check_items(s: &[u8], c: Cursor, names: u32, items: u32, offsets: &mut [u32]) -> Step
-    requires { ⌜ Limited (now s) × (items ≤ length (now offsets)) ⌝ }
-    ensures { λ r. ⌜ ForNames names (λ ns.
-        Fills (many items (positionOf (item ns items)) (now (s .entry)) (c .at)) r items (now (offsets .exit))) ⌝ }
+pub fn check_items(
+    s: &[u8],
+    names: &[u32],
+    digests: &[u32],
+    c: Cursor,
+    items: u32,
+    offsets: &mut [u32],
+    marks: &mut [u8],
+) -> Step
+    requires { ⌜ Named (now s) (now names) × (now digests ≡ digestsAt (now s) (now names)) ×
+        (items ≤ length (now offsets)) ⌝ }
+    ensures { λ r. ⌜ Fills
+        (many items (positionOf (item (namesAt (now (s .entry)) (now (names .entry))) items)) (now (s .entry)) (c .at))
+        r items (now (offsets .exit)) ×
+        Gathers (each markItem)
+        (many items (item (namesAt (now (s .entry)) (now (names .entry))) items) (now (s .entry)) (c .at))
+        (now (marks .entry)) r (now (marks .exit)) ⌝ }
 {
     let mut next = c;
     let mut i: u32 = 0;
     while i < items {
-        let r = check_item(s, next, names, items);
+        let r = check_item(s, names, digests, next, items, marks);
         match r {
             Step::At(p) => {
                 let k = i as usize;

@@ -182,7 +182,8 @@ pub fn past_type(s: &[u8], c: Cursor, items: u32) -> Cursor
     requires { ⌜ Limited (now s) ⌝ }
     ensures { λ r. ⌜ r .at ≡ nextOf (type items (now (s .entry)) (c .at)) ⌝ }
 {
-    let r = check_type(s, c, items);
+    let mut none = [0u8; 1];
+    let r = check_type(s, c, items, &mut none[..0]);
     match r {
         Step::At(next) => next,
         Step::Fault(_) => Cursor::new(0),
@@ -194,7 +195,8 @@ fn past_return(s: &[u8], c: Cursor, items: u32) -> Cursor
     requires { ⌜ Limited (now s) ⌝ }
     ensures { λ r. ⌜ r .at ≡ nextOf (optional (type items) (now (s .entry)) (c .at)) ⌝ }
 {
-    let r = check_return(s, c, items);
+    let mut none = [0u8; 1];
+    let r = check_return(s, c, items, &mut none[..0]);
     match r {
         Step::At(next) => next,
         Step::Fault(_) => Cursor::new(0),

@@ -1,34 +1,39 @@
--- Written by tools/proofkit from answers/check_items.tpl (a5ec191d a1cd5b07).
+-- Written by tools/proofkit from answers/check_items.tpl (5eeca287 d9ba3143).
 use borrow.Author.Needs.{needs}
 use native.Mathlib.Omega.{arith}
-use mathlib.Core.Path.{_≡_, refl}
+use mathlib.Core.Path.{_≡_, refl, _∙_}
 use Prim.Native.Nat.{_-_, _≤_}
 use lib.ListN.{length, length-set}
 use Rattle.format.specs.Decoding.{item}
 use Rattle.cursor.specs.Checking.{positionOf}
-use Rattle.cursor.proofs.CheckLaws.{stepped, stopped}
 use Rattle.cursor.proofs.TableLaws.{placed-got, placed-fault, Filling, fill-none, fill-turn, fill-stop, fill-done}
-use Rattle.items.specs.Parts.{ForNames}
+use Rattle.names.specs.Naming.{namesAt}
+use Rattle.marks.specs.Marking.{markItem}
+use Rattle.marks.proofs.GatherLaws.{moved, halted, folded, fold-none, fold-turn, fold-stop, fold-done}
 use Rattle.items.proofs.check_items.Statement.{statement}
 use Rattle.items.proofs.check_items.Tie as tie
 
 abbrev Inv-loop : tie.InvT-loop
-Inv-loop s names items offsets₀ next₀ i₀ offsets next i = (i ≤ items) × (length offsets ≡ length offsets₀) × ForNames names (λ ns. Filling (positionOf (item ns items)) s items (next₀ .at) i offsets (next .at))
+Inv-loop s names digests items offsets₀ marks₀ next₀ i₀ offsets marks next i = (i ≤ items) × (length offsets ≡ length offsets₀) × (length marks ≡ length marks₀) × Filling (positionOf (item (namesAt s names) items)) s items (next₀ .at) i offsets (next .at) × (folded markItem (item (namesAt s names) items) s items (next₀ .at) marks₀ ≡ folded markItem (item (namesAt s names) items) s (items - i) (next .at) marks)
 
 abbrev μ-loop : tie.MeasureT-loop
-μ-loop s names items offsets₀ next₀ i₀ offsets next i = items - i
+μ-loop s names digests items offsets₀ marks₀ next₀ i₀ offsets marks next i = items - i
 
 loop-holds : tie.Need-loop-holds Inv-loop μ-loop
-loop-holds c = (omega arith, refl, λ ns e. fill-none _ _ _ _ _)
+loop-holds c = (omega arith, refl, refl, fill-none _ _ _ _ _, fold-none markItem (item _ _) _ _ _ _)
 
 mul-offsets : tie.Need-mul-offsets Inv-loop μ-loop
-mul-offsets c = omega (arith, c .before .before .before .before .before .before .before .before .good .1 .1)
+mul-offsets c = omega (arith, c .before .before .before .before .before .before .before .before .before .before .before .before .before .before .good .1 .1)
 
 slice-write-offsets : tie.Need-slice-write-offsets Inv-loop μ-loop
 slice-write-offsets c = omega arith
 
 returns : tie.Need-returns Inv-loop μ-loop
-returns c = λ ns e. fill-stop (positionOf (item ns _)) _ _ _ (c .before .before .before .before .before .loop .inv .2 ns e) (c .before .before .before .before .loop-test .taken) (placed-fault (item ns _) (stopped (c .before .before .before .check-item .ensures ns e) (c .before .r2 .given .1)))
+returns c =
+    let h = halted (c .before .before .before .before .before .check-item .ensures) (c .before .r2 .given .1) in (
+      fill-stop (positionOf (item _ _)) _ _ _ (c .before .before .before .before .before .before .before .before .loop .inv .3) (c .before .before .before .before .before .before .before .loop-test .taken) (placed-fault (item _ _) h),
+      record { gathered = c .before .before .before .before .before .before .before .before .loop .inv .4 ∙ fold-stop markItem (item _ _) _ _ _ _ (c .before .before .before .before .before .before .before .loop-test .taken) h },
+    )
 
 add-i : tie.Need-add-i Inv-loop μ-loop
 add-i c = omega arith
@@ -37,10 +42,18 @@ loop-less : tie.Need-loop-less Inv-loop μ-loop
 loop-less c = omega arith
 
 loop-again : tie.Need-loop-again Inv-loop μ-loop
-loop-again c = (omega arith, simp length-set (omega arith), λ ns e. fill-turn (positionOf (item ns _)) _ _ _ (c .before .before .before .before .before .loop .inv .2 ns e) (c .before .before .before .before .loop-test .taken) (omega arith) (placed-got (item ns _) (stepped (c .before .before .before .check-item .ensures ns e) (c .before .r .given .1) .1)))
+loop-again c =
+    let m = moved (c .before .before .before .before .before .check-item .ensures) (c .before .r .given .1) in (
+      omega arith,
+      simp length-set (omega arith),
+      omega arith,
+      fill-turn (positionOf (item _ _)) _ _ _ (c .before .before .before .before .before .before .before .before .loop .inv .3) (c .before .before .before .before .before .before .before .loop-test .taken) (omega arith)
+          (placed-got (item _ _) (m .1)),
+      c .before .before .before .before .before .before .before .before .loop .inv .4 ∙ fold-turn markItem (item _ _) _ _ _ (c .before .before .before .before .before .before .before .loop-test .taken) (m .1) (m .2),
+    )
 
 returns-2 : tie.Need-returns-2 Inv-loop μ-loop
-returns-2 c = λ ns e. fill-done (positionOf (item ns _)) _ _ _ (c .before .loop .inv .2 ns e) (omega arith) (omega arith)
+returns-2 c = (fill-done (positionOf (item _ _)) _ _ _ (c .before .loop .inv .3) (omega arith) (omega arith), record { gathered = c .before .loop .inv .4 ∙ fold-done markItem (item _ _) _ _ _ _ _ (c .loop-test .left) })
 
 pub check-items-spec : {M : Type 1} → statement M
 check-items-spec =
@@ -56,9 +69,11 @@ check-items-spec =
     slice-write-offsets
     (λ c. search needs)
     (λ c. search needs)
+    (λ c. search needs)
     returns
     add-i
     loop-less
     loop-again
+    (λ c. search needs)
     (λ c. search needs)
     returns-2)

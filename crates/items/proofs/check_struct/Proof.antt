@@ -1,23 +1,19 @@
--- Written by tools/proofkit from answers/check_struct.tpl (bd3963b7 d855a75b).
+-- Written by tools/proofkit from answers/check_struct.tpl (61cf2e83 c4d47b59).
 use borrow.Author.Needs.{needs}
-use mathlib.Core.Path.{refl}
-use Rattle.format.specs.Decoding.{structBody}
 use Rattle.cursor.proofs.FieldLaws.{value, cut, bit-checks}
-use Rattle.cursor.proofs.CheckLaws.{stepped, stopped, tail}
+use Rattle.cursor.proofs.CheckLaws.{stepped, stopped}
+use Rattle.items.proofs.ItemLaws.{struct-cut, struct-short, struct-marks}
 use Rattle.items.proofs.check_struct.Statement.{statement}
 use Rattle.items.proofs.check_struct.Tie as tie
 
 returns : tie.Need-returns
-unfolding structBody
-returns c = rw (stopped (bit-checks _ _ (c .before .before .before .skip .ensures)) (c .before .a .given .1)) record { step = refl }
+returns c = struct-cut _ _ _ (stopped (bit-checks _ _ (c .before .before .before .skip .ensures)) (c .before .a .given .1))
 
 returns-2 : tie.Need-returns-2
-unfolding structBody
-returns-2 c = rw (stepped (bit-checks _ _ (c .before .before .before .before .before .before .skip .ensures)) (c .before .before .before .before .a2 .given .1) .1, cut _ _ _ (c .before .before .read .ensures) (c .enum-told .given .1)) record { step = refl }
+returns-2 c = struct-short _ _ _ (stepped (bit-checks _ _ (c .before .before .before .before .before .before .skip .ensures)) (c .before .before .before .before .a2 .given .1) .1) (cut _ _ _ (c .before .before .read .ensures) (c .enum-told .given .1))
 
 returns-3 : tie.Need-returns-3
-unfolding structBody
-returns-3 c = rw (stepped (bit-checks _ _ (c .before .before .before .before .before .before .before .before .skip .ensures)) (c .before .before .before .before .before .before .a2 .given .1) .1, value (c .before .before .before .before .read .ensures) (c .before .before .f .given .1)) (tail _ (c .check-types .ensures))
+returns-3 c = struct-marks _ _ _ (stepped (bit-checks _ _ (c .before .before .before .before .before .before .before .before .before .before .before .skip .ensures)) (c .before .before .before .before .before .before .before .before .before .a2 .given .1) .1) (value (c .before .before .before .before .before .before .before .read .ensures) (c .before .before .before .before .before .f .given .1)) (c .before .before .check-types .ensures)
 
 pub check-struct-spec : {M : Type 1} → statement M
 check-struct-spec =
@@ -32,4 +28,5 @@ check-struct-spec =
     (λ c κs. search needs)
     returns
     returns-2
+    (λ c. search needs)
     returns-3)
