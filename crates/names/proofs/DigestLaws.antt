@@ -1,15 +1,20 @@
--- Laws of digests, and of a table that is filled with a list of numbers.
+-- Laws of digests.
 use mathlib.Core.Path.{_≡_, refl, sym, ap, _∙_}
-use mathlib.Core.List.{List, [], _∷_, _++_}
-use Prim.Native.Nat.{ℕ, suc, _+_, _<_, _≤_}
+use mathlib.Core.List.{List, [], _∷_, map}
+use Prim.Native.Nat.{ℕ, zero, suc, _+_, _<_, _≤_}
 use native.Mathlib.Omega.{arith}
 use native.Mathlib.Numerals.{add-one}
-use lib.ListN.{length, getD, take, drop, set, drop-of-length-le}
-use lib.Seq.{drop-cons, take-suc, take-suc-set, take-all}
+use lib.ListN.{length, getD, take, drop, drop-of-length-le}
+use lib.Seq.{drop-cons}
 use Rattle.refusal.specs.declared.Refusal.{Refusal}
 use Rattle.format.specs.Decode.{Got, fault, got, Dec, after, many}
 use Rattle.format.specs.Sheet.{Name}
 use Rattle.cursor.specs.declared.Cursor.{Cursor}
+use Rattle.cursor.specs.declared.Step.{Step}
+use Rattle.cursor.specs.declared.Step.the-variants as Step
+use Rattle.cursor.specs.Checking.{Fills}
+use Rattle.cursor.proofs.TableLaws.{filled-at}
+use Rattle.cursor.proofs.YieldLaws.{in-turn, got-value, got-next}
 use Rattle.names.specs.declared.Digested.{Digested}
 use Rattle.names.specs.declared.Digested.the-variants.{At, Fault}
 use Rattle.names.specs.Digests.{mix, digestFrom, digest, digestOf, digestedOf, Digests}
@@ -23,16 +28,6 @@ module _ (w : List ℕ) (i h : ℕ) where
   pub digest-end : length w ≤ i → digestFrom h (drop i w) ≡ h
   unfolding digestFrom
   digest-end l = rw (drop-of-length-le w l)
-
--- the first i numbers of the list b are those of d
-module _ (d b : List ℕ) (i : ℕ) (same : length b ≡ length d) (so-far : take i b ≡ take i d) where
-  pub copy-turn : {x : ℕ} → i < length d → x ≡ getD d i 0 → take (i + 1) (set b i x) ≡ take (i + 1) d
-  copy-turn {x} l e =
-      let k : i < length b = omega arith in
-      rw (add-one, take-suc-set b i x k, take-suc d i 0 l, so-far, e)
-
-  pub copy-done : length d ≤ i → b ≡ d
-  copy-done l = sym (take-all i b (omega arith)) ∙ so-far ∙ take-all i d l
 
 -- ---- a walk that digests
 
@@ -56,3 +51,19 @@ module _ (d : Dec Name) {s : List ℕ} {at : ℕ} where
 
   pub digest-fault : {e : Refusal} → d s at ≡ fault e → digestOf d s at ≡ fault e
   digest-fault e = rw e
+
+pub digests-many : (d : Dec Name) (s : List ℕ) (n at : ℕ) {xs : List Name} {e : ℕ} → many n d s at ≡ got xs e →
+    many n (digestOf d) s at ≡ got (map digest xs) e
+unfolding many
+digests-many d s zero at h =
+    let z : [] ≡ _ = got-value h in
+    rw (← z, got-next h)
+digests-many d s (suc n) at h =
+    in-turn (d s at) _ h (λ x m e₁ h₁.
+    in-turn (many n d s m) _ h₁ (λ ys k e₂ h₂.
+    rw (← got-value h₂, ← got-next h₂, e₁, digests-many d s n m e₂)))
+
+-- what a filled table holds
+pub digests-filled : (d : Dec Name) (s : List ℕ) (n at : ℕ) {xs : List Name} {r : Step} {b : List ℕ} {c : Cursor} →
+    Fills (many n (digestOf d) s at) r n b → r ≡ Step.At c → many n d s at ≡ got xs (c .at) → take n b ≡ map digest xs
+digests-filled d s n at f t h = got-value (sym (filled-at f t) ∙ digests-many d s n at h)
