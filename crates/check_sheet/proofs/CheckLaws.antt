@@ -1,11 +1,10 @@
 -- The answer to a sheet, from its decoding and the rules 9 to 12 on its items.
 use mathlib.Core.Path.{_≡_, refl, sym, ap, _∙_}
-use mathlib.Core.List.{List, _++_}
+use mathlib.Core.List.{List}
 use mathlib.Core.Bool.{Bool, true, false}
 use Prim.Native.Nat.{ℕ, _≤_}
 use native.Mathlib.Nat.{le-trans}
 use lib.ListN.{length, take}
-use lib.Seq.{take-append-seam}
 use Rattle.refusal.specs.declared.Refusal.{Refusal}
 use Rattle.refusal.specs.declared.Refusal.the-variants.{WrongPart, Taken, UnfitArgument, Ring}
 use Rattle.format.specs.Limits.{mostNames, mostItems}
@@ -15,8 +14,8 @@ use Rattle.format.specs.Decoding.{decode}
 use Rattle.format.specs.declared.Outline.{Outline}
 use Rattle.decode.specs.Tables.{Tables}
 use Rattle.decode.proofs.AnswerLaws.{decoded-limited}
-use Rattle.view.specs.Values.{itemsAt, Whole}
-use Rattle.view.proofs.WholeLaws.{whole, items-are}
+use Rattle.view.specs.Values.{itemsAt, Ready}
+use Rattle.view.proofs.WholeLaws.{ready, items-are}
 use Rattle.rules.specs.declared.Checked.{Checked}
 use Rattle.rules.specs.declared.Checked.the-variants.{Accepted, Refused}
 use Rattle.rules.specs.Rules.{wrongPart, taken, unfitArgument, ring}
@@ -44,24 +43,16 @@ unfolding check Judge.judge ruled ruledItems ruledParts
 check-decoded s {x} h =
     rw h (by-rules (wrongPart (x .items)) (taken (x .items)) (unfitArgument (x .items)) (ring (x .items)) x)
 
--- a decoded sheet's items are those that its two tables give
-pub check-tables : (s : List ℕ) {o : Outline} {names items : List ℕ} {r : Checked} → Tables s (decode s) o names items →
-    mostNames ≤ length names → mostItems ≤ length items →
+-- a decoded sheet's items are those that its tables give
+pub check-tables : (s : List ℕ) {o : Outline} {names items digests : List ℕ} {r : Checked} →
+    Tables s (decode s) o names items digests → mostNames ≤ length names → mostItems ≤ length items →
     r ≡ ruledItems (itemsAt s (take (o .names) names) (take (o .items) items)) → r ≡ check s
 check-tables s {o} {names} {items} t a b e =
     e ∙ ap ruledItems (items-are t (le-trans (t .few) a) (le-trans (t .items .few) b)) ∙
     sym (check-decoded s (t .items .decoded))
 
-pub whole-tables : (s : List ℕ) {o : Outline} {names items : List ℕ} → Tables s (decode s) o names items →
-    mostNames ≤ length names → mostItems ≤ length items → Whole s (take (o .names) names) (take (o .items) items)
-whole-tables s t a b =
-    whole t (le-trans (t .few) a) (le-trans (t .items .few) b) (decoded-limited s (t .items .decoded))
-
--- ---- a list that was written over the front of another
-
-module _ {e d : List ℕ} (r : List ℕ) (n : ℕ) (a : e ≡ d) (l : length d ≡ n) where
-  pub front : take n (e ++ r) ≡ d
-  front = rw (sym l, a) (take-append-seam d r)
-
-  pub front-length : n ≡ length (take n (e ++ r))
-  front-length = rw front (sym l)
+pub ready-tables : (s : List ℕ) {o : Outline} {names items digests : List ℕ} → Tables s (decode s) o names items digests →
+    mostNames ≤ length names → mostItems ≤ length items →
+    Ready s (take (o .names) names) (take (o .items) items) (take (o .names) digests)
+ready-tables s t a b =
+    ready t (le-trans (t .few) a) (le-trans (t .items .few) b) (decoded-limited s (t .items .decoded))

@@ -8,51 +8,30 @@ use order::ring;
 use refusal::Refusal;
 use rules::Checked;
 use taken::taken;
-use view::fill_digests;
 ghost use mathlib.Core.Path.{_≡_};
 ghost use Prim.Native.Nat.{_≤_};
 ghost use lib.ListN.{length};
 ghost use Rattle.format.specs.Limits.{mostNames, mostItems};
 ghost use Rattle.format.specs.Decoding.{decode as decodeOf};
 ghost use Rattle.decode.specs.Tables.{Tables, Answers};
-ghost use Rattle.rules.specs.Rules.{taken as takenOf};
 ghost use Rattle.rules.specs.Judge.{check as checkOf};
-ghost use Rattle.view.specs.Values.{itemsAt, Whole};
+ghost use Rattle.view.specs.Values.{itemsAt, Whole, Ready};
 ghost use Rattle.check_sheet.specs.Ruled.{ruledParts, ruledRing, ruledItems};
 
-// Rule 10, with room for the digests that it needs.
-fn taken_in(s: &[u8], names: &[u32], items: &[u32], digests: &mut [u32]) -> bool
-    requires { ⌜ Whole (now s) (now names) (now items) × (mostNames ≤ length (now digests)) ⌝ }
-    ensures { λ r. ⌜ r ≡ takenOf (itemsAt (now (s .entry)) (now (names .entry)) (now (items .entry))) ⌝ }
-{
-    let n = names.len();
-    fill_digests(s, names, &mut digests[..n]);
-    taken(s, names, items, &digests[..n])
-}
-
-// Rule 10.
-fn is_taken(s: &[u8], names: &[u32], items: &[u32]) -> bool
-    requires { ⌜ Whole (now s) (now names) (now items) ⌝ }
-    ensures { λ r. ⌜ r ≡ takenOf (itemsAt (now (s .entry)) (now (names .entry)) (now (items .entry))) ⌝ }
-{
-    let mut digests = [0u32; Outline::NAMES];
-    taken_in(s, names, items, &mut digests)
-}
-
 // Rules 9 to 11, the lowest number first.
-pub fn judge_parts(s: &[u8], names: &[u32], items: &[u32]) -> Checked
-    requires { ⌜ Whole (now s) (now names) (now items) ⌝ }
+pub fn judge_parts(s: &[u8], names: &[u32], items: &[u32], digests: &[u32]) -> Checked
+    requires { ⌜ Ready (now s) (now names) (now items) (now digests) ⌝ }
     ensures { λ r. ⌜ r ≡ ruledParts (itemsAt (now (s .entry)) (now (names .entry)) (now (items .entry))) ⌝ }
 {
     let wrong = wrong_part(s, names, items);
     if wrong {
         return Checked::Refused(Refusal::WrongPart);
     }
-    let repeated = is_taken(s, names, items);
+    let repeated = taken(s, names, items, digests);
     if repeated {
         return Checked::Refused(Refusal::Taken);
     }
-    let unfit = unfit_argument(s, names, items);
+    let unfit = unfit_argument(s, names, items, digests);
     if unfit {
         return Checked::Refused(Refusal::UnfitArgument);
     }
@@ -72,26 +51,26 @@ fn judge_ring(s: &[u8], names: &[u32], items: &[u32]) -> Checked
 }
 
 // Rules 9 to 12, the lowest number first.
-pub fn judge(s: &[u8], names: &[u32], items: &[u32]) -> Checked
-    requires { ⌜ Whole (now s) (now names) (now items) ⌝ }
+pub fn judge(s: &[u8], names: &[u32], items: &[u32], digests: &[u32]) -> Checked
+    requires { ⌜ Ready (now s) (now names) (now items) (now digests) ⌝ }
     ensures { λ r. ⌜ r ≡ ruledItems (itemsAt (now (s .entry)) (now (names .entry)) (now (items .entry))) ⌝ }
 {
-    let parts = judge_parts(s, names, items);
+    let parts = judge_parts(s, names, items, digests);
     match parts {
         Checked::Refused(e) => Checked::Refused(e),
         Checked::Accepted => judge_ring(s, names, items),
     }
 }
 
-// A decoded sheet, with the two tables that its decoding filled.
-fn check_decoded(sheet: &[u8], names: &[u32], items: &[u32], o: Outline) -> Checked
-    requires { ⌜ Tables (now sheet) (decodeOf (now sheet)) o (now names) (now items) ×
-        (mostNames ≤ length (now names)) × (mostItems ≤ length (now items)) ⌝ }
+// A decoded sheet, with the three tables that its decoding filled.
+fn check_decoded(sheet: &[u8], names: &[u32], items: &[u32], digests: &[u32], o: Outline) -> Checked
+    requires { ⌜ Tables (now sheet) (decodeOf (now sheet)) o (now names) (now items) (now digests) ×
+        (mostNames ≤ length (now names)) × (mostItems ≤ length (now items)) × (mostNames ≤ length (now digests)) ⌝ }
     ensures { λ r. ⌜ r ≡ checkOf (now (sheet .entry)) ⌝ }
 {
     let n = o.names as usize;
     let k = o.items as usize;
-    judge(sheet, &names[..n], &items[..k])
+    judge(sheet, &names[..n], &items[..k], &digests[..n])
 }
 
 // The answer to a sheet, from that of its decoding.
@@ -99,14 +78,15 @@ fn answer(
     sheet: &[u8],
     names: &[u32; Outline::NAMES],
     items: &[u32; Outline::ITEMS],
+    digests: &[u32; Outline::NAMES],
     d: Decoded,
 ) -> Checked
-    requires { ⌜ Answers (now sheet) (decodeOf (now sheet)) d (now names) (now items) ⌝ }
+    requires { ⌜ Answers (now sheet) (decodeOf (now sheet)) d (now names) (now items) (now digests) ⌝ }
     ensures { λ r. ⌜ r ≡ checkOf (now (sheet .entry)) ⌝ }
 {
     match d {
         Decoded::Refused(e) => Checked::Refused(e),
-        Decoded::Whole(o) => check_decoded(sheet, names, items, o),
+        Decoded::Whole(o) => check_decoded(sheet, names, items, digests, o),
     }
 }
 
@@ -116,6 +96,7 @@ pub fn check(sheet: &[u8]) -> Checked
 {
     let mut names = [0u32; Outline::NAMES];
     let mut items = [0u32; Outline::ITEMS];
-    let d = decode(sheet, &mut names, &mut items);
-    answer(sheet, &names, &items, d)
+    let mut digests = [0u32; Outline::NAMES];
+    let d = decode(sheet, &mut names, &mut items, &mut digests);
+    answer(sheet, &names, &items, &digests, d)
 }

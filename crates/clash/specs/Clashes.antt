@@ -9,13 +9,8 @@ use Rattle.format.specs.Decode.{pick}
 use Rattle.format.specs.Sheet.{Name, Form, Item}
 use Rattle.syntax.specs.Items.{itemAt, fullName, selfType, isFunction}
 use Rattle.syntax.specs.Mangle.{externFn}
-use Rattle.view.specs.Values.{itemNo, functionIn, Whole}
-use Rattle.names.specs.Digests.{digest, digestsAt}
-
--- a decoded sheet, with the digests of its names
-pub record Ready (s names items digests : List ℕ) : Type 0 where
-  pub whole : Whole s names items
-  pub digested : digests ≡ digestsAt s names
+use Rattle.view.specs.Values.{itemNo, functionIn}
+use Rattle.names.specs.Digests.{digest}
 
 -- two lists of names are equal, name by name
 unfoldable pub sameNames : List Name → List Name → Bool

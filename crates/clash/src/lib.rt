@@ -15,9 +15,9 @@ ghost use lib.ListN.{length, getD, drop};
 ghost use Rattle.lexical.specs.Bytes.{same};
 ghost use Rattle.syntax.specs.Items.{fullName};
 ghost use Rattle.rules.specs.Rules.{any, twice, gather, typeName, symbol};
-ghost use Rattle.view.specs.Values.{nameAt, itemsAt, functionAt, Whole, itemNo};
+ghost use Rattle.view.specs.Values.{nameAt, itemsAt, functionAt, Whole, itemNo, Ready};
 ghost use Rattle.view.specs.Views.{isFunctionKind, ItemAt, FunctionAt};
-ghost use Rattle.clash.specs.Clashes.{Ready, sameNames, ownerNames, itemSymbol, clashes, ownName, Keyed};
+ghost use Rattle.clash.specs.Clashes.{sameNames, ownerNames, itemSymbol, clashes, ownName, Keyed};
 
 // ---- two items
 

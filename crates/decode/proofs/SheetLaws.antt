@@ -21,6 +21,8 @@ use Rattle.cursor.specs.Checking.{Checks, positionOf, Fills}
 use Rattle.cursor.proofs.FieldLaws.{field-lt}
 use Rattle.cursor.proofs.CheckLaws.{stepped, stopped}
 use Rattle.cursor.proofs.TableLaws.{fills-checks, placed-checks, Located, located}
+use Rattle.names.specs.Digests.{digestOf}
+use Rattle.names.proofs.DigestLaws.{digests-filled}
 use Rattle.items.specs.Parts.{ForNames}
 use Rattle.decode.specs.declared.Decoded.{Decoded}
 use Rattle.decode.specs.declared.Decoded.the-variants.{Whole, Refused}
@@ -110,25 +112,26 @@ behind-is : (s : List ℕ) (h d : Bool) (at : ℕ) {n m k : ℕ} {ns : List Name
 unfolding behindBits nameTable
 behind-is s h d at q e = rw (q, e)
 
-module _ (s : List ℕ) (h d : Bool) (at : ℕ) {b i : List ℕ} where
-  pub tables-cut : bits 10 s at ≡ fault CutSheet → Answers s (behindBits h d s at) (Refused CutSheet) b i
+module _ (s : List ℕ) (h d : Bool) (at : ℕ) {b i g : List ℕ} where
+  pub tables-cut : bits 10 s at ≡ fault CutSheet → Answers s (behindBits h d s at) (Refused CutSheet) b i g
   unfolding behindBits nameTable
   tables-cut e = record { says = rw e }
 
-  module _ {n m : ℕ} (q : bits 10 s at ≡ got n m) {r : Step} (f : Fills (many n (positionOf name) s m) r n b) where
-    pub tables-fault : {e : Refusal} → r ≡ Fault e → Answers s (behindBits h d s at) (Refused e) b i
+  module _ {n m : ℕ} (q : bits 10 s at ≡ got n m) {r : Step}
+      (f : Fills (many n (positionOf name) s m) r n b × Fills (many n (digestOf name) s m) r n g) where
+    pub tables-fault : {e : Refusal} → r ≡ Fault e → Answers s (behindBits h d s at) (Refused e) b i g
     unfolding behindBits nameTable
-    tables-fault t = record { says = rw (q, stopped (placed-checks name n s m (fills-checks f)) t) }
+    tables-fault t = record { says = rw (q, stopped (placed-checks name n s m (fills-checks (f .0))) t) }
 
     pub tables-rest : {c : Cursor} {u : Decoded} → r ≡ At c →
         ForNames n (λ ns. AnswersItems s ns (behindNames h d ns s (c .at)) u i) →
-        Answers s (behindBits h d s at) u b i
-    tables-rest {c} {u} t g =
-        let l = located name s n m f t in
-        by-answer u l (g (l .values) (l .table .count))
+        Answers s (behindBits h d s at) u b i g
+    tables-rest {c} {u} t a =
+        let l = located name s n m (f .0) t in
+        by-answer u l (a (l .values) (l .table .count))
       where
         by-answer : (u : Decoded) (l : Located name s n m b (c .at)) →
-            AnswersItems s (l .values) (behindNames h d (l .values) s (c .at)) u i → Answers s (behindBits h d s at) u b i
+            AnswersItems s (l .values) (behindNames h d (l .values) s (c .at)) u i → Answers s (behindBits h d s at) u b i g
         by-answer (Refused e) l a = record { says = behind-is s h d at q (l .decoded) ∙ a .says }
         by-answer (Whole o) l a =
             let z : n ≡ o .names = sym (l .table .count) ∙ sym (a .says .named) in
@@ -137,6 +140,7 @@ module _ (s : List ℕ) (h d : Bool) (at : ℕ) {b i : List ℕ} where
                 names = l .values;
                 few = omega (arith, field-lt 10 s at q);
                 table = rw z at (l .table);
+                digested = rw z at (digests-filled name s n m (f .1) t (l .decoded));
                 items = rw (behind-is s h d at q (l .decoded)) (a .says);
               };
             }

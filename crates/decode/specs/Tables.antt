@@ -1,15 +1,16 @@
--- What is promised of a decoded sheet: its value, and where its names and its items stand.
+-- What is promised of a decoded sheet: its value, where its names and its items stand, and the digests of its names.
 use mathlib.Core.Path.{_≡_}
-use mathlib.Core.List.{List}
+use mathlib.Core.List.{List, map}
 use mathlib.Core.Bool.{Bool}
 use Prim.Native.Nat.{ℕ, _≤_}
-use lib.ListN.{length}
+use lib.ListN.{length, take}
 use Rattle.format.specs.declared.Outline.{Outline}
 use Rattle.format.specs.Limits.{mostNames, mostItems}
 use Rattle.format.specs.Decode.{Got, fault, got, Dec, _>>_}
 use Rattle.format.specs.Sheet.{Name, Sheet}
 use Rattle.format.specs.Decoding.{name, item, nameTable, itemTable, tail}
 use Rattle.cursor.specs.Checking.{Table}
+use Rattle.names.specs.Digests.{digest}
 use Rattle.decode.specs.declared.Decoded.{Decoded}
 use Rattle.decode.specs.declared.Decoded.the-variants.{Whole, Refused}
 
@@ -32,11 +33,12 @@ pub record Items (s : List ℕ) (names : List Name) (p : Got Sheet) (o : Outline
   pub few : o .items ≤ mostItems
   pub table : Table (item names (o .items)) s (o .items) offsets (sheet .items)
 
--- and nameOffsets tells where each of the names stands
-pub record Tables (s : List ℕ) (p : Got Sheet) (o : Outline) (nameOffsets itemOffsets : List ℕ) : Type 0 where
+-- and nameOffsets tells where each of the names stands, and digests begins with their digests
+pub record Tables (s : List ℕ) (p : Got Sheet) (o : Outline) (nameOffsets itemOffsets digests : List ℕ) : Type 0 where
   pub names : List Name
   pub few : o .names ≤ mostNames
   pub table : Table name s (o .names) nameOffsets names
+  pub digested : take (o .names) digests ≡ map digest names
   pub items : Items s names p o itemOffsets
 
 -- what an answer says of the decoder's p, where a decoded sheet is to be as P says
@@ -48,6 +50,6 @@ saysOf P p (Refused e) = p ≡ fault e
 pub record AnswersItems (s : List ℕ) (names : List Name) (p : Got Sheet) (r : Decoded) (offsets : List ℕ) : Type 0 where
   pub says : saysOf (λ o. Items s names p o offsets) p r
 
--- the answer to a sheet: its refusal, or where the names and the items of the decoded sheet stand
-pub record Answers (s : List ℕ) (p : Got Sheet) (r : Decoded) (nameOffsets itemOffsets : List ℕ) : Type 0 where
-  pub says : saysOf (λ o. Tables s p o nameOffsets itemOffsets) p r
+-- the answer to a sheet: its refusal, or the three tables of the decoded sheet
+pub record Answers (s : List ℕ) (p : Got Sheet) (r : Decoded) (nameOffsets itemOffsets digests : List ℕ) : Type 0 where
+  pub says : saysOf (λ o. Tables s p o nameOffsets itemOffsets digests) p r

@@ -1,4 +1,5 @@
-// A sheet, checked for the refusals 1 to 8, with tables of where its names and its items stand.
+// A sheet, checked for the refusals 1 to 8, with tables of where its names and its items stand, and of the digests of
+// its names.
 use cursor::Cursor;
 use cursor::Field;
 use cursor::Step;
@@ -90,16 +91,18 @@ fn decode_tables(
     doxygen: bool,
     names: &mut [u32],
     items: &mut [u32],
+    digests: &mut [u32],
 ) -> Decoded
-    requires { ⌜ Limited (now s) × (mostNames ≤ length (now names)) × (mostItems ≤ length (now items)) ⌝ }
+    requires { ⌜ Limited (now s) × (mostNames ≤ length (now names)) × (mostItems ≤ length (now items)) ×
+        (mostNames ≤ length (now digests)) ⌝ }
     ensures { λ r. ⌜ Answers (now (s .entry)) (behindBits header doxygen (now (s .entry)) (c .at)) r
-        (now (names .exit)) (now (items .exit)) ⌝ }
+        (now (names .exit)) (now (items .exit)) (now (digests .exit)) ⌝ }
 {
     let f = read(s, c, 10);
     match f {
         Field::Cut => Decoded::Refused(Refusal::CutSheet),
         Field::Value(n, first) => {
-            let a = check_names(s, first, n, names);
+            let a = check_names(s, first, n, names, digests);
             match a {
                 Step::Fault(e) => Decoded::Refused(e),
                 Step::At(c1) => decode_items(s, c1, header, doxygen, n, items),
@@ -109,10 +112,17 @@ fn decode_tables(
 }
 
 // The sheet at c.
-fn decode_fields(s: &[u8], c: Cursor, names: &mut [u32], items: &mut [u32]) -> Decoded
-    requires { ⌜ Limited (now s) × (mostNames ≤ length (now names)) × (mostItems ≤ length (now items)) ⌝ }
+fn decode_fields(
+    s: &[u8],
+    c: Cursor,
+    names: &mut [u32],
+    items: &mut [u32],
+    digests: &mut [u32],
+) -> Decoded
+    requires { ⌜ Limited (now s) × (mostNames ≤ length (now names)) × (mostItems ≤ length (now items)) ×
+        (mostNames ≤ length (now digests)) ⌝ }
     ensures { λ r. ⌜ Answers (now (s .entry)) (sheetOf (now (s .entry)) (c .at)) r
-        (now (names .exit)) (now (items .exit)) ⌝ }
+        (now (names .exit)) (now (items .exit)) (now (digests .exit)) ⌝ }
 {
     let f = read(s, c, 4);
     match f {
@@ -128,7 +138,15 @@ fn decode_fields(s: &[u8], c: Cursor, names: &mut [u32], items: &mut [u32]) -> D
                     let k = read(s, c2, 1);
                     match k {
                         Field::Cut => Decoded::Refused(Refusal::CutSheet),
-                        Field::Value(d, c3) => decode_tables(s, c3, h == 1, d == 1, names, items),
+                        Field::Value(d, c3) => decode_tables(
+                            s,
+                            c3,
+                            h == 1,
+                            d == 1,
+                            names,
+                            items,
+                            digests,
+                        ),
                     }
                 }
             }
@@ -136,17 +154,18 @@ fn decode_fields(s: &[u8], c: Cursor, names: &mut [u32], items: &mut [u32]) -> D
     }
 }
 
-// A sheet: the first refusal of 1 to 8, or both tables filled.
+// A sheet: the first refusal of 1 to 8, or the three tables filled.
 pub fn decode(
     sheet: &[u8],
     names: &mut [u32; Outline::NAMES],
     items: &mut [u32; Outline::ITEMS],
+    digests: &mut [u32; Outline::NAMES],
 ) -> Decoded
     ensures { λ r. ⌜ Answers (now (sheet .entry)) (decodeOf (now (sheet .entry))) r
-        (now (names .exit)) (now (items .exit)) ⌝ }
+        (now (names .exit)) (now (items .exit)) (now (digests .exit)) ⌝ }
 {
     if Cursor::SHEET < sheet.len() {
         return Decoded::Refused(Refusal::CutSheet);
     }
-    decode_fields(sheet, Cursor::new(0), names, items)
+    decode_fields(sheet, Cursor::new(0), names, items, digests)
 }

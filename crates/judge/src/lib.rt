@@ -32,7 +32,9 @@ ghost use Rattle.syntax.specs.Items.{itemAt, selfType};
 ghost use Rattle.syntax.specs.Types.{needsIndirectAbi, isRustString};
 ghost use Rattle.rules.specs.Rules.{any, anyNamed, anyNamedRet, anyIndex, wrongPart, functionOf};
 ghost use Rattle.rules.specs.Rules.{isCxxVectorTemplate, unfit, unfitArgument};
+ghost use Rattle.names.specs.Digests.{digestsAt};
 ghost use Rattle.view.specs.Values.{Yields, nameAt, namesAt, itemsAt, functionAt, argumentAt, typeHere, Named, Whole};
+ghost use Rattle.view.specs.Values.{Ready};
 ghost use Rattle.view.specs.Views.{FunctionAt, ArgumentsAt};
 ghost use Rattle.judge.specs.Seeing.{isFunctionAt, Sees};
 ghost use Rattle.judge.specs.Kinds.{isMethodForm, isVectorKind};
@@ -353,21 +355,30 @@ fn is_method_form(form: u32) -> bool
 }
 
 // Whether the name of a method's argument is `self`.
-fn self_name(s: &[u8], names: &[u32], form: u32, name: u32) -> bool
-    requires { ⌜ Named (now s) (now names) × (name < length (now names)) ⌝ }
+fn self_name(s: &[u8], names: &[u32], digests: &[u32], form: u32, name: u32) -> bool
+    requires { ⌜ Named (now s) (now names) × (now digests ≡ digestsAt (now s) (now names)) ×
+        (name < length (now names)) ⌝ }
     ensures { λ r. ⌜ r ≡ (isMethodForm form &&
         same (nameAt (now (s .entry)) (getD (now (names .entry)) name 0)) (bytes "self")) ⌝ }
 {
     let method = is_method_form(form);
     if method {
-        return name_is(s, names, name, b"self");
+        return name_is(s, names, digests, name, b"self");
     }
     false
 }
 
 // Whether an argument `error` takes the place of the one that a throwing function has.
-fn error_name(s: &[u8], names: &[u32], items: &[u32], throws: bool, name: u32, c: Cursor) -> bool
-    requires { ⌜ Whole (now s) (now names) (now items) × (name < length (now names)) ×
+fn error_name(
+    s: &[u8],
+    names: &[u32],
+    items: &[u32],
+    digests: &[u32],
+    throws: bool,
+    name: u32,
+    c: Cursor,
+) -> bool
+    requires { ⌜ Ready (now s) (now names) (now items) (now digests) × (name < length (now names)) ×
         Yields (type (length (now items)) (now s) (c .at)) (typeHere (length (now items)) (now s) (c .at)) ⌝ }
     ensures { λ r. ⌜ r ≡ (throws && same (nameAt (now (s .entry)) (getD (now (names .entry)) name 0)) (bytes "error") &&
         needsIndirectAbi (itemsAt (now (s .entry)) (now (names .entry)) (now (items .entry)))
@@ -377,7 +388,7 @@ fn error_name(s: &[u8], names: &[u32], items: &[u32], throws: bool, name: u32, c
     if !throws {
         return false;
     }
-    let error = name_is(s, names, name, b"error");
+    let error = name_is(s, names, digests, name, b"error");
     if !error {
         return false;
     }
@@ -394,11 +405,12 @@ fn unfit_at(
     s: &[u8],
     names: &[u32],
     items: &[u32],
+    digests: &[u32],
     f: FunctionView,
     offsets: &[u32],
     j: u32,
 ) -> bool
-    requires { ⌜ Whole (now s) (now names) (now items) × FunctionAt (now s) (now names) (now items) f ×
+    requires { ⌜ Ready (now s) (now names) (now items) (now digests) × FunctionAt (now s) (now names) (now items) f ×
         ArgumentsAt (now s) (now names) (now items) f (now offsets) × (j < f .arguments) ×
         (f .arguments ≤ length (now offsets)) ⌝ }
     ensures { λ r. ⌜ r ≡ unfit (itemsAt (now (s .entry)) (now (names .entry)) (now (items .entry)))
@@ -411,16 +423,23 @@ fn unfit_at(
     if vector {
         return true;
     }
-    let own = self_name(s, names, f.form, a.name);
+    let own = self_name(s, names, digests, f.form, a.name);
     if own {
         return true;
     }
-    error_name(s, names, items, f.throws, a.name, a.of)
+    error_name(s, names, items, digests, f.throws, a.name, a.of)
 }
 
 // Whether an argument of a function is unfit, with their positions.
-fn any_unfit(s: &[u8], names: &[u32], items: &[u32], f: FunctionView, offsets: &[u32]) -> bool
-    requires { ⌜ Whole (now s) (now names) (now items) × FunctionAt (now s) (now names) (now items) f ×
+fn any_unfit(
+    s: &[u8],
+    names: &[u32],
+    items: &[u32],
+    digests: &[u32],
+    f: FunctionView,
+    offsets: &[u32],
+) -> bool
+    requires { ⌜ Ready (now s) (now names) (now items) (now digests) × FunctionAt (now s) (now names) (now items) f ×
         ArgumentsAt (now s) (now names) (now items) f (now offsets) × (f .arguments ≤ length (now offsets)) ⌝ }
     ensures { λ r. ⌜ r ≡ any (unfit (itemsAt (now (s .entry)) (now (names .entry)) (now (items .entry)))
         (functionAt (now (s .entry)) (now (names .entry)) (now (items .entry)) (f .number)))
@@ -429,7 +448,7 @@ fn any_unfit(s: &[u8], names: &[u32], items: &[u32], f: FunctionView, offsets: &
     let n = f.arguments;
     let mut j: u32 = 0;
     while j < n {
-        let bad = unfit_at(s, names, items, f, offsets, j);
+        let bad = unfit_at(s, names, items, digests, f, offsets, j);
         if bad {
             return true;
         }
@@ -439,20 +458,20 @@ fn any_unfit(s: &[u8], names: &[u32], items: &[u32], f: FunctionView, offsets: &
 }
 
 // Whether an argument of a function is unfit.
-fn unfit_function(s: &[u8], names: &[u32], items: &[u32], f: FunctionView) -> bool
-    requires { ⌜ Whole (now s) (now names) (now items) × FunctionAt (now s) (now names) (now items) f ⌝ }
+fn unfit_function(s: &[u8], names: &[u32], items: &[u32], digests: &[u32], f: FunctionView) -> bool
+    requires { ⌜ Ready (now s) (now names) (now items) (now digests) × FunctionAt (now s) (now names) (now items) f ⌝ }
     ensures { λ r. ⌜ r ≡ any (unfit (itemsAt (now (s .entry)) (now (names .entry)) (now (items .entry)))
         (functionAt (now (s .entry)) (now (names .entry)) (now (items .entry)) (f .number)))
         (functionAt (now (s .entry)) (now (names .entry)) (now (items .entry)) (f .number) .arguments) ⌝ }
 {
     let mut offsets = [0u32; FunctionView::ARGUMENTS];
     fill_arguments(s, names, items, f, &mut offsets);
-    any_unfit(s, names, items, f, &offsets)
+    any_unfit(s, names, items, digests, f, &offsets)
 }
 
 // Whether item i is a function with an unfit argument.
-fn unfit_item(s: &[u8], names: &[u32], items: &[u32], i: u32) -> bool
-    requires { ⌜ Whole (now s) (now names) (now items) × (i < length (now items)) ⌝ }
+fn unfit_item(s: &[u8], names: &[u32], items: &[u32], digests: &[u32], i: u32) -> bool
+    requires { ⌜ Ready (now s) (now names) (now items) (now digests) × (i < length (now items)) ⌝ }
     ensures { λ r. ⌜ r ≡ any
         (λ f. any (unfit (itemsAt (now (s .entry)) (now (names .entry)) (now (items .entry))) f) (f .arguments))
         (functionOf (itemAt (itemsAt (now (s .entry)) (now (names .entry)) (now (items .entry))) i .body)) ⌝ }
@@ -464,18 +483,18 @@ fn unfit_item(s: &[u8], names: &[u32], items: &[u32], i: u32) -> bool
         return false;
     }
     let f = function(s, names, items, v);
-    unfit_function(s, names, items, f)
+    unfit_function(s, names, items, digests, f)
 }
 
 // Rule 11.
-pub fn unfit_argument(s: &[u8], names: &[u32], items: &[u32]) -> bool
-    requires { ⌜ Whole (now s) (now names) (now items) ⌝ }
+pub fn unfit_argument(s: &[u8], names: &[u32], items: &[u32], digests: &[u32]) -> bool
+    requires { ⌜ Ready (now s) (now names) (now items) (now digests) ⌝ }
     ensures { λ r. ⌜ r ≡ unfitArgument (itemsAt (now (s .entry)) (now (names .entry)) (now (items .entry))) ⌝ }
 {
     let n = items.len() as u32;
     let mut i: u32 = 0;
     while i < n {
-        let bad = unfit_item(s, names, items, i);
+        let bad = unfit_item(s, names, items, digests, i);
         if bad {
             return true;
         }

@@ -1,6 +1,6 @@
 -- Laws of names by their indexes.
 use mathlib.Core.Path.{_≡_, refl, sym, ap, _∙_}
-use mathlib.Core.List.{List, [], _∷_, map}
+use mathlib.Core.List.{List, [], _∷_, map, map-map}
 use mathlib.Core.Bool.{Bool, true, false}
 use Prim.Native.Nat.{ℕ, zero, suc, _+_, _*_, _<_, _≤_}
 use native.Mathlib.Omega.{arith}
@@ -49,6 +49,10 @@ module _ (s names : List ℕ) where
   pub digest-there : (i : ℕ) → i < length names → getD (digestsAt s names) i 0 ≡ digest (nameAt s (getD names i 0))
   unfolding digestsAt
   digest-there i h = map-at (λ at. digest (nameAt s at)) names i 0 h
+
+  pub digests-names : map digest (namesAt s names) ≡ digestsAt s names
+  unfolding namesAt digestsAt
+  digests-names = map-map digest (nameAt s) names
 
   pub digests-length : length (digestsAt s names) ≡ length names
   unfolding digestsAt

@@ -14,12 +14,12 @@ ghost use Rattle.lexical.specs.Names.{letter, nameStart, nameChar, reserved, is
 ghost use Rattle.format.specs.Limits.{longestName};
 ghost use Rattle.format.specs.Decode.{many};
 ghost use Rattle.format.specs.Decoding.{name};
-ghost use Rattle.cursor.specs.Checking.{Limited, Checks, positionOf, Fills};
+ghost use Rattle.cursor.specs.Checking.{Limited, positionOf, Fills};
 ghost use Rattle.cursor.specs.Yielding.{Yields};
 ghost use Rattle.names.specs.Words.{wordsOf, total};
 ghost use Rattle.names.specs.Fetching.{Fetched};
 ghost use Rattle.names.specs.Naming.{nameAt, Named};
-ghost use Rattle.names.specs.Digests.{mix as mixOf, digest as digestChars, digestsAt};
+ghost use Rattle.names.specs.Digests.{mix as mixOf, digest as digestChars, digestsAt, digestOf, Digests};
 
 mod keywords;
 
@@ -166,43 +166,52 @@ pub fn digest(w: &[u8]) -> u32
 
 // ---- a walk over the names
 
+// A name's digest and the position behind it, or the refusal.
+pub enum Digested {
+    At(u32, Cursor),
+    Fault(Refusal),
+}
+
 // Past the name at c.
-fn check_name(s: &[u8], c: Cursor) -> Step
+fn check_name(s: &[u8], c: Cursor) -> Digested
     requires { ⌜ Limited (now s) ⌝ }
-    ensures { λ r. ⌜ Checks (name (now (s .entry)) (c .at)) r ⌝ }
+    ensures { λ r. ⌜ Digests (name (now (s .entry)) (c .at)) r ⌝ }
 {
     let mut buf = [0u8; Name::LONGEST];
     let f = read_text(s, c, 6, &mut buf);
     match f {
-        Field::Cut => Step::Fault(Refusal::CutSheet),
+        Field::Cut => Digested::Fault(Refusal::CutSheet),
         Field::Value(n, next) => {
             let k = n as usize;
             let good = is_name(&buf[..k]);
             if good {
-                return Step::At(next);
+                let h = digest(&buf[..k]);
+                return Digested::At(h, next);
             }
-            Step::Fault(Refusal::BadName)
+            Digested::Fault(Refusal::BadName)
         }
     }
 }
 
-// Past n names, with the position of each in offsets.
-pub fn check_names(s: &[u8], c: Cursor, n: u32, offsets: &mut [u32]) -> Step
-    requires { ⌜ Limited (now s) × (n ≤ length (now offsets)) ⌝ }
-    ensures { λ r. ⌜ Fills (many n (positionOf name) (now (s .entry)) (c .at)) r n (now (offsets .exit)) ⌝ }
+// Past n names, with the position of each in offsets and its digest in digests.
+pub fn check_names(s: &[u8], c: Cursor, n: u32, offsets: &mut [u32], digests: &mut [u32]) -> Step
+    requires { ⌜ Limited (now s) × (n ≤ length (now offsets)) × (n ≤ length (now digests)) ⌝ }
+    ensures { λ r. ⌜ Fills (many n (positionOf name) (now (s .entry)) (c .at)) r n (now (offsets .exit)) ×
+        Fills (many n (digestOf name) (now (s .entry)) (c .at)) r n (now (digests .exit)) ⌝ }
 {
     let mut next = c;
     let mut i: u32 = 0;
     while i < n {
         let r = check_name(s, next);
         match r {
-            Step::At(p) => {
+            Digested::At(h, p) => {
                 let k = i as usize;
                 let here = next.at;
                 offsets[k] = here;
+                digests[k] = h;
                 next = p;
             }
-            Step::Fault(e) => {
+            Digested::Fault(e) => {
                 return Step::Fault(e);
             }
         }

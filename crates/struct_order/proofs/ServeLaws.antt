@@ -23,7 +23,7 @@ use Rattle.rules.specs.declared.Checked.the-variants as Checked
 use Rattle.rules.specs.Rules.{wrongPart, taken, unfitArgument, ring}
 use Rattle.rules.specs.Judge.{Judged, refused, accepted, ruled, judged, judge}
 use Rattle.check_sheet.specs.Ruled.{ruledParts}
-use Rattle.check_sheet.proofs.CheckLaws.{whole-tables}
+use Rattle.check_sheet.proofs.CheckLaws.{ready-tables}
 use Rattle.services.specs.declared.Written.{Written}
 use Rattle.services.specs.declared.Written.the-variants as Written
 use Rattle.services.specs.Services.{structOrder, fitted, answerOf, bufferOf, Serves, Orders}
@@ -31,10 +31,11 @@ use Rattle.struct_order.specs.Lists.{orderOf, Lists, Decodes}
 
 -- ---- a sheet that was decoded, with its tables cut to their lengths
 
-pub decodes : (s : List ℕ) {o : Outline} {names items : List ℕ} → Tables s (decode s) o names items →
-    mostNames ≤ length names → mostItems ≤ length items → Decodes s (take (o .names) names) (take (o .items) items)
+pub decodes : (s : List ℕ) {o : Outline} {names items digests : List ℕ} → Tables s (decode s) o names items digests →
+    mostNames ≤ length names → mostItems ≤ length items →
+    Decodes s (take (o .names) names) (take (o .items) items) (take (o .names) digests)
 decodes s t a b = record {
-  whole = whole-tables s t a b;
+  ready = ready-tables s t a b;
   sheet = t .items .sheet;
   end = t .items .end;
   decoded = t .items .decoded;
@@ -57,7 +58,7 @@ abbrev elseJudged : Checked → Judged → Judged
 elseJudged (Checked.Refused e) next = refused e
 elseJudged Checked.Accepted next = next
 
-module _ (s : List ℕ) {names items : List ℕ} (d : Decodes s names items) where
+module _ (s : List ℕ) {names items digests : List ℕ} (d : Decodes s names items digests) where
   abbrev byRing : Judged
   byRing = pick (ring (d .sheet .items)) (refused Ring) (accepted (d .sheet))
 

@@ -7,7 +7,7 @@ use Rattle.refusal.specs.declared.Refusal.the-variants.{Ring}
 use Rattle.format.specs.Decode.{got, pick}
 use Rattle.format.specs.Sheet.{Item, Sheet}
 use Rattle.format.specs.Decoding.{decode}
-use Rattle.view.specs.Values.{itemsAt, Whole}
+use Rattle.view.specs.Values.{itemsAt, Ready}
 use Rattle.toposort.specs.Sort.{order}
 use Rattle.rules.specs.Rules.{heldStructs, structs, ring}
 use Rattle.services.specs.declared.Written.{Written}
@@ -23,9 +23,9 @@ pub record Lists (items : List Item) (buffer : List ℕ) (answer : Written) (aft
   pub answers : answer ≡ pick (ring items) (Written.Refused Ring) (fitted (orderOf items) (length buffer))
   pub leaves : after ≡ pick (ring items) buffer (overlaid (orderOf items) buffer)
 
--- the sheet s is decoded, and its items are those that the two tables of positions give
-pub record Decodes (s names items : List ℕ) : Type 0 where
-  pub whole : Whole s names items
+-- the sheet s is decoded, and its items are those that the tables give
+pub record Decodes (s names items digests : List ℕ) : Type 0 where
+  pub ready : Ready s names items digests
   pub sheet : Sheet
   pub end : ℕ
   pub decoded : decode s ≡ got sheet end

@@ -39,26 +39,33 @@ pub fn list_order(s: &[u8], names: &[u32], items: &[u32], buf: &mut [u8]) -> Wri
 }
 
 // A decoded sheet: rules 9 to 11, then the list.
-fn order_ruled(s: &[u8], names: &[u32], items: &[u32], buf: &mut [u8]) -> Written
-    requires { ⌜ Decodes (now s) (now names) (now items) ⌝ }
+fn order_ruled(s: &[u8], names: &[u32], items: &[u32], digests: &[u32], buf: &mut [u8]) -> Written
+    requires { ⌜ Decodes (now s) (now names) (now items) (now digests) ⌝ }
     ensures { λ r. ⌜ Orders (now (s .entry)) (now (buf .entry)) r (now (buf .exit)) ⌝ }
 {
-    let parts = judge_parts(s, names, items);
+    let parts = judge_parts(s, names, items, digests);
     match parts {
         Checked::Refused(e) => Written::Refused(e),
         Checked::Accepted => list_order(s, names, items, buf),
     }
 }
 
-// A decoded sheet, with the two tables that its decoding filled.
-fn order_decoded(sheet: &[u8], names: &[u32], items: &[u32], o: Outline, buf: &mut [u8]) -> Written
-    requires { ⌜ Tables (now sheet) (decodeOf (now sheet)) o (now names) (now items) ×
-        (mostNames ≤ length (now names)) × (mostItems ≤ length (now items)) ⌝ }
+// A decoded sheet, with the three tables that its decoding filled.
+fn order_decoded(
+    sheet: &[u8],
+    names: &[u32],
+    items: &[u32],
+    digests: &[u32],
+    o: Outline,
+    buf: &mut [u8],
+) -> Written
+    requires { ⌜ Tables (now sheet) (decodeOf (now sheet)) o (now names) (now items) (now digests) ×
+        (mostNames ≤ length (now names)) × (mostItems ≤ length (now items)) × (mostNames ≤ length (now digests)) ⌝ }
     ensures { λ r. ⌜ Orders (now (sheet .entry)) (now (buf .entry)) r (now (buf .exit)) ⌝ }
 {
     let n = o.names as usize;
     let k = o.items as usize;
-    order_ruled(sheet, &names[..n], &items[..k], buf)
+    order_ruled(sheet, &names[..n], &items[..k], &digests[..n], buf)
 }
 
 // The answer to a sheet, from that of its decoding.
@@ -66,15 +73,16 @@ fn answer(
     sheet: &[u8],
     names: &[u32; Outline::NAMES],
     items: &[u32; Outline::ITEMS],
+    digests: &[u32; Outline::NAMES],
     d: Decoded,
     buf: &mut [u8],
 ) -> Written
-    requires { ⌜ Answers (now sheet) (decodeOf (now sheet)) d (now names) (now items) ⌝ }
+    requires { ⌜ Answers (now sheet) (decodeOf (now sheet)) d (now names) (now items) (now digests) ⌝ }
     ensures { λ r. ⌜ Orders (now (sheet .entry)) (now (buf .entry)) r (now (buf .exit)) ⌝ }
 {
     match d {
         Decoded::Refused(e) => Written::Refused(e),
-        Decoded::Whole(o) => order_decoded(sheet, names, items, o, buf),
+        Decoded::Whole(o) => order_decoded(sheet, names, items, digests, o, buf),
     }
 }
 
@@ -84,6 +92,7 @@ pub fn struct_order(sheet: &[u8], buf: &mut [u8]) -> Written
 {
     let mut names = [0u32; Outline::NAMES];
     let mut items = [0u32; Outline::ITEMS];
-    let d = decode(sheet, &mut names, &mut items);
-    answer(sheet, &names, &items, d, buf)
+    let mut digests = [0u32; Outline::NAMES];
+    let d = decode(sheet, &mut names, &mut items, &mut digests);
+    answer(sheet, &names, &items, &digests, d, buf)
 }

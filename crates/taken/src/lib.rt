@@ -14,17 +14,15 @@ ghost use Prim.Native.Nat.{_<_, _≤_};
 ghost use lib.ListN.{length};
 ghost use Rattle.lexical.specs.Bytes.{same};
 ghost use Rattle.rules.specs.Rules.{any, twice, functions, reservedNamespace, argumentNames, taken as takenOf};
-ghost use Rattle.view.specs.Values.{itemsAt, itemNo, functionAt, Whole};
-ghost use Rattle.names.specs.Digests.{digestsAt};
+ghost use Rattle.view.specs.Values.{itemsAt, itemNo, functionAt, Whole, Ready};
 ghost use Rattle.view.specs.Views.{FunctionAt, ArgumentsAt};
-ghost use Rattle.clash.specs.Clashes.{Ready};
 ghost use Rattle.taken.specs.Arguments.{repeatsName, ArgumentNames};
 
 // ---- reserved namespaces
 
 // Whether an item's first namespace is `std` or `rust`.
-fn reserved_at(s: &[u8], names: &[u32], items: &[u32], i: u32) -> bool
-    requires { ⌜ Whole (now s) (now names) (now items) × (i < length (now items)) ⌝ }
+fn reserved_at(s: &[u8], names: &[u32], items: &[u32], digests: &[u32], i: u32) -> bool
+    requires { ⌜ Ready (now s) (now names) (now items) (now digests) × (i < length (now items)) ⌝ }
     ensures { λ r. ⌜ r ≡
         reservedNamespace (itemNo (now (s .entry)) (now (names .entry)) (now (items .entry)) i .namespace) ⌝ }
 {
@@ -33,23 +31,23 @@ fn reserved_at(s: &[u8], names: &[u32], items: &[u32], i: u32) -> bool
         return false;
     }
     let first = namespace(s, names, items, v, 0);
-    let standard = name_is(s, names, first, b"std");
+    let standard = name_is(s, names, digests, first, b"std");
     if standard {
         return true;
     }
-    name_is(s, names, first, b"rust")
+    name_is(s, names, digests, first, b"rust")
 }
 
 // Whether some item's first namespace is.
-fn any_reserved(s: &[u8], names: &[u32], items: &[u32]) -> bool
-    requires { ⌜ Whole (now s) (now names) (now items) ⌝ }
+fn any_reserved(s: &[u8], names: &[u32], items: &[u32], digests: &[u32]) -> bool
+    requires { ⌜ Ready (now s) (now names) (now items) (now digests) ⌝ }
     ensures { λ r. ⌜ r ≡ any (λ x. reservedNamespace (x .namespace))
         (itemsAt (now (s .entry)) (now (names .entry)) (now (items .entry))) ⌝ }
 {
     let n = items.len() as u32;
     let mut i: u32 = 0;
     while i < n {
-        let found = reserved_at(s, names, items, i);
+        let found = reserved_at(s, names, items, digests, i);
         if found {
             return true;
         }
@@ -166,10 +164,10 @@ fn repeats(s: &[u8], names: &[u32], items: &[u32], digests: &[u32]) -> bool
 
 // Whether rule 10 refuses the sheet.
 pub fn taken(s: &[u8], names: &[u32], items: &[u32], digests: &[u32]) -> bool
-    requires { ⌜ Whole (now s) (now names) (now items) × (now digests ≡ digestsAt (now s) (now names)) ⌝ }
+    requires { ⌜ Ready (now s) (now names) (now items) (now digests) ⌝ }
     ensures { λ r. ⌜ r ≡ takenOf (itemsAt (now (s .entry)) (now (names .entry)) (now (items .entry))) ⌝ }
 {
-    let outside = any_reserved(s, names, items);
+    let outside = any_reserved(s, names, items, digests);
     if outside {
         return true;
     }

@@ -12,10 +12,11 @@ use Rattle.format.specs.Decoding.{name, item}
 use Rattle.syntax.specs.Items.{itemAt}
 use Rattle.cursor.specs.Checking.{Limited, Table}
 use Rattle.format.specs.declared.Outline.{Outline}
+use Rattle.names.specs.Digests.{digest, digestsAt}
 use Rattle.decode.specs.Tables.{Items, Tables}
-use Rattle.view.specs.Values.{valueOr, nextOf, Yields, nameAt, namesAt, oneItemAt, itemsAt, Named, Whole}
+use Rattle.view.specs.Values.{valueOr, nextOf, Yields, nameAt, namesAt, oneItemAt, itemsAt, Named, Whole, Ready}
 use Rattle.cursor.proofs.YieldLaws.{yields, yielded}
-use Rattle.names.proofs.NameLaws.{map-at}
+use Rattle.names.proofs.NameLaws.{map-at, digests-names}
 
 -- ---- the values of a table of positions
 
@@ -38,11 +39,14 @@ module _ {A : Type 0} (d : Dec A) (z : A) {s : List ℕ} {n : ℕ} {offsets : Li
 abbrev noItem : Item
 noItem = record { namespace = []; cxx = []; body = cxxType false }
 
-module _ {s : List ℕ} {p : Got Sheet} {o : Outline} {b c : List ℕ} (t : Tables s p o b c) (room : o .names ≤ length b)
+module _ {s : List ℕ} {p : Got Sheet} {o : Outline} {b c g : List ℕ} (t : Tables s p o b c g) (room : o .names ≤ length b)
     (space : o .items ≤ length c) where
   pub names-are : namesAt s (take (o .names) b) ≡ t .names
   unfolding namesAt nameAt
   names-are = table-values name [] (t .table) room
+
+  pub digests-are : take (o .names) g ≡ digestsAt s (take (o .names) b)
+  digests-are = t .digested ∙ ap (λ (ns : List Name). map digest ns) (sym names-are) ∙ digests-names s (take (o .names) b)
 
   pub items-are : itemsAt s (take (o .names) b) (take (o .items) c) ≡ t .items .sheet .items
   unfolding itemsAt oneItemAt
@@ -60,7 +64,7 @@ module _ {s : List ℕ} {p : Got Sheet} {o : Outline} {b c : List ℕ} (t : Tabl
         rw (yielded [] y) y);
   }
 
-  pub whole : Limited s → Whole s (take (o .names) b) (take (o .items) c)
+  whole : Limited s → Whole s (take (o .names) b) (take (o .items) c)
   unfolding itemAt
   whole l = record {
     named = named l;
@@ -69,3 +73,6 @@ module _ {s : List ℕ} {p : Got Sheet} {o : Outline} {b c : List ℕ} (t : Tabl
         (table-each (item (t .names) (o .items)) noItem (t .items .table) space i
         (rw (length-take-le (o .items) c space) at h));
   }
+
+  pub ready : Limited s → Ready s (take (o .names) b) (take (o .items) c) (take (o .names) g)
+  ready l = record { whole = whole l; digested = digests-are }

@@ -1,4 +1,5 @@
 -- The names, items and types of a decoded sheet, as functions of its bytes and of its two tables of positions.
+use mathlib.Core.Path.{_≡_}
 use mathlib.Core.List.{List, [], map}
 use mathlib.Core.Bool.{false}
 use Prim.Native.Nat.{ℕ, _<_, _≤_}
@@ -11,6 +12,7 @@ use Rattle.syntax.specs.Items.{itemAt}
 pub use Rattle.cursor.specs.Yielding.{valueOr, nextOf, Yields}
 unfoldable pub use Rattle.names.specs.Naming.{nameAt, namesAt}
 pub use Rattle.names.specs.Naming.{Named}
+use Rattle.names.specs.Digests.{digestsAt}
 
 -- ---- values by position
 
@@ -58,3 +60,8 @@ pub record Whole (s names items : List ℕ) : Type 0 where
   pub few : length items ≤ mostItems
   pub each : (i : ℕ) → i < length items →
       Yields (item (namesAt s names) (length items) s (getD items i 0)) (itemAt (itemsAt s names items) i)
+
+-- and the digests are those of the names
+pub record Ready (s names items digests : List ℕ) : Type 0 where
+  pub whole : Whole s names items
+  pub digested : digests ≡ digestsAt s names

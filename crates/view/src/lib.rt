@@ -8,9 +8,6 @@ use format::ItemKind;
 use format::Template;
 use format::TypeKind;
 use items::part_of;
-use names::Name;
-use names::digest;
-use names::fetch;
 use types::check_return;
 use types::check_type;
 ghost use mathlib.Core.Path.{_≡_};
@@ -26,35 +23,8 @@ ghost use Rattle.syntax.specs.Types.{pointerBit, isIndirectTemplate, needsIndir
 ghost use Rattle.cursor.specs.Checking.{Limited};
 ghost use Rattle.view.specs.Values.{nextOf, Yields, nameAt, namesAt, itemsAt, functionAt, argumentAt, typeHere};
 ghost use Rattle.view.specs.Values.{Named, Whole};
-ghost use Rattle.names.specs.Digests.{digest as digestOf, digestsAt};
 ghost use Rattle.view.specs.Views.{kindOfBody, ItemAt, Formed, FunctionAt, ArgumentsAt, ArgumentOf};
 ghost use Rattle.view.specs.Views.{isFunctionKind, kindOfType, isAtomKind, isNamedKind, isIndirectKind};
-
-// ---- digests
-
-// The digest of the name at a position.
-fn digest_at(s: &[u8], at: u32) -> u32
-    requires { ⌜ Limited (now s) × Yields (name (now s) at) (nameAt (now s) at) ⌝ }
-    ensures { λ r. ⌜ r ≡ digestOf (nameAt (now (s .entry)) at) ⌝ }
-{
-    let mut x = [0u8; Name::LONGEST];
-    let n = fetch(s, at, &mut x);
-    let l = n.length;
-    digest(&x[..l])
-}
-
-// The digest of each name.
-pub fn fill_digests(s: &[u8], names: &[u32], digests: &mut [u32])
-    requires { ⌜ Named (now s) (now names) × (length (now digests) ≡ length (now names)) ⌝ }
-    ensures { λ r. ⌜ now (digests .exit) ≡ digestsAt (now (s .entry)) (now (names .entry)) ⌝ }
-{
-    let mut i: usize = 0;
-    while i < names.len() {
-        let h = digest_at(s, names[i]);
-        digests[i] = h;
-        i = i + 1;
-    }
-}
 
 // ---- items
 

@@ -89,12 +89,12 @@ unfolding judge ruled ruledItems ruledParts
 writes-judged s {x} h j =
     by-rules (wrongPart (x .items)) (taken (x .items)) (unfitArgument (x .items)) (ring (x .items)) x (j .is) s (rw h)
 
--- a decoded sheet is that of its outline and its two tables
-pub writes-tables : (s : List ℕ) {o : Outline} {names items buffer after : List ℕ} {r : Written} →
-    Tables s (decode s) o names items → 1023 ≤ length names → 255 ≤ length items →
+-- a decoded sheet is that of its outline and its tables
+pub writes-tables : (s : List ℕ) {o : Outline} {names items digests buffer after : List ℕ} {r : Written} →
+    Tables s (decode s) o names items digests → 1023 ≤ length names → 255 ≤ length items →
     Judges (sheetOf (o .header) (o .doxygen) (itemsAt s (take (o .names) names) (take (o .items) items))) buffer r after →
     Writes s buffer r after
-writes-tables s {o} {names} {items} {buffer} {after} {r} t a b j =
+writes-tables s {o} {names} {items} {digests} {buffer} {after} {r} t a b j =
     writes-judged s (t .items .decoded)
     (rw (
       t .items .header,

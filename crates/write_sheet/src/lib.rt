@@ -6,9 +6,7 @@ use format::Outline;
 use refusal::Refusal;
 use rules::Checked;
 use services::Written;
-use view::fill_digests;
 use write::write_text;
-ghost use mathlib.Core.Path.{_≡_};
 ghost use Prim.Native.Nat.{_≤_};
 ghost use lib.ListN.{length};
 ghost use Rattle.format.specs.Limits.{mostNames, mostItems};
@@ -16,8 +14,7 @@ ghost use Rattle.format.specs.Decoding.{decode as decodeOf};
 ghost use Rattle.decode.specs.Tables.{Tables, Answers};
 ghost use Rattle.bridge.specs.Write.{text};
 ghost use Rattle.services.specs.Services.{Writes};
-ghost use Rattle.view.specs.Values.{itemsAt, Whole};
-ghost use Rattle.names.specs.Digests.{digestsAt};
+ghost use Rattle.view.specs.Values.{itemsAt, Ready};
 ghost use Rattle.sections.specs.Runs.{sheetOf};
 ghost use Rattle.write_sheet.specs.Delivers.{Delivers, Judges};
 
@@ -31,7 +28,7 @@ fn deliver(
     doxygen: bool,
     buf: &mut [u8],
 ) -> Written
-    requires { ⌜ Whole (now s) (now names) (now items) × (now digests ≡ digestsAt (now s) (now names)) ⌝ }
+    requires { ⌜ Ready (now s) (now names) (now items) (now digests) ⌝ }
     ensures { λ r. ⌜ Delivers
         (text (sheetOf header doxygen (itemsAt (now (s .entry)) (now (names .entry)) (now (items .entry)))))
         (now (buf .entry)) r (now (buf .exit)) ⌝ }
@@ -52,74 +49,52 @@ fn deliver(
     Written::Length(length)
 }
 
-// The same with room for the digests of the names.
-fn deliver_with(
-    s: &[u8],
-    names: &[u32],
-    items: &[u32],
-    digests: &mut [u32],
-    header: bool,
-    doxygen: bool,
-    buf: &mut [u8],
-) -> Written
-    requires { ⌜ Whole (now s) (now names) (now items) × (mostNames ≤ length (now digests)) ⌝ }
-    ensures { λ r. ⌜ Delivers
-        (text (sheetOf header doxygen (itemsAt (now (s .entry)) (now (names .entry)) (now (items .entry)))))
-        (now (buf .entry)) r (now (buf .exit)) ⌝ }
-{
-    let n = names.len();
-    fill_digests(s, names, &mut digests[..n]);
-    deliver(s, names, items, &digests[..n], header, doxygen, buf)
-}
-
-// The text of an accepted sheet.
-fn write_accepted(
-    s: &[u8],
-    names: &[u32],
-    items: &[u32],
-    header: bool,
-    doxygen: bool,
-    buf: &mut [u8],
-) -> Written
-    requires { ⌜ Whole (now s) (now names) (now items) ⌝ }
-    ensures { λ r. ⌜ Delivers
-        (text (sheetOf header doxygen (itemsAt (now (s .entry)) (now (names .entry)) (now (items .entry)))))
-        (now (buf .entry)) r (now (buf .exit)) ⌝ }
-{
-    let mut digests = [0u32; Outline::NAMES];
-    deliver_with(s, names, items, &mut digests, header, doxygen, buf)
-}
-
 // Rules 9 to 12, then the text.
 fn write_judged(
     s: &[u8],
     names: &[u32],
     items: &[u32],
+    digests: &[u32],
     header: bool,
     doxygen: bool,
     buf: &mut [u8],
 ) -> Written
-    requires { ⌜ Whole (now s) (now names) (now items) ⌝ }
+    requires { ⌜ Ready (now s) (now names) (now items) (now digests) ⌝ }
     ensures { λ r. ⌜ Judges
         (sheetOf header doxygen (itemsAt (now (s .entry)) (now (names .entry)) (now (items .entry))))
         (now (buf .entry)) r (now (buf .exit)) ⌝ }
 {
-    let c = judge(s, names, items);
+    let c = judge(s, names, items, digests);
     match c {
         Checked::Refused(e) => Written::Refused(e),
-        Checked::Accepted => write_accepted(s, names, items, header, doxygen, buf),
+        Checked::Accepted => deliver(s, names, items, digests, header, doxygen, buf),
     }
 }
 
-// A decoded sheet, with the two tables that its decoding filled.
-fn write_decoded(sheet: &[u8], names: &[u32], items: &[u32], o: Outline, buf: &mut [u8]) -> Written
-    requires { ⌜ Tables (now sheet) (decodeOf (now sheet)) o (now names) (now items) ×
-        (mostNames ≤ length (now names)) × (mostItems ≤ length (now items)) ⌝ }
+// A decoded sheet, with the three tables that its decoding filled.
+fn write_decoded(
+    sheet: &[u8],
+    names: &[u32],
+    items: &[u32],
+    digests: &[u32],
+    o: Outline,
+    buf: &mut [u8],
+) -> Written
+    requires { ⌜ Tables (now sheet) (decodeOf (now sheet)) o (now names) (now items) (now digests) ×
+        (mostNames ≤ length (now names)) × (mostItems ≤ length (now items)) × (mostNames ≤ length (now digests)) ⌝ }
     ensures { λ r. ⌜ Writes (now (sheet .entry)) (now (buf .entry)) r (now (buf .exit)) ⌝ }
 {
     let n = o.names as usize;
     let k = o.items as usize;
-    write_judged(sheet, &names[..n], &items[..k], o.header, o.doxygen, buf)
+    write_judged(
+        sheet,
+        &names[..n],
+        &items[..k],
+        &digests[..n],
+        o.header,
+        o.doxygen,
+        buf,
+    )
 }
 
 // The answer to a sheet, from that of its decoding.
@@ -127,15 +102,16 @@ fn answer(
     sheet: &[u8],
     names: &[u32; Outline::NAMES],
     items: &[u32; Outline::ITEMS],
+    digests: &[u32; Outline::NAMES],
     d: Decoded,
     buf: &mut [u8],
 ) -> Written
-    requires { ⌜ Answers (now sheet) (decodeOf (now sheet)) d (now names) (now items) ⌝ }
+    requires { ⌜ Answers (now sheet) (decodeOf (now sheet)) d (now names) (now items) (now digests) ⌝ }
     ensures { λ r. ⌜ Writes (now (sheet .entry)) (now (buf .entry)) r (now (buf .exit)) ⌝ }
 {
     match d {
         Decoded::Refused(e) => Written::Refused(e),
-        Decoded::Whole(o) => write_decoded(sheet, names, items, o, buf),
+        Decoded::Whole(o) => write_decoded(sheet, names, items, digests, o, buf),
     }
 }
 
@@ -145,6 +121,7 @@ pub fn write(sheet: &[u8], buf: &mut [u8]) -> Written
 {
     let mut names = [0u32; Outline::NAMES];
     let mut items = [0u32; Outline::ITEMS];
-    let d = decode(sheet, &mut names, &mut items);
-    answer(sheet, &names, &items, d, buf)
+    let mut digests = [0u32; Outline::NAMES];
+    let d = decode(sheet, &mut names, &mut items, &mut digests);
+    answer(sheet, &names, &items, &digests, d, buf)
 }

@@ -1,4 +1,4 @@
--- Written by tools/proofkit from answers/decode_tables.tpl (cad22f73 ad4c9dca).
+-- Written by tools/proofkit from answers/decode_tables.tpl (cad22f73 9134f9aa).
 use borrow.Author.Needs.{needs}
 use native.Mathlib.Omega.{arith}
 use Rattle.cursor.proofs.FieldLaws.{value, cut, field-lt}
@@ -7,16 +7,16 @@ use Rattle.decode.proofs.decode_tables.Statement.{statement}
 use Rattle.decode.proofs.decode_tables.Tie as tie
 
 check-names-requires : tie.Need-check-names-requires
-check-names-requires c κs = omega (arith, field-lt 10 _ _ (value (c .before .before .before .before .read .ensures) (c .before .before .f .given .1)), c .before .before .before .before .before .before .before .before .pre)
+check-names-requires c κs = omega (arith, field-lt 10 _ _ (value (c .before .before .before .before .before .read .ensures) (c .before .before .before .f .given .1)), c .before .before .before .before .before .before .before .before .before .before .pre)
 
 returns : tie.Need-returns
 returns c = tables-cut _ _ _ _ (cut _ _ _ (c .before .before .read .ensures) (c .enum-told .given .1))
 
 returns-2 : tie.Need-returns-2
-returns-2 c = tables-fault _ _ _ _ (value (c .before .before .before .before .before .before .before .before .before .before .read .ensures) (c .before .before .before .before .before .before .before .before .f .given .1)) (c .before .before .before .before .before .check-names .ensures) (c .before .a .given .1)
+returns-2 c = tables-fault _ _ _ _ (value (c .before .before .before .before .before .before .before .before .before .before .before .before .before .read .ensures) (c .before .before .before .before .before .before .before .before .before .before .before .f .given .1)) (c .before .before .before .before .before .before .before .check-names .ensures) (c .before .a .given .1)
 
 returns-3 : tie.Need-returns-3
-returns-3 c = tables-rest _ _ _ _ (value (c .before .before .before .before .before .before .before .before .before .before .before .before .before .before .read .ensures) (c .before .before .before .before .before .before .before .before .before .before .before .before .f .given .1)) (c .before .before .before .before .before .before .before .before .before .check-names .ensures) (c .before .before .before .before .before .a2 .given .1) (c .before .before .decode-items .ensures)
+returns-3 c = tables-rest _ _ _ _ (value (c .before .before .before .before .before .before .before .before .before .before .before .before .before .before .before .before .before .read .ensures) (c .before .before .before .before .before .before .before .before .before .before .before .before .before .before .before .f .given .1)) (c .before .before .before .before .before .before .before .before .before .before .before .check-names .ensures) (c .before .before .before .before .before .a2 .given .1) (c .before .before .decode-items .ensures)
 
 pub decode-tables-spec : {M : Type 1} → statement M
 decode-tables-spec =
@@ -31,7 +31,9 @@ decode-tables-spec =
     (λ c κs. search needs)
     returns
     (λ c. search needs)
+    (λ c. search needs)
     returns-2
+    (λ c. search needs)
     (λ c. search needs)
     (λ c. search needs)
     returns-3)

@@ -1,4 +1,4 @@
--- Written by tools/proofkit from answers/+see_body+see_fn+see_return+see_type+see_types.tpl (37952cf0 4e128f14).
+-- Written by tools/proofkit from answers/+see_body+see_fn+see_return+see_type+see_types.tpl (37952cf0 d73fea80).
 use borrow.Author.Needs.{needs}
 use Prim.Native.Nat.{ℕ, _+_, _-_, _*_, _<_, _≤_}
 use native.Mathlib.Omega.{arith}
@@ -27,10 +27,10 @@ use Rattle.judge.proofs.+see_body+see_fn+see_return+see_type+see_types.
 use Rattle.judge.proofs.see_types.Reads as see-types
 use Rattle.judge.proofs.see_types.Kinds as see-types-kinds
 use Rattle.judge.proofs.+see_body+see_fn+see_return+see_type+see_types.Lts-see_types as see-types-lts
+use Rattle.cursor.proofs.fields.field.Reads as field-reads
 use Rattle.judge.proofs.either.Reads as either-reads
 use Rattle.judge.proofs.see_index.Reads as see-index-reads
 use Rattle.types.proofs.kind_of.Reads as kind-of-reads
-use Rattle.view.proofs.field.Reads as field-reads
 use Rattle.judge.proofs.+see_body+see_fn+see_return+see_type+see_types.{statement}
 use Rattle.judge.proofs.+see_body+see_fn+see_return+see_type+see_types.Tie.{close}
 

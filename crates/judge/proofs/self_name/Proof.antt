@@ -1,11 +1,11 @@
--- Written by tools/proofkit from answers/self_name.tpl (06d745d6 1458b28e).
+-- Written by tools/proofkit from answers/self_name.tpl (06d745d6 398a4e51).
 use borrow.Author.Needs.{needs}
 use Rattle.cursor.proofs.CheckLaws.{known}
 use Rattle.judge.proofs.self_name.Statement.{statement}
 use Rattle.judge.proofs.self_name.Tie as tie
 
 name-is-requires : tie.Need-name-is-requires
-name-is-requires c κs = c .before .before .before .before .before .pre
+name-is-requires c κs = c .before .before .before .before .before .before .pre
 
 returns : tie.Need-returns
 returns c = rw (known (c .before .before .before .is-method-form .ensures) (c .before .before .if1 .taken)) (c .name-is .ensures)

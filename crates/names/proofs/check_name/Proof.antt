@@ -1,4 +1,4 @@
--- Written by tools/proofkit from answers/check_name.tpl (057d638d 8ff30fa8).
+-- Written by tools/proofkit from answers/check_name.tpl (a90caed7 d81e118b).
 use borrow.Author.Needs.{needs}
 use native.Mathlib.Omega.{arith}
 use mathlib.Core.Path.{refl, sym}
@@ -18,9 +18,15 @@ array-share-prefix-buf c = omega (arith, text-lt 6 _ _ (c .before .before .befor
 slice-aggregate-is-name : tie.Need-slice-aggregate-is-name
 slice-aggregate-is-name c = sym (length-take-le _ _ (omega (arith, text-lt 6 _ _ (c .before .before .before .before .before .read-text .ensures) (c .before .before .f .given .1), c .before .before .before .before .before .read-text .kept .1 .1 .1 .0)))
 
+array-share-prefix-buf-2 : tie.Need-array-share-prefix-buf-2
+array-share-prefix-buf-2 c = omega (arith, text-lt 6 _ _ (c .before .before .before .before .before .before .before .read-text .ensures) (c .before .before .before .before .f .given .1))
+
+slice-aggregate-digest : tie.Need-slice-aggregate-digest
+slice-aggregate-digest c = sym (length-take-le _ _ (omega (arith, text-lt 6 _ _ (c .before .before .before .before .before .before .before .before .read-text .ensures) (c .before .before .before .before .before .f .given .1), c .before .before .before .before .before .before .before .before .read-text .kept .1 .1 .1 .0)))
+
 returns : tie.Need-returns
 unfolding name ruledText
-returns c = rw (text-value 6 _ _ (c .before .before .before .before .before .before .before .read-text .ensures) (c .before .before .before .before .f .given .1) isName BadName, known (c .before .is-name .ensures) (c .if1 .taken)) record { step = refl }
+returns c = rw (text-value 6 _ _ (c .before .before .before .before .before .before .before .before .before .read-text .ensures) (c .before .before .before .before .before .before .f .given .1) isName BadName, known (c .before .before .before .is-name .ensures) (c .before .before .if1 .taken)) record { step = rw (c .digest .ensures) }
 
 returns-2 : tie.Need-returns-2
 unfolding name ruledText
@@ -41,6 +47,9 @@ check-name-spec =
     (λ c. search needs)
     array-share-prefix-buf
     slice-aggregate-is-name
+    (λ c κs. search needs)
+    array-share-prefix-buf-2
+    slice-aggregate-digest
     (λ c κs. search needs)
     returns
     returns-2

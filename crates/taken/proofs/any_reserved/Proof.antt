@@ -1,4 +1,4 @@
--- Written by tools/proofkit from answers/any_reserved.tpl (472d76ef 3d2a4773).
+-- Written by tools/proofkit from answers/any_reserved.tpl (53e932f2 0f13591c).
 use native.Mathlib.Omega.{arith}
 use mathlib.Core.Path.{_≡_, refl, sym, _∙_}
 use Prim.Native.Nat.{_≤_, _-_}
@@ -10,25 +10,25 @@ use Rattle.taken.proofs.any_reserved.Statement.{statement}
 use Rattle.taken.proofs.any_reserved.Tie as tie
 
 abbrev Inv-loop : tie.InvT-loop
-Inv-loop s names items n i₀ i = (i ≤ length items) × (any (λ x. reservedNamespace (x .namespace)) (itemsAt s names items) ≡ any (λ x. reservedNamespace (x .namespace)) (drop i (itemsAt s names items)))
+Inv-loop s names items digests n i₀ i = (i ≤ length items) × (any (λ x. reservedNamespace (x .namespace)) (itemsAt s names items) ≡ any (λ x. reservedNamespace (x .namespace)) (drop i (itemsAt s names items)))
 
 abbrev μ-loop : tie.MeasureT-loop
-μ-loop s names items n i₀ i = length items - i
+μ-loop s names items digests n i₀ i = length items - i
 
 cast-n : tie.Need-cast-n Inv-loop μ-loop
-cast-n c = omega (arith, c .before .before .before .pre .few)
+cast-n c = omega (arith, c .before .before .before .before .pre .whole .few)
 
 loop-holds : tie.Need-loop-holds Inv-loop μ-loop
 loop-holds c = (omega arith, refl)
 
 reserved-at-requires : tie.Need-reserved-at-requires Inv-loop μ-loop
-reserved-at-requires c κs = (c .before .before .before .before .before .pre, omega arith)
+reserved-at-requires c κs = (c .before .before .before .before .before .before .pre, omega arith)
 
 returns : tie.Need-returns Inv-loop μ-loop
 returns c = sym (c .before .before .before .loop .inv .1 ∙ items-hit _ _ _ (omega arith) (λ x. reservedNamespace (x .namespace)) (c .before .reserved-at .ensures) (c .if1 .taken))
 
 add-i : tie.Need-add-i Inv-loop μ-loop
-add-i c = omega (arith, c .before .before .before .before .before .before .before .pre .few)
+add-i c = omega (arith, c .before .before .before .before .before .before .before .before .pre .whole .few)
 
 loop-less : tie.Need-loop-less Inv-loop μ-loop
 loop-less c = omega arith

@@ -1,4 +1,4 @@
--- Written by tools/proofkit from answers/taken.tpl (d5878692 a7bc0a15).
+-- Written by tools/proofkit from answers/taken.tpl (895864b7 8baccd48).
 use borrow.Author.Needs.{needs}
 use Rattle.taken.proofs.TakenLaws.{taken-reserved, taken-clash, taken-argument}
 use Rattle.taken.proofs.taken.Statement.{statement}
@@ -7,14 +7,8 @@ use Rattle.taken.proofs.taken.Tie as tie
 returns : tie.Need-returns
 returns c = taken-reserved _ (c .before .any-reserved .ensures) (c .if1 .taken)
 
-name-clash-requires : tie.Need-name-clash-requires
-name-clash-requires c κs = record { whole = c .before .before .before .before .before .before .pre .0; digested = c .before .before .before .before .before .before .pre .1 }
-
 returns-2 : tie.Need-returns-2
 returns-2 c = taken-clash _ (c .before .before .before .any-reserved .ensures) (c .before .before .if1 .left) (c .before .name-clash .ensures) (c .if2 .taken)
-
-repeats-requires : tie.Need-repeats-requires
-repeats-requires c κs = record { whole = c .before .before .before .before .before .before .before .before .pre .0; digested = c .before .before .before .before .before .before .before .before .pre .1 }
 
 returns-3 : tie.Need-returns-3
 returns-3 c = taken-argument _ (c .before .before .before .before .any-reserved .ensures) (c .before .before .before .if1 .left) (c .before .before .name-clash .ensures) (c .before .if2 .left) (c .repeats .ensures)
@@ -25,7 +19,7 @@ taken-spec =
     (tie.spec
     (λ c κs. search needs)
     returns
-    name-clash-requires
+    (λ c κs. search needs)
     returns-2
-    repeats-requires
+    (λ c κs. search needs)
     returns-3)
