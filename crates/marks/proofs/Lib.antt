@@ -1,1 +1,4 @@
 pub mod GatherLaws
+pub mod SomeLaws
+pub mod MarkLaws
+pub mod RuleLaws
