@@ -1,8 +1,10 @@
 // Rule 10 of document 01's table for pairs of items: two types with the same full name, two functions with the same
 // symbol. Each is told by the names that it is made of.
+use cursor::width;
 use format::Outline;
 use view::FunctionView;
 use view::ItemView;
+use view::field;
 use view::function;
 use view::is_function;
 use view::item;
@@ -233,8 +235,8 @@ fn own_name(s: &[u8], names: &[u32], items: &[u32], i: u32) -> u32
     let kind = v.kind;
     let callable = is_function(kind);
     if callable {
-        let f = function(s, names, items, v);
-        return f.rust;
+        let rust = field(s, v.body, width(names.len() as u32));
+        return rust.value;
     }
     v.name
 }
