@@ -4,16 +4,15 @@ use mathlib.Core.List.{List}
 use mathlib.Core.Bool.{Bool, true, false, _&&_, _||_}
 use Prim.Native.Nat.{ℕ, _+_, _-_, _≤_}
 use native.Mathlib.Omega.{arith}
-use lib.ListN.{length, getD, replicate, length-map}
+use lib.ListN.{length, getD, length-map}
 use lib.Dec.{eqb}
 use borrow.Author.Tests.{eq-eqb, ne-eqb}
 use Rattle.lexical.specs.Bytes.{same}
 use Rattle.format.specs.Sheet.{Body, struct, enum, cxxType, rustType, function, Item}
 use Rattle.format.specs.declared.ItemKind.{ItemKind}
-use Rattle.syntax.specs.Items.{itemAt, isFunction}
+use Rattle.syntax.specs.Items.{isFunction}
 use Rattle.syntax.specs.Types.{pointerBit}
 use Rattle.rules.specs.Rules.{any, twice, functions, wrongPart, argumentNames, unfitArgument}
-use Rattle.marks.specs.Marking.{markItems}
 use Rattle.marks.specs.Reading.{someFrom, marked}
 use Rattle.marks.proofs.SomeLaws.{and-true, and-false}
 use Rattle.marks.proofs.RuleLaws.{wrong-marks, repeated-marks, unfit-marks}

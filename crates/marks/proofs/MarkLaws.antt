@@ -1,7 +1,7 @@
 -- What a walk's marks add to a table, for any test on its places.
 use mathlib.Core.Path.{_≡_, refl, sym, ap, _∙_}
 use mathlib.Core.List.{List, [], _∷_, map}
-use mathlib.Core.Bool.{Bool, true, false, _&&_, _||_, false≢true}
+use mathlib.Core.Bool.{Bool, true, false, _&&_, _||_}
 use Prim.Native.Nat.{ℕ, zero, suc, _+_, _<_, _≤_}
 use native.Mathlib.Omega.{arith}
 use lib.ListN.{length, getD, set, replicate, length-set, length-replicate}
@@ -11,9 +11,9 @@ use borrow.Author.Tests.{eqb-true, eqb-false, eq-eqb, ltb-true, ltb-false}
 use Rattle.lexical.specs.Bytes.{same}
 use Rattle.lexical.proofs.BoolLaws.{both}
 use Rattle.format.specs.Types.{Ty, atom, named, template, pointer, str, fn, array, Ret, none, gives, Tys, nil, cons}
-use Rattle.format.specs.Sheet.{Form, free, constMethod, mutMethod, associated, Argument, Function, Body, struct, enum, cxxType, rustType, function, Item}
+use Rattle.format.specs.Sheet.{Form, Argument, Function, Body, struct, enum, cxxType, rustType, function, Item}
 use Rattle.syntax.specs.Items.{selfType}
-use Rattle.rules.specs.Rules.{any, twice, anyNamed, anyNamedRet, anyNamedTys, anyIndex, isMethod, argumentNames}
+use Rattle.rules.specs.Rules.{any, twice, anyNamed, anyNamedRet, anyNamedTys, anyIndex, isMethod}
 use Rattle.marks.specs.Gathering.{each}
 use Rattle.marks.specs.Marking.{mark, markIf, markIndex, markTy, markRet, markTys, markForm, markArgument, unfitNow, errorItem, markError}
 use Rattle.marks.specs.Marking.{judgeArgument, judgeArguments, markFunction, markBody, markItem, markItems}

@@ -1,8 +1,8 @@
 -- Rules 9, 10 (equal argument names) and 11 are what the table of marks says.
 use mathlib.Core.Path.{_≡_, refl, sym, ap, ap₂, _∙_}
-use mathlib.Core.List.{List, [], _∷_, map}
+use mathlib.Core.List.{List, [], map}
 use mathlib.Core.Bool.{Bool, true, false, not, _&&_, _||_, false≢true}
-use Prim.Native.Nat.{ℕ, zero, suc, _+_, _-_, _<_, _≤_}
+use Prim.Native.Nat.{ℕ, _+_, _-_, _<_, _≤_}
 use native.Mathlib.Omega.{arith}
 use lib.ListN.{length, replicate, List·getD-eq-default}
 use lib.Dec.{eqb, leb, ltb}
@@ -18,10 +18,11 @@ use Rattle.syntax.specs.Items.{itemAt, selfType, isFunction}
 use Rattle.syntax.specs.Types.{pointerBit, atomNumber, isIndirectTemplate, needsIndirectAbi, isRustString}
 use Rattle.rules.specs.Rules.{any, twice, functionOf, functions, anyNamed, anyNamedRet, anyNamedTys, anyIndex, wrongPart}
 use Rattle.rules.specs.Rules.{argumentNames, isCxxVector, isMethod, unfit, unfitArgument}
+use Rattle.rules.proofs.SearchLaws.{any-like, any-none, any-gather}
 use Rattle.marks.specs.Marking.{isIndirectNow, namedItem, isError, unfitNow, errorItem, markItems}
 use Rattle.marks.specs.Reading.{someFrom, marked}
-use Rattle.marks.proofs.SomeLaws.{same-truth, and-true, and-false, or-assoc, or-false, any-like, any-none, any-gather, some-at, some-is, some-like, some-or}
-use Rattle.marks.proofs.MarkLaws.{anyMarked, Says, hasArgument, hasArguments, hasFunction, hasBody, items-marks}
+use Rattle.marks.proofs.SomeLaws.{same-truth, and-true, and-false, or-assoc, or-false, some-at, some-is, some-like, some-or}
+use Rattle.marks.proofs.MarkLaws.{anyMarked, Says, hasArgument, hasArguments, hasBody, items-marks}
 
 -- ---- a test that no number passes
 

@@ -1,13 +1,11 @@
 -- Laws of truth values, and of one number among several that passes a test.
 use mathlib.Core.Path.{_≡_, refl, sym, ap, ap₂, _∙_}
-use mathlib.Core.List.{List, [], _∷_, _++_}
 use mathlib.Core.Bool.{Bool, true, false, _&&_, _||_, false≢true}
 use Prim.Native.Nat.{ℕ, zero, suc, _+_, _-_, _<_, _≤_}
 use native.Mathlib.Omega.{arith}
 use lib.Dec.{eqb}
 use borrow.Author.Tests.{eqb-true, eqb-false}
 use Rattle.lexical.proofs.BoolLaws.{or-right}
-use Rattle.rules.specs.Rules.{any, gather}
 use Rattle.marks.specs.Reading.{someFrom}
 
 -- ---- truth values
@@ -46,31 +44,6 @@ or-cross true b c d = refl
 or-cross false true true d = refl
 or-cross false true false d = refl
 or-cross false false c d = refl
-
--- ---- lists
-
-pub any-like : {A : Type 0} (a b : A → Bool) (xs : List A) → ((x : A) → a x ≡ b x) → any a xs ≡ any b xs
-unfolding any
-any-like a b [] like = refl
-any-like a b (x ∷ xs) like = ap₂ _||_ (like x) (any-like a b xs like)
-
-pub any-none : {A : Type 0} (a : A → Bool) (xs : List A) → ((x : A) → a x ≡ false) → any a xs ≡ false
-unfolding any
-any-none a [] never = refl
-any-none a (x ∷ xs) never = rw (never x, any-none a xs never)
-
-any-append : {A : Type 0} (test : A → Bool) (xs ys : List A) → any test (xs ++ ys) ≡ (any test xs || any test ys)
-unfolding any
-any-append test [] ys = refl
-any-append test (x ∷ xs) ys =
-    ap (λ (b : Bool). test x || b) (any-append test xs ys) ∙ sym (or-assoc (test x) (any test xs) (any test ys))
-
-pub any-gather : {A B : Type 0} (test : B → Bool) (f : A → List B) (xs : List A) →
-    any test (gather f xs) ≡ any (λ x. any test (f x)) xs
-unfolding any gather
-any-gather test f [] = refl
-any-gather test f (x ∷ xs) =
-    any-append test (f x) (gather f xs) ∙ ap (λ (b : Bool). any test (f x) || b) (any-gather test f xs)
 
 -- ---- one of the numbers from i on
 
