@@ -1,15 +1,11 @@
-<<<<<<< HEAD
--- Written by tools/proofkit from answers/fill_keys.tpl (1f61d328 4815c88b).
-=======
 -- Written by tools/proofkit from answers/fill_keys.tpl (5007b731 ba625ae4).
->>>>>>> marks
 use borrow.Author.Needs.{needs}
 use native.Mathlib.Omega.{arith}
 use mathlib.Core.Path.{_≡_, refl, sym, ap, _∙_}
 use Prim.Native.Nat.{ℕ, _≤_, _<_, _-_}
 use lib.ListN.{length, length-set, getD}
-use Rattle.names.specs.Digests.{digest}
-use Rattle.names.proofs.NameLaws.{digests-length, digest-there}
+use Rattle.view.specs.Digests.{digest}
+use Rattle.view.proofs.NameLaws.{digests-length, digest-there}
 use Rattle.view.specs.Values.{itemNo}
 use Rattle.clash.specs.Clashes.{ownName}
 use Rattle.clash.proofs.ListLaws.{filled-turn}
