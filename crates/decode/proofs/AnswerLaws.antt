@@ -20,29 +20,29 @@ use Rattle.decode.specs.declared.Decoded.{Decoded}
 use Rattle.decode.specs.declared.Decoded.the-variants.{Whole, Refused}
 use Rattle.decode.specs.Tables.{Tables, saysOf, Answers}
 
-module _ {s : List ℕ} {p : Got Sheet} {r : Decoded} {b i g : List ℕ} where
+module _ {s : List ℕ} {p : Got Sheet} {r : Decoded} {b i g m₀ m₁ : List ℕ} where
   -- what an answer says of the definition
 
-  pub refused : {e : Refusal} → Answers s p r b i g → r ≡ Refused e → p ≡ fault e
+  pub refused : {e : Refusal} → Answers s p r b i g m₀ m₁ → r ≡ Refused e → p ≡ fault e
   refused {e} a t = rw t at (a .says)
 
-  pub whole : {o : Outline} → Answers s p r b i g → r ≡ Whole o → Tables s p o b i g
+  pub whole : {o : Outline} → Answers s p r b i g m₀ m₁ → r ≡ Whole o → Tables s p o b i g m₀ m₁
   whole {o} a t = rw t at (a .says)
 
   -- what the definition says of the answer
 
-  pub must-refuse : {e : Refusal} → Answers s p r b i g → p ≡ fault e → r ≡ Refused e
+  pub must-refuse : {e : Refusal} → Answers s p r b i g m₀ m₁ → p ≡ fault e → r ≡ Refused e
   must-refuse {e} a q = by-answer r (a .says)
     where
-      by-answer : (u : Decoded) → saysOf (λ o. Tables s p o b i g) p u → u ≡ Refused e
+      by-answer : (u : Decoded) → saysOf (λ o. Tables s p o b i g m₀ m₁) p u → u ≡ Refused e
       by-answer (Refused f) h = let z : f ≡ e = cc in rw z
       by-answer (Whole o) h =
           let d = h .items .decoded in absurd (let z : _≡_ {A = ℕ} 0 1 = cc in omega arith)
 
-  pub must-accept : {x : Sheet} {m : ℕ} → Answers s p r b i g → p ≡ got x m → (o : Outline) × (r ≡ Whole o)
+  pub must-accept : {x : Sheet} {m : ℕ} → Answers s p r b i g m₀ m₁ → p ≡ got x m → (o : Outline) × (r ≡ Whole o)
   must-accept {x} {m} a q = by-answer r (a .says)
     where
-      by-answer : (u : Decoded) → saysOf (λ o. Tables s p o b i g) p u → (o : Outline) × (u ≡ Whole o)
+      by-answer : (u : Decoded) → saysOf (λ o. Tables s p o b i g m₀ m₁) p u → (o : Outline) × (u ≡ Whole o)
       by-answer (Refused f) h = absurd (let z : _≡_ {A = ℕ} 0 1 = cc in omega arith)
       by-answer (Whole o) h = (o, refl)
 
@@ -56,6 +56,6 @@ decoded-limited s {x} {m} e = by-test (leb (length s) mostBytes) refl e
     by-test false h e = absurd (let z : _≡_ {A = ℕ} 0 1 = cc in omega arith)
 
 -- a name that is fetched from where the table says
-pub fetched : {s : List ℕ} {p : Got Sheet} {o : Outline} {b i g : List ℕ} (t : Tables s p o b i g) (j : ℕ) → j < o .names →
+pub fetched : {s : List ℕ} {p : Got Sheet} {o : Outline} {b i g m₀ m₁ : List ℕ} (t : Tables s p o b i g m₀ m₁) (j : ℕ) → j < o .names →
     {n : ℕ} {buf : List ℕ} → Fetched (name s (getD b j 0)) n buf → take n buf ≡ getD (t .names) j []
 fetched t j h f = f .chars _ _ (t .table .each j [] h .1)

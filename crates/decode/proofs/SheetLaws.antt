@@ -4,7 +4,7 @@ use mathlib.Core.List.{List}
 use mathlib.Core.Bool.{Bool, true, false, _&&_}
 use Prim.Native.Nat.{ℕ, _+_, _-_, _*_, _/_, _%_, _≤_, _<_}
 use native.Mathlib.Omega.{arith}
-use lib.ListN.{length}
+use lib.ListN.{length, take}
 use lib.Dec.{eqb, leb}
 use borrow.Author.Tests.{eq-eqb, ne-eqb, lt-leb, le-leb}
 use Rattle.refusal.specs.declared.Refusal.{Refusal}
@@ -17,13 +17,17 @@ use Rattle.format.specs.Decoding.{name, item, nameTable, itemTable, tail}
 use Rattle.cursor.specs.declared.Cursor.{Cursor}
 use Rattle.cursor.specs.declared.Step.{Step}
 use Rattle.cursor.specs.declared.Step.the-variants.{At, Fault}
-use Rattle.cursor.specs.Checking.{Checks, positionOf, Fills}
+use Rattle.cursor.specs.Checking.{Limited, Checks, positionOf, Fills}
 use Rattle.cursor.proofs.FieldLaws.{field-lt}
 use Rattle.cursor.proofs.CheckLaws.{stepped, stopped}
 use Rattle.cursor.proofs.TableLaws.{fills-checks, placed-checks, Located, located}
 use Rattle.names.specs.Digests.{digestOf}
 use Rattle.names.proofs.DigestLaws.{digests-filled}
-use Rattle.items.specs.Parts.{ForNames}
+use Rattle.marks.specs.Gathering.{each, Gathers}
+use Rattle.marks.specs.Marking.{markItem}
+use Rattle.marks.proofs.GatherLaws.{facts}
+use Rattle.names.specs.Naming.{namesAt, Named}
+use Rattle.names.proofs.NamedLaws.{table-names, table-digests, table-named}
 use Rattle.decode.specs.declared.Decoded.{Decoded}
 use Rattle.decode.specs.declared.Decoded.the-variants.{Whole, Refused}
 use Rattle.decode.specs.Tables.{behindNames, behindBits, AnswersItems, Answers}
@@ -66,31 +70,33 @@ tail-keeps {A} x s at {y} {m} e = by-field (bits ((8 - at % 8) % 8) s at) e
 
 -- ---- the item table
 
-module _ (s : List ℕ) (h d : Bool) (names : List Name) (at : ℕ) {b : List ℕ} where
+module _ (s : List ℕ) (h d : Bool) (names : List Name) (at : ℕ) {b m₀ m₁ : List ℕ} where
   pub items-cut : bits 8 s at ≡ fault CutSheet →
-      AnswersItems s names (behindNames h d names s at) (Refused CutSheet) b
+      AnswersItems s names (behindNames h d names s at) (Refused CutSheet) b m₀ m₁
   unfolding behindNames itemTable
   items-cut e = record { says = rw e }
 
-  module _ {k m : ℕ} (q : bits 8 s at ≡ got k m) {r : Step} (f : Fills (many k (positionOf (item names k)) s m) r k b) where
-    pub items-fault : {e : Refusal} → r ≡ Fault e → AnswersItems s names (behindNames h d names s at) (Refused e) b
+  module _ {k m : ℕ} (q : bits 8 s at ≡ got k m) {r : Step}
+      (f : Fills (many k (positionOf (item names k)) s m) r k b ×
+      Gathers (each markItem) (many k (item names k) s m) m₀ r m₁) where
+    pub items-fault : {e : Refusal} → r ≡ Fault e → AnswersItems s names (behindNames h d names s at) (Refused e) b m₀ m₁
     unfolding behindNames itemTable
     items-fault t =
-        record { says = rw (q, stopped (placed-checks (item names k) k s m (fills-checks f)) t) }
+        record { says = rw (q, stopped (placed-checks (item names k) k s m (fills-checks (f .0))) t) }
 
     module _ {c : Cursor} (t : r ≡ At c) {u : Step} (g : (x : Sheet) → Checks (tail x s (c .at)) u) where
-      pub tail-fault : {e : Refusal} → u ≡ Fault e → AnswersItems s names (behindNames h d names s at) (Refused e) b
+      pub tail-fault : {e : Refusal} → u ≡ Fault e → AnswersItems s names (behindNames h d names s at) (Refused e) b m₀ m₁
       unfolding behindNames itemTable
       tail-fault w =
-          let l = located (item names k) s k m f t in
+          let l = located (item names k) s k m (f .0) t in
           record { says = rw (q, l .decoded, stopped (g (record { header = h; doxygen = d; items = l .values })) w) }
 
       pub items-whole : {n : ℕ} {c′ : Cursor} → length names ≡ n → u ≡ At c′ →
           AnswersItems s names (behindNames h d names s at)
-          (Whole (record { header = h; doxygen = d; names = n; items = k })) b
+          (Whole (record { header = h; doxygen = d; names = n; items = k })) b m₀ m₁
       unfolding behindNames itemTable
       items-whole {n} {c′} e w =
-          let l = located (item names k) s k m f t in
+          let l = located (item names k) s k m (f .0) t in
           let x : Sheet = record { header = h; doxygen = d; items = l .values } in
           record {
             says = record {
@@ -102,6 +108,7 @@ module _ (s : List ℕ) (h d : Bool) (names : List Name) (at : ℕ) {b : List �
               named = sym e;
               few = omega (arith, field-lt 8 s at q);
               table = l .table;
+              marked = facts (f .1) t (l .decoded);
             };
           }
 
@@ -112,26 +119,36 @@ behind-is : (s : List ℕ) (h d : Bool) (at : ℕ) {n m k : ℕ} {ns : List Name
 unfolding behindBits nameTable
 behind-is s h d at q e = rw (q, e)
 
-module _ (s : List ℕ) (h d : Bool) (at : ℕ) {b i g : List ℕ} where
-  pub tables-cut : bits 10 s at ≡ fault CutSheet → Answers s (behindBits h d s at) (Refused CutSheet) b i g
+module _ (s : List ℕ) (h d : Bool) (at : ℕ) {b i g m₀ m₁ : List ℕ} where
+  pub tables-cut : bits 10 s at ≡ fault CutSheet → Answers s (behindBits h d s at) (Refused CutSheet) b i g m₀ m₁
   unfolding behindBits nameTable
   tables-cut e = record { says = rw e }
 
   module _ {n m : ℕ} (q : bits 10 s at ≡ got n m) {r : Step}
       (f : Fills (many n (positionOf name) s m) r n b × Fills (many n (digestOf name) s m) r n g) where
-    pub tables-fault : {e : Refusal} → r ≡ Fault e → Answers s (behindBits h d s at) (Refused e) b i g
+    pub tables-fault : {e : Refusal} → r ≡ Fault e → Answers s (behindBits h d s at) (Refused e) b i g m₀ m₁
     unfolding behindBits nameTable
     tables-fault t = record { says = rw (q, stopped (placed-checks name n s m (fills-checks (f .0))) t) }
 
-    pub tables-rest : {c : Cursor} {u : Decoded} → r ≡ At c →
-        ForNames n (λ ns. AnswersItems s ns (behindNames h d ns s (c .at)) u i) →
-        Answers s (behindBits h d s at) u b i g
-    tables-rest {c} {u} t a =
+    -- what the names are known to be before the items are read
+    pub names-ready : {c : Cursor} → r ≡ At c → Limited s → n ≤ length b →
+        Named s (take n b) × (take n g ≡ digestsAt s (take n b))
+    names-ready t l room =
+        let k = located name s n m (f .0) t in (
+          table-named (k .table) room l (omega (arith, field-lt 10 s at q)),
+          table-digests (k .table) room (digests-filled name s n m (f .1) t (k .decoded)),
+        )
+
+    pub tables-rest : {c : Cursor} {u : Decoded} → r ≡ At c → n ≤ length b →
+        AnswersItems s (namesAt s (take n b)) (behindNames h d (namesAt s (take n b)) s (c .at)) u i m₀ m₁ →
+        Answers s (behindBits h d s at) u b i g m₀ m₁
+    tables-rest {c} {u} t room a =
         let l = located name s n m (f .0) t in
-        by-answer u l (a (l .values) (l .table .count))
+        by-answer u l (rw (table-names (l .table) room) at a)
       where
         by-answer : (u : Decoded) (l : Located name s n m b (c .at)) →
-            AnswersItems s (l .values) (behindNames h d (l .values) s (c .at)) u i → Answers s (behindBits h d s at) u b i g
+            AnswersItems s (l .values) (behindNames h d (l .values) s (c .at)) u i m₀ m₁ →
+            Answers s (behindBits h d s at) u b i g m₀ m₁
         by-answer (Refused e) l a = record { says = behind-is s h d at q (l .decoded) ∙ a .says }
         by-answer (Whole o) l a =
             let z : n ≡ o .names = sym (l .table .count) ∙ sym (a .says .named) in

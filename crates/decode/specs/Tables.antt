@@ -11,6 +11,7 @@ use Rattle.format.specs.Sheet.{Name, Sheet}
 use Rattle.format.specs.Decoding.{name, item, nameTable, itemTable, tail}
 use Rattle.cursor.specs.Checking.{Table}
 use Rattle.names.specs.Digests.{digest}
+use Rattle.marks.specs.Marking.{markItems}
 use Rattle.decode.specs.declared.Decoded.{Decoded}
 use Rattle.decode.specs.declared.Decoded.the-variants.{Whole, Refused}
 
@@ -22,8 +23,9 @@ behindNames h d names = itemTable names >> λ is. tail (record { header = h; dox
 unfoldable pub behindBits : Bool → Bool → Dec Sheet
 behindBits h d = nameTable >> λ names. behindNames h d names
 
--- the decoder's p is a sheet, its items read with these names, and offsets tells where each item stands
-pub record Items (s : List ℕ) (names : List Name) (p : Got Sheet) (o : Outline) (offsets : List ℕ) : Type 0 where
+-- the decoder's p is a sheet, its items read with these names, offsets tells where each item stands, and their marks made
+-- v of u
+pub record Items (s : List ℕ) (names : List Name) (p : Got Sheet) (o : Outline) (offsets u v : List ℕ) : Type 0 where
   pub sheet : Sheet
   pub end : ℕ
   pub decoded : p ≡ got sheet end
@@ -32,14 +34,15 @@ pub record Items (s : List ℕ) (names : List Name) (p : Got Sheet) (o : Outline
   pub named : o .names ≡ length names
   pub few : o .items ≤ mostItems
   pub table : Table (item names (o .items)) s (o .items) offsets (sheet .items)
+  pub marked : v ≡ markItems (sheet .items) u
 
 -- and nameOffsets tells where each of the names stands, and digests begins with their digests
-pub record Tables (s : List ℕ) (p : Got Sheet) (o : Outline) (nameOffsets itemOffsets digests : List ℕ) : Type 0 where
+pub record Tables (s : List ℕ) (p : Got Sheet) (o : Outline) (nameOffsets itemOffsets digests u v : List ℕ) : Type 0 where
   pub names : List Name
   pub few : o .names ≤ mostNames
   pub table : Table name s (o .names) nameOffsets names
   pub digested : take (o .names) digests ≡ map digest names
-  pub items : Items s names p o itemOffsets
+  pub items : Items s names p o itemOffsets u v
 
 -- what an answer says of the decoder's p, where a decoded sheet is to be as P says
 abbrev pub saysOf : (Outline → Type 0) → Got Sheet → Decoded → Type 0
@@ -47,9 +50,9 @@ saysOf P p (Whole o) = P o
 saysOf P p (Refused e) = p ≡ fault e
 
 -- the answer to what stands behind the names
-pub record AnswersItems (s : List ℕ) (names : List Name) (p : Got Sheet) (r : Decoded) (offsets : List ℕ) : Type 0 where
-  pub says : saysOf (λ o. Items s names p o offsets) p r
+pub record AnswersItems (s : List ℕ) (names : List Name) (p : Got Sheet) (r : Decoded) (offsets u v : List ℕ) : Type 0 where
+  pub says : saysOf (λ o. Items s names p o offsets u v) p r
 
--- the answer to a sheet: its refusal, or the three tables of the decoded sheet
-pub record Answers (s : List ℕ) (p : Got Sheet) (r : Decoded) (nameOffsets itemOffsets digests : List ℕ) : Type 0 where
-  pub says : saysOf (λ o. Tables s p o nameOffsets itemOffsets digests) p r
+-- the answer to a sheet: its refusal, or the three tables of the decoded sheet and its marks
+pub record Answers (s : List ℕ) (p : Got Sheet) (r : Decoded) (nameOffsets itemOffsets digests u v : List ℕ) : Type 0 where
+  pub says : saysOf (λ o. Tables s p o nameOffsets itemOffsets digests u v) p r

@@ -6,15 +6,18 @@ use cursor::Step;
 use cursor::read;
 use format::Outline;
 use items::check_items;
+use marks::Mark;
 use names::check_names;
 use refusal::Refusal;
+ghost use mathlib.Core.Path.{_≡_};
 ghost use Prim.Native.Nat.{_≤_};
 ghost use lib.ListN.{length};
 ghost use Rattle.format.specs.Limits.{mostNames, mostItems};
 ghost use Rattle.format.specs.Sheet.{Sheet};
 ghost use Rattle.format.specs.Decoding.{tail, sheet as sheetOf, decode as decodeOf};
 ghost use Rattle.cursor.specs.Checking.{Limited, Checks};
-ghost use Rattle.items.specs.Parts.{ForNames};
+ghost use Rattle.names.specs.Naming.{namesAt, Named};
+ghost use Rattle.names.specs.Digests.{digestsAt};
 ghost use Rattle.decode.specs.Tables.{behindNames, behindBits, AnswersItems, Answers};
 
 // The answer to a sheet.
@@ -45,37 +48,43 @@ fn check_tail(s: &[u8], c: Cursor) -> Step
     }
 }
 
-// The item table and the tail at c, behind so many names.
+// The item table and the tail at c, behind the names.
 fn decode_items(
     s: &[u8],
+    names: &[u32],
+    digests: &[u32],
     c: Cursor,
     header: bool,
     doxygen: bool,
-    n: u32,
     items: &mut [u32],
+    marks: &mut [u8],
 ) -> Decoded
-    requires { ⌜ Limited (now s) × (mostItems ≤ length (now items)) ⌝ }
-    ensures { λ r. ⌜ ForNames n (λ ns.
-        AnswersItems (now (s .entry)) ns (behindNames header doxygen ns (now (s .entry)) (c .at)) r
-        (now (items .exit))) ⌝ }
+    requires { ⌜ Named (now s) (now names) × (now digests ≡ digestsAt (now s) (now names)) ×
+        (mostItems ≤ length (now items)) ⌝ }
+    ensures { λ r. ⌜ AnswersItems (now (s .entry)) (namesAt (now (s .entry)) (now (names .entry)))
+        (behindNames header doxygen (namesAt (now (s .entry)) (now (names .entry))) (now (s .entry)) (c .at)) r
+        (now (items .exit)) (now (marks .entry)) (now (marks .exit)) ⌝ }
 {
     let f = read(s, c, 8);
     match f {
         Field::Cut => Decoded::Refused(Refusal::CutSheet),
         Field::Value(k, first) => {
-            let a = check_items(s, first, n, k, items);
+            let a = check_items(s, names, digests, first, k, items, marks);
             match a {
                 Step::Fault(e) => Decoded::Refused(e),
                 Step::At(c1) => {
                     let b = check_tail(s, c1);
                     match b {
                         Step::Fault(e) => Decoded::Refused(e),
-                        Step::At(_) => Decoded::Whole(Outline {
-                            header,
-                            doxygen,
-                            names: n,
-                            items: k,
-                        }),
+                        Step::At(_) => {
+                            let n = names.len() as u32;
+                            Decoded::Whole(Outline {
+                                header,
+                                doxygen,
+                                names: n,
+                                items: k,
+                            })
+                        }
                     }
                 }
             }
@@ -92,11 +101,12 @@ fn decode_tables(
     names: &mut [u32],
     items: &mut [u32],
     digests: &mut [u32],
+    marks: &mut [u8],
 ) -> Decoded
     requires { ⌜ Limited (now s) × (mostNames ≤ length (now names)) × (mostItems ≤ length (now items)) ×
         (mostNames ≤ length (now digests)) ⌝ }
     ensures { λ r. ⌜ Answers (now (s .entry)) (behindBits header doxygen (now (s .entry)) (c .at)) r
-        (now (names .exit)) (now (items .exit)) (now (digests .exit)) ⌝ }
+        (now (names .exit)) (now (items .exit)) (now (digests .exit)) (now (marks .entry)) (now (marks .exit)) ⌝ }
 {
     let f = read(s, c, 10);
     match f {
@@ -105,7 +115,19 @@ fn decode_tables(
             let a = check_names(s, first, n, names, digests);
             match a {
                 Step::Fault(e) => Decoded::Refused(e),
-                Step::At(c1) => decode_items(s, c1, header, doxygen, n, items),
+                Step::At(c1) => {
+                    let k = n as usize;
+                    decode_items(
+                        s,
+                        &names[..k],
+                        &digests[..k],
+                        c1,
+                        header,
+                        doxygen,
+                        items,
+                        marks,
+                    )
+                }
             }
         }
     }
@@ -118,11 +140,12 @@ fn decode_fields(
     names: &mut [u32],
     items: &mut [u32],
     digests: &mut [u32],
+    marks: &mut [u8],
 ) -> Decoded
     requires { ⌜ Limited (now s) × (mostNames ≤ length (now names)) × (mostItems ≤ length (now items)) ×
         (mostNames ≤ length (now digests)) ⌝ }
     ensures { λ r. ⌜ Answers (now (s .entry)) (sheetOf (now (s .entry)) (c .at)) r
-        (now (names .exit)) (now (items .exit)) (now (digests .exit)) ⌝ }
+        (now (names .exit)) (now (items .exit)) (now (digests .exit)) (now (marks .entry)) (now (marks .exit)) ⌝ }
 {
     let f = read(s, c, 4);
     match f {
@@ -146,6 +169,7 @@ fn decode_fields(
                             names,
                             items,
                             digests,
+                            marks,
                         ),
                     }
                 }
@@ -160,12 +184,13 @@ pub fn decode(
     names: &mut [u32; Outline::NAMES],
     items: &mut [u32; Outline::ITEMS],
     digests: &mut [u32; Outline::NAMES],
+    marks: &mut [u8; Mark::PLACES],
 ) -> Decoded
     ensures { λ r. ⌜ Answers (now (sheet .entry)) (decodeOf (now (sheet .entry))) r
-        (now (names .exit)) (now (items .exit)) (now (digests .exit)) ⌝ }
+        (now (names .exit)) (now (items .exit)) (now (digests .exit)) (now (marks .entry)) (now (marks .exit)) ⌝ }
 {
     if Cursor::SHEET < sheet.len() {
         return Decoded::Refused(Refusal::CutSheet);
     }
-    decode_fields(sheet, Cursor::new(0), names, items, digests)
+    decode_fields(sheet, Cursor::new(0), names, items, digests, marks)
 }

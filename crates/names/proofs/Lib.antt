@@ -2,3 +2,4 @@ pub mod WordLaws
 mod FetchLaws
 pub mod NameLaws
 pub mod DigestLaws
+pub mod NamedLaws

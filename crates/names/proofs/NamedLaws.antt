@@ -1,0 +1,52 @@
+-- Laws of a table of positions: the values that stand there, and a table of names.
+use mathlib.Core.Path.{_≡_, refl, sym, ap, _∙_}
+use mathlib.Core.List.{List, [], map}
+use Prim.Native.Nat.{ℕ, _<_, _≤_}
+use lib.ListN.{length, getD, take, length-map}
+use lib.Seq.{getD-take, length-take-le, ext-getD}
+use Rattle.format.specs.Limits.{mostNames}
+use Rattle.format.specs.Decode.{Dec}
+use Rattle.format.specs.Sheet.{Name}
+use Rattle.format.specs.Decoding.{name}
+use Rattle.cursor.specs.Checking.{Limited, Table}
+use Rattle.cursor.specs.Yielding.{valueOr, Yields}
+use Rattle.cursor.proofs.YieldLaws.{yields, yielded}
+use Rattle.names.specs.Naming.{nameAt, namesAt, Named}
+use Rattle.names.specs.Digests.{digest, digestsAt}
+use Rattle.names.proofs.NameLaws.{map-at, digests-names}
+
+-- ---- the values of a table of positions
+
+module _ {A : Type 0} (d : Dec A) (z : A) {s : List ℕ} {n : ℕ} {offsets : List ℕ} {values : List A}
+    (t : Table d s n offsets values) (h : n ≤ length offsets) where
+  pub table-each : (i : ℕ) → i < n → Yields (d s (getD (take n offsets) i 0)) (getD values i z)
+  table-each i l = rw (getD-take n offsets i 0 l) (yields (t .each i z l .1))
+
+  pub table-values : map (λ at. valueOr z (d s at)) (take n offsets) ≡ values
+  table-values =
+      let k : length (take n offsets) ≡ n = length-take-le n offsets h in
+      let m : length (map (λ at. valueOr z (d s at)) (take n offsets)) ≡ n =
+      length-map (take n offsets) (λ at. valueOr z (d s at)) ∙ k in
+      ext-getD z (map (λ at. valueOr z (d s at)) (take n offsets)) values (m ∙ sym (t .count))
+      (λ i l. let q : i < n = rw m at l in
+      map-at (λ at. valueOr z (d s at)) (take n offsets) i z (rw k q) ∙ yielded z (table-each i q))
+
+-- ---- names
+
+module _ {s : List ℕ} {n : ℕ} {offsets : List ℕ} {values : List Name} (t : Table name s n offsets values)
+    (room : n ≤ length offsets) where
+  pub table-names : namesAt s (take n offsets) ≡ values
+  unfolding namesAt nameAt
+  table-names = table-values name [] t room
+
+  pub table-digests : {ds : List ℕ} → ds ≡ map digest values → ds ≡ digestsAt s (take n offsets)
+  table-digests e = e ∙ ap (λ (ns : List Name). map digest ns) (sym table-names) ∙ digests-names s (take n offsets)
+
+  pub table-named : Limited s → n ≤ mostNames → Named s (take n offsets)
+  unfolding nameAt
+  table-named l few = record {
+    limited = l;
+    few = rw (length-take-le n offsets room) few;
+    each = λ i h. (let y = table-each name [] t room i (rw (length-take-le n offsets room) at h) in
+        rw (yielded [] y) y);
+  }
