@@ -4,7 +4,7 @@ use mathlib.Core.List.{List}
 use mathlib.Core.Bool.{Bool, true, false}
 use Prim.Native.Nat.{ℕ, _≤_}
 use native.Mathlib.Nat.{le-trans}
-use lib.ListN.{length, take}
+use lib.ListN.{length, take, replicate}
 use Rattle.refusal.specs.declared.Refusal.{Refusal}
 use Rattle.refusal.specs.declared.Refusal.the-variants.{WrongPart, Taken, UnfitArgument, Ring}
 use Rattle.format.specs.Limits.{mostNames, mostItems}
@@ -14,6 +14,8 @@ use Rattle.format.specs.Decoding.{decode}
 use Rattle.format.specs.declared.Outline.{Outline}
 use Rattle.decode.specs.Tables.{Tables}
 use Rattle.decode.proofs.AnswerLaws.{decoded-limited}
+use Rattle.marks.specs.Marking.{places}
+use Rattle.judge.specs.Marked.{Marked}
 use Rattle.view.specs.Values.{itemsAt, Ready}
 use Rattle.view.proofs.WholeLaws.{ready, items-are}
 use Rattle.rules.specs.declared.Checked.{Checked}
@@ -44,15 +46,20 @@ check-decoded s {x} h =
     rw h (by-rules (wrongPart (x .items)) (taken (x .items)) (unfitArgument (x .items)) (ring (x .items)) x)
 
 -- a decoded sheet's items are those that its tables give
-pub check-tables : (s : List ℕ) {o : Outline} {names items digests : List ℕ} {r : Checked} →
-    Tables s (decode s) o names items digests → mostNames ≤ length names → mostItems ≤ length items →
-    r ≡ ruledItems (itemsAt s (take (o .names) names) (take (o .items) items)) → r ≡ check s
-check-tables s {o} {names} {items} t a b e =
-    e ∙ ap ruledItems (items-are t (le-trans (t .few) a) (le-trans (t .items .few) b)) ∙
-    sym (check-decoded s (t .items .decoded))
+module _ (s : List ℕ) {o : Outline} {names items digests marks : List ℕ}
+    (t : Tables s (decode s) o names items digests (replicate places 0) marks) (a : mostNames ≤ length names)
+    (b : mostItems ≤ length items) where
+  pub check-tables : {r : Checked} → r ≡ ruledItems (itemsAt s (take (o .names) names) (take (o .items) items)) →
+      r ≡ check s
+  check-tables e =
+      e ∙ ap ruledItems (items-are t (le-trans (t .few) a) (le-trans (t .items .few) b)) ∙
+      sym (check-decoded s (t .items .decoded))
 
-pub ready-tables : (s : List ℕ) {o : Outline} {names items digests : List ℕ} → Tables s (decode s) o names items digests →
-    mostNames ≤ length names → mostItems ≤ length items →
-    Ready s (take (o .names) names) (take (o .items) items) (take (o .names) digests)
-ready-tables s t a b =
-    ready t (le-trans (t .few) a) (le-trans (t .items .few) b) (decoded-limited s (t .items .decoded))
+  pub ready-tables : Ready s (take (o .names) names) (take (o .items) items) (take (o .names) digests)
+  ready-tables =
+      ready t (le-trans (t .few) a) (le-trans (t .items .few) b) (decoded-limited s (t .items .decoded))
+
+  pub marked-tables : Marked s (take (o .names) names) (take (o .items) items) marks
+  marked-tables = record {
+    is = rw (items-are t (le-trans (t .few) a) (le-trans (t .items .few) b)) (t .items .marked);
+  }
