@@ -1,4 +1,4 @@
--- Written by tools/proofkit from answers/+write_type+write_type_space.tpl (65eae20d 38b9befa).
+-- Written by tools/proofkit from answers/+write_type+write_type_space.tpl (65eae20d 12b49d0f).
 use borrow.Author.Needs.{needs}
 use Prim.Native.Nat.{ℕ, _+_, _-_, _*_, _<_}
 use native.Mathlib.Omega.{arith}
@@ -27,13 +27,13 @@ use Rattle.write_type.proofs.+write_type+write_type_space.Lts-write_typ
 use Rattle.write_type.proofs.write_type_space.Reads as write-type-space
 use Rattle.write_type.proofs.write_type_space.Kinds as write-type-space-kinds
 use Rattle.write_type.proofs.+write_type+write_type_space.Lts-write_type_space as write-type-space-lts
+use Rattle.cursor.proofs.fields.field.Reads as field-reads
 use Rattle.cursor.proofs.width.Reads as width-reads
 use Rattle.mangle.proofs.write_full_name.Reads as write-full-name-reads
 use Rattle.sink.proofs.put_bytes.Reads as put-bytes-reads
 use Rattle.sink.proofs.put_decimal.Reads as put-decimal-reads
 use Rattle.sink.proofs.put_when.Reads as put-when-reads
 use Rattle.types.proofs.kind_of.Reads as kind-of-reads
-use Rattle.view.proofs.field.Reads as field-reads
 use Rattle.write_atom.proofs.put_pointer_begin.Reads as put-pointer-begin-reads
 use Rattle.write_atom.proofs.put_pointer_end.Reads as put-pointer-end-reads
 use Rattle.write_atom.proofs.put_template.Reads as put-template-reads
