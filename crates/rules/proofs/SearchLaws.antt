@@ -1,4 +1,4 @@
--- Laws of searches in a list: `any`, `twice` and `gather`.
+-- Laws of searches in a list: `any`, `twice` and `gather`; and of a table that is filled from its front.
 use mathlib.Core.Path.{_≡_, refl, sym, ap, ap₂, _∙_}
 use mathlib.Core.List.{List, [], _∷_, _++_, map}
 use mathlib.Core.Bool.{Bool, true, false, _||_, false≢true}
@@ -6,10 +6,10 @@ use Prim.Native.Nat.{ℕ, suc, _+_, _<_, _≤_}
 use native.Mathlib.Omega.{arith}
 use native.Mathlib.Numerals.{add-one}
 use lib.Dec.{eqb}
-use lib.ListN.{length, getD, drop, drop-of-length-le}
-use lib.Seq.{drop-cons}
-use borrow.Author.Tests.{eq-eqb}
-use Rattle.lexical.proofs.BoolLaws.{or-cases, or-left, or-right, fails-too}
+use lib.ListN.{length, getD, set, drop, drop-of-length-le}
+use lib.Seq.{drop-cons, getD-set-same, getD-set-other}
+use borrow.Author.Tests.{eq-eqb, eqb-true, eqb-false}
+use Rattle.lexical.proofs.BoolLaws.{by-cases, or-cases, or-left, or-right, fails-too}
 use Rattle.rules.specs.Rules.{any, twice, gather}
 
 -- ---- the whole list
@@ -118,3 +118,13 @@ module _ {A : Type 0} (f : A → ℕ) (equal : A → A → Bool) (keyed : (x y :
 
   pub apart-keys : (xs : List A) → twice eqb (map f xs) ≡ false → twice equal xs ≡ false
   apart-keys xs = apart-among (λ x. Unit) f equal (λ x y p q. keyed x y) xs (λ z i l. tt)
+
+-- ---- a table that is filled from its front
+
+-- one more entry of the table is as it should be
+pub filled-turn : (P : ℕ → ℕ → Type 0) (b : List ℕ) (i : ℕ) {x : ℕ} → i < length b → P i x →
+    ((k : ℕ) → k < i → P k (getD b k 0)) → (k : ℕ) → k < i + 1 → P k (getD (set b i x) k 0)
+filled-turn P b i {x} l p h k m =
+    by-cases (eqb k i)
+    (λ e. rw (eqb-true k i e, getD-set-same b i x 0 l) p)
+    (λ e. let d : k ≡ i → ⊥ = eqb-false k i e in rw (getD-set-other b i k x 0 d) (h k (omega arith)))
