@@ -1,4 +1,3 @@
-pub mod SearchLaws
 pub mod SegmentLaws
 pub mod NameLaws
 pub mod SameLaws
@@ -6,3 +5,4 @@ pub mod ItemLaws
 pub mod PairLaws
 pub mod ListLaws
 pub mod ViewLaws
+pub mod KeyLaws

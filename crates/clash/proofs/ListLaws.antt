@@ -1,15 +1,19 @@
--- Laws of searches through the items of a decoded sheet.
+-- Laws of searches through the items of a decoded sheet, and of a table that is filled from its front.
 use mathlib.Core.Path.{_≡_, refl, sym, ap, _∙_}
 use mathlib.Core.List.{List, []}
 use mathlib.Core.Bool.{Bool, true, false}
 use Prim.Native.Nat.{ℕ, _+_, _<_, _≤_}
 use native.Mathlib.Omega.{arith}
-use lib.ListN.{length, getD, drop, length-map}
+use lib.Dec.{eqb}
+use lib.ListN.{length, getD, drop, set, length-map}
+use lib.Seq.{getD-set-same, getD-set-other}
+use borrow.Author.Tests.{eqb-true, eqb-false}
+use Rattle.lexical.proofs.BoolLaws.{by-cases}
 use Rattle.format.specs.Sheet.{cxxType, Item}
 use Rattle.syntax.specs.Items.{itemAt}
 use Rattle.rules.specs.Rules.{any, twice}
 use Rattle.view.specs.Values.{oneItemAt, itemsAt, itemNo}
-use Rattle.clash.proofs.SearchLaws.{any-turn, any-hit, any-end, twice-turn, twice-hit, twice-end}
+use Rattle.rules.proofs.SearchLaws.{any-turn, any-hit, any-end, twice-turn, twice-hit, twice-end}
 
 abbrev noItem : Item
 noItem = record { namespace = []; cxx = []; body = cxxType false }
@@ -58,3 +62,11 @@ module _ (s names items : List ℕ) where
 
     pub pairs-end : (equal : Item → Item → Bool) → twice equal (drop i all) ≡ false
     pairs-end equal = twice-end all past equal
+
+-- one more entry of the table is as it should be
+pub filled-turn : (P : ℕ → ℕ → Type 0) (b : List ℕ) (i : ℕ) {x : ℕ} → i < length b → P i x →
+    ((k : ℕ) → k < i → P k (getD b k 0)) → (k : ℕ) → k < i + 1 → P k (getD (set b i x) k 0)
+filled-turn P b i {x} l p h k m =
+    by-cases (eqb k i)
+    (λ e. rw (eqb-true k i e, getD-set-same b i x 0 l) p)
+    (λ e. let d : k ≡ i → ⊥ = eqb-false k i e in rw (getD-set-other b i k x 0 d) (h k (omega arith)))

@@ -105,7 +105,7 @@ module _ {items : List Item} {x y : Item} (px : Proper items x) (py : Proper ite
       let q : same (itemSymbol items x) (itemSymbol items y) ≡ true = rw (fx, fy) at h in
       rw (fx, fy) (symbol-parts fx fy (same-eq (itemSymbol items x) (itemSymbol items y) q) .2)
 
-  clash-own : clashes items x y ≡ true → ownName x ≡ ownName y
+  pub clash-own : clashes items x y ≡ true → ownName x ≡ ownName y
   unfolding clashes
   clash-own h =
       by-cases (isFunction (x .body))

@@ -10,18 +10,21 @@ use borrow.Author.Tests.{eqb-true, eqb-false}
 use Rattle.lexical.specs.Bytes.{same}
 use Rattle.lexical.proofs.BoolLaws.{by-cases}
 use Rattle.format.specs.Decode.{pick}
+use Rattle.format.specs.Bits.{bits, widthOf}
 use Rattle.format.specs.Sheet.{Name, Function, Item}
 use Rattle.format.specs.Decoding.{formOf}
 use Rattle.syntax.specs.Items.{itemAt, fullName, isFunction}
+use Rattle.view.specs.declared.Found.{Found}
 use Rattle.view.specs.declared.ItemView.{ItemView}
 use Rattle.view.specs.declared.FunctionView.{FunctionView}
 use Rattle.view.specs.Values.{nameAt, itemsAt, functionIn, functionAt, Whole, itemNo}
-use Rattle.names.specs.Digests.{digest, digestsAt}
-use Rattle.names.proofs.NameLaws.{digest-there}
-use Rattle.view.specs.Views.{isFunctionKind, ItemAt, FunctionAt}
+use Rattle.view.specs.Digests.{digest, digestsAt}
+use Rattle.view.proofs.NameLaws.{digest-there, name-read}
+use Rattle.view.proofs.FunctionLaws.{function-there}
+use Rattle.view.specs.Views.{Finds, isFunctionKind, ItemAt, FunctionAt}
 use Rattle.clash.specs.Clashes.{sameNames, ownerNames, itemSymbol, clashes, ownName, Keyed}
 use Rattle.clash.proofs.NameLaws.{names-turn, names-differ, names-end, names-unlike}
-use Rattle.clash.proofs.ItemLaws.{kind-is, Proper, proper}
+use Rattle.clash.proofs.ItemLaws.{function-kind, kind-is, Proper, proper}
 use Rattle.clash.proofs.SameLaws.{full-name-same, symbol-same, keys-differ}
 
 and-nothing : (b : Bool) → (b && true) ≡ b
@@ -40,11 +43,15 @@ module _ {s names items : List ℕ} {v : ItemView} {i : ℕ} (a : ItemAt s names
   unfolding ownName
   own-type h = (a .view .named, rw (callable h) (rw (← e) (a .view .cxx)))
 
-  pub own-function : {f : FunctionView} → isFunctionKind (v .kind) ≡ true → f .number ≡ v .number →
-      FunctionAt s names items f →
-      (f .rust < length names) × (nameAt s (getD names (f .rust) 0) ≡ ownName (itemNo s names items i))
+  -- the Rust name's index stands first in a function's body
+  pub own-function : {w : ℕ} {r : Found} → isFunctionKind (v .kind) ≡ true → w ≡ widthOf (length names) →
+      Finds (bits w s (v .body .at)) w r →
+      (r .value < length names) × (nameAt s (getD names (r .value) 0) ≡ ownName (itemNo s names items i))
   unfolding ownName functionAt
-  own-function {f} h d g = (g .view .named, rw (callable h) (rw (← e, ← d) (g .view .rust)))
+  own-function {w} {r} h z f =
+      let t = function-there a (function-kind (v .kind) h) in
+      let q = name-read s names (v .body .at) (t .1 .rust) (rw z at f) in
+      (q .there, rw (callable h) (rw (← e) (q .name)))
 
 -- the digest of the name of this index
 pub key-there : (s names : List ℕ) {digests : List ℕ} (n : ℕ) {x : Name} → digests ≡ digestsAt s names → n < length names →

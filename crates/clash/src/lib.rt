@@ -1,13 +1,16 @@
 // Rule 10 of document 01's table for pairs of items: two types with the same full name, two functions with the same
 // symbol. Each is told by the names that it is made of.
+use cursor::width;
 use format::Outline;
-use names::same_name;
+use marks::repeats;
 use view::FunctionView;
 use view::ItemView;
+use view::field;
 use view::function;
 use view::is_function;
 use view::item;
 use view::namespace;
+use view::same_name;
 ghost use mathlib.Core.Path.{_≡_};
 ghost use mathlib.Core.Bool.{true, _||_};
 ghost use Prim.Native.Nat.{_+_, _<_, _≤_};
@@ -233,8 +236,8 @@ fn own_name(s: &[u8], names: &[u32], items: &[u32], i: u32) -> u32
     let kind = v.kind;
     let callable = is_function(kind);
     if callable {
-        let f = function(s, names, items, v);
-        return f.rust;
+        let rust = field(s, v.body, width(names.len() as u32));
+        return rust.value;
     }
     v.name
 }
@@ -254,7 +257,8 @@ fn fill_keys(s: &[u8], names: &[u32], items: &[u32], digests: &[u32], keys: &mut
     }
 }
 
-// Whether two types have the same full name, or two functions the same symbol.
+// Whether two types have the same full name, or two functions the same symbol. No pair is looked at where no key
+// repeats.
 pub fn name_clash(s: &[u8], names: &[u32], items: &[u32], digests: &[u32]) -> bool
     requires { ⌜ Ready (now s) (now names) (now items) (now digests) ⌝ }
     ensures { λ r. ⌜ r ≡
@@ -262,7 +266,12 @@ pub fn name_clash(s: &[u8], names: &[u32], items: &[u32], digests: &[u32]) -> bo
         twice same (gather (symbol (itemsAt (now (s .entry)) (now (names .entry)) (now (items .entry))))
         (itemsAt (now (s .entry)) (now (names .entry)) (now (items .entry))))) ⌝ }
 {
+    let n = items.len();
     let mut keys = [0u32; Outline::ITEMS];
     fill_keys(s, names, items, digests, &mut keys);
-    clashing(s, names, items, digests, &keys)
+    let some = repeats(&keys[..n]);
+    if some {
+        return clashing(s, names, items, digests, &keys);
+    }
+    false
 }

@@ -1,4 +1,1 @@
-mod SeeLaws
-mod AnyLaws
-mod WrongLaws
-mod UnfitLaws
+mod MarkedLaws

@@ -1,2 +1,1 @@
-pub mod Seeing
-pub mod Kinds
+pub mod Marked

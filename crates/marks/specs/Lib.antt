@@ -1,2 +1,4 @@
 pub mod Gathering
 pub mod Marking
+pub mod Reading
+pub mod Keys

@@ -1,3 +1,2 @@
 mod ReservedLaws
-mod ArgumentLaws
 mod TakenLaws

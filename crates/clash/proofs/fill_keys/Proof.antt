@@ -1,4 +1,4 @@
--- Written by tools/proofkit from answers/fill_keys.tpl (def1acee 1658ec6e).
+-- Written by tools/proofkit from answers/fill_keys.tpl (5007b731 ba625ae4).
 use borrow.Author.Needs.{needs}
 use native.Mathlib.Omega.{arith}
 use mathlib.Core.Path.{_≡_, refl, sym, ap, _∙_}
@@ -8,7 +8,7 @@ use Rattle.view.specs.Digests.{digest}
 use Rattle.view.proofs.NameLaws.{digests-length, digest-there}
 use Rattle.view.specs.Values.{itemNo}
 use Rattle.clash.specs.Clashes.{ownName}
-use Rattle.clash.proofs.SearchLaws.{filled-turn}
+use Rattle.clash.proofs.ListLaws.{filled-turn}
 use Rattle.clash.proofs.ViewLaws.{key-there}
 use Rattle.clash.proofs.fill_keys.Statement.{statement}
 use Rattle.clash.proofs.fill_keys.Tie as tie

@@ -1,32 +1,32 @@
--- Written by tools/proofkit from answers/wrong_part.tpl (56e8c432 7b2409fe).
+-- Written by tools/proofkit from answers/wrong_part.tpl (0f5fb1fd 0050360c).
 use borrow.Author.Needs.{needs}
 use native.Mathlib.Omega.{arith}
-use mathlib.Core.Path.{_≡_, refl, sym, _∙_}
+use mathlib.Core.Path.{_≡_, sym, _∙_}
 use Prim.Native.Nat.{_≤_, _-_}
-use lib.ListN.{length, drop}
-use Rattle.rules.specs.Rules.{any, wrongPart}
-use Rattle.cursor.proofs.CheckLaws.{known}
+use lib.ListN.{length}
+use Rattle.rules.specs.Rules.{wrongPart}
 use Rattle.view.specs.Values.{itemsAt}
-use Rattle.judge.proofs.AnyLaws.{item-turn, item-yes, item-end}
-use Rattle.judge.proofs.WrongLaws.{itemWrong}
+use Rattle.marks.specs.Reading.{someFrom}
+use Rattle.marks.proofs.SomeLaws.{some-turn, some-yes, some-end}
+use Rattle.judge.specs.Marked.{namedFunction}
+use Rattle.judge.proofs.MarkedLaws.{wrong-marked}
 use Rattle.judge.proofs.wrong_part.Statement.{statement}
 use Rattle.judge.proofs.wrong_part.Tie as tie
 
 abbrev Inv-loop : tie.InvT-loop
-Inv-loop s names items n i₀ i = (i ≤ length items) × (any (itemWrong s names items) (itemsAt s names items) ≡ any (itemWrong s names items) (drop i (itemsAt s names items)))
+Inv-loop s names items marks n i₀ i = (i ≤ length items) × (wrongPart (itemsAt s names items) ≡ someFrom (namedFunction s names items marks) i (length items - i))
 
 abbrev μ-loop : tie.MeasureT-loop
-μ-loop s names items n i₀ i = length items - i
+μ-loop s names items marks n i₀ i = length items - i
 
 loop-holds : tie.Need-loop-holds Inv-loop μ-loop
-loop-holds c = (omega arith, refl)
+loop-holds c = (omega arith, wrong-marked (c .before .before .before .pre .1) (c .before .before .before .pre .0 .few))
 
-wrong-item-requires : tie.Need-wrong-item-requires Inv-loop μ-loop
-wrong-item-requires c κs = (c .before .before .before .before .before .pre, c .loop-test .taken)
+named-function-requires : tie.Need-named-function-requires Inv-loop μ-loop
+named-function-requires c κs = (c .before .before .before .before .before .pre .0, c .loop-test .taken)
 
 returns : tie.Need-returns Inv-loop μ-loop
-unfolding wrongPart
-returns c = sym (c .before .before .before .loop .inv .1 ∙ item-yes _ _ _ (itemWrong (c .before .before .before .before .before .before .before .args .s .now) (c .before .before .before .before .before .before .before .args .names .now) (c .before .before .before .before .before .before .before .args .items .now)) _ (c .before .before .loop-test .taken) (known (c .before .wrong-item .ensures) (c .if1 .taken)))
+returns c = sym (c .before .before .before .loop .inv .1 ∙ some-yes (namedFunction (c .before .before .before .before .before .before .before .args .s .now) (c .before .before .before .before .before .before .before .args .names .now) (c .before .before .before .before .before .before .before .args .items .now) (c .before .before .before .before .before .before .before .args .marks .now)) _ _ (c .before .before .loop-test .taken) (sym (c .before .named-function .ensures) ∙ c .if1 .taken))
 
 add-i : tie.Need-add-i Inv-loop μ-loop
 add-i c = omega arith
@@ -35,11 +35,10 @@ loop-less : tie.Need-loop-less Inv-loop μ-loop
 loop-less c = omega arith
 
 loop-again : tie.Need-loop-again Inv-loop μ-loop
-loop-again c = (omega arith, c .before .before .before .loop .inv .1 ∙ item-turn _ _ _ (itemWrong (c .before .before .before .before .before .before .before .args .s .now) (c .before .before .before .before .before .before .before .args .names .now) (c .before .before .before .before .before .before .before .args .items .now)) _ (c .before .before .loop-test .taken) (known (c .before .wrong-item .ensures) (c .if1 .left)))
+loop-again c = (omega arith, c .before .before .before .loop .inv .1 ∙ some-turn (namedFunction (c .before .before .before .before .before .before .before .args .s .now) (c .before .before .before .before .before .before .before .args .names .now) (c .before .before .before .before .before .before .before .args .items .now) (c .before .before .before .before .before .before .before .args .marks .now)) _ _ (c .before .before .loop-test .taken) (sym (c .before .named-function .ensures) ∙ c .if1 .left))
 
 returns-2 : tie.Need-returns-2 Inv-loop μ-loop
-unfolding wrongPart
-returns-2 c = sym (c .before .loop .inv .1 ∙ item-end _ _ _ (itemWrong (c .before .before .before .before .before .args .s .now) (c .before .before .before .before .before .args .names .now) (c .before .before .before .before .before .args .items .now)) _ (c .loop-test .left))
+returns-2 c = sym (c .before .loop .inv .1 ∙ some-end (namedFunction (c .before .before .before .before .before .args .s .now) (c .before .before .before .before .before .args .names .now) (c .before .before .before .before .before .args .items .now) (c .before .before .before .before .before .args .marks .now)) _ _ (c .loop-test .left))
 
 pub wrong-part-spec : {M : Type 1} → statement M
 wrong-part-spec =
@@ -49,7 +48,7 @@ wrong-part-spec =
     μ-loop
     (λ c. search needs)
     loop-holds
-    wrong-item-requires
+    named-function-requires
     returns
     add-i
     loop-less

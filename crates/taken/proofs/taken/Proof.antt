@@ -1,4 +1,4 @@
--- Written by tools/proofkit from answers/taken.tpl (d5878692 a7bc0a15).
+-- Written by tools/proofkit from answers/taken.tpl (684aa4fb 7389ba50).
 use borrow.Author.Needs.{needs}
 use Rattle.taken.proofs.TakenLaws.{taken-reserved, taken-clash, taken-argument}
 use Rattle.taken.proofs.taken.Statement.{statement}
@@ -13,11 +13,11 @@ name-clash-requires c κs = record { whole = c .before .before .before .before .
 returns-2 : tie.Need-returns-2
 returns-2 c = taken-clash _ (c .before .before .before .any-reserved .ensures) (c .before .before .if1 .left) (c .before .name-clash .ensures) (c .if2 .taken)
 
-repeats-requires : tie.Need-repeats-requires
-repeats-requires c κs = record { whole = c .before .before .before .before .before .before .before .before .pre .0; digested = c .before .before .before .before .before .before .before .before .pre .1 }
+repeated-name-requires : tie.Need-repeated-name-requires
+repeated-name-requires c κs = (c .before .before .before .before .before .before .before .before .pre .0, c .before .before .before .before .before .before .before .before .pre .2)
 
 returns-3 : tie.Need-returns-3
-returns-3 c = taken-argument _ (c .before .before .before .before .any-reserved .ensures) (c .before .before .before .if1 .left) (c .before .before .name-clash .ensures) (c .before .if2 .left) (c .repeats .ensures)
+returns-3 c = taken-argument _ (c .before .before .before .before .any-reserved .ensures) (c .before .before .before .if1 .left) (c .before .before .name-clash .ensures) (c .before .if2 .left) (c .repeated-name .ensures)
 
 pub taken-spec : {M : Type 1} → statement M
 taken-spec =
@@ -27,5 +27,5 @@ taken-spec =
     returns
     name-clash-requires
     returns-2
-    repeats-requires
+    repeated-name-requires
     returns-3)
