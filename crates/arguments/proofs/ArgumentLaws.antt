@@ -10,6 +10,7 @@ use lib.ListN.{length, getD, take, drop, set, length-map, List·getD-map, drop-o
 use lib.Seq.{set-set, drop-cons, getD-take, getD-set-same, getD-set-other, length-take-le, ext-getD}
 use borrow.Author.Tests.{eqb-true, eqb-false}
 use Rattle.lexical.specs.Bytes.{bytes, same}
+use Rattle.lexical.proofs.ByteLaws.{same-eq}
 use Rattle.lexical.proofs.BoolLaws.{by-cases}
 use Rattle.format.specs.Decode.{got, pick}
 use Rattle.format.specs.Bits.{bitsAt, widthOf}
@@ -18,7 +19,8 @@ use Rattle.format.specs.Sheet.{Name, Argument}
 use Rattle.format.specs.Limits.{mostArguments}
 use Rattle.format.specs.declared.TypeKind.{TypeKind}
 use Rattle.format.specs.Decoding.{nameOf, type, argument}
-use Rattle.rules.specs.Rules.{isCxxVector}
+use Rattle.rules.specs.Rules.{twice, isCxxVector}
+use Rattle.rules.proofs.SearchLaws.{apart-keys}
 use Rattle.cursor.specs.Checking.{Table}
 use Rattle.cursor.specs.Yielding.{valueOr, nextOf, Yields}
 use Rattle.cursor.proofs.YieldLaws.{yields, yielded, in-turn, got-value, got-next, bits-there}
@@ -28,7 +30,7 @@ use Rattle.names.proofs.NameLaws.{map-at, indexed, digest-there}
 use Rattle.types.specs.Kinds.{typeHere, kindOfType}
 use Rattle.marks.specs.Gathering.{each}
 use Rattle.marks.specs.Marking.{unfitAt, mark, markIf, isIndirectNow, namedItem, isError, unfitNow, errorItem, markError}
-use Rattle.marks.specs.Marking.{judgeArgument}
+use Rattle.marks.specs.Marking.{repeatedAt, judgeArgument, judgeArguments}
 use Rattle.arguments.specs.Arguments.{argumentHere, argumentsAt, Arguments, isVectorKind, judgeError, namesOf}
 use Rattle.arguments.specs.Arguments.{Indexes, Numbered}
 use Rattle.arguments.proofs.ErrorLaws.{vector-type}
@@ -213,3 +215,25 @@ module _ (s names : List ℕ) (items : ℕ) (offsets : List ℕ) where
         (λ i l. let q : i < length offsets = rw k at l in
         getD-take (length offsets) keys i 0 q ∙ p .key i q ∙ ap digest (sym (word-there i q)) ∙
         sym (List·getD-map digest words i []))
+
+-- ---- equal names
+
+pub few-keys : (n : ℕ) (keys : List ℕ) → n ≤ mostArguments → n ≤ length keys → length (take n keys) < 4294967296
+few-keys n keys l h = let e : length (take n keys) ≡ n = length-take-le n keys h in omega arith
+
+-- names with digests that are all different are all different
+pub names-apart : (ns : List Name) {keys : List ℕ} {close : Bool} → keys ≡ map digest ns → close ≡ twice eqb keys →
+    close ≡ false → twice same ns ≡ false
+names-apart ns e h f =
+    apart-keys digest same (λ x y q. ap digest (same-eq x y q)) ns (ap (twice eqb) (sym e) ∙ (sym h ∙ f))
+
+module _ (method throws : Bool) (xs : List Argument) (u : List ℕ) {v : List ℕ}
+    (e : v ≡ each (judgeArgument method throws) xs u) where
+  pub all-apart : twice same (map (λ a. a .name) xs) ≡ false → v ≡ judgeArguments method throws xs u
+  unfolding judgeArguments
+  all-apart h = e ∙ rw h
+
+  pub all-judged : {r : Bool} {z : List ℕ} → r ≡ twice same (map (λ a. a .name) xs) → z ≡ markIf r repeatedAt v →
+      z ≡ judgeArguments method throws xs u
+  unfolding judgeArguments
+  all-judged h g = g ∙ rw (h, e)

@@ -5,6 +5,7 @@ use cursor::width;
 use format::Template;
 use format::TypeKind;
 use marks::Mark;
+use marks::repeats;
 use marks::set_mark;
 use names::name_is;
 use names::same_name;
@@ -236,4 +237,43 @@ fn equal_names(s: &[u8], names: &[u32], digests: &[u32], numbers: &[u32]) -> boo
         i = i + 1;
     }
     found
+}
+
+// Marks what rules 10 and 11 want of the arguments at these positions, in a sheet of so many items.
+pub fn judge_arguments(
+    s: &[u8],
+    names: &[u32],
+    digests: &[u32],
+    items: u32,
+    offsets: &[u32],
+    method: bool,
+    throws: bool,
+    marks: &mut [u8],
+)
+    requires { ⌜ Named (now s) (now names) × (now digests ≡ digestsAt (now s) (now names)) ×
+        Arguments (now s) (now names) items (now offsets) ⌝ }
+    ensures { λ r. ⌜ now (marks .exit) ≡ judgeArguments method throws
+        (argumentsAt (now (s .entry)) (now (names .entry)) items (now (offsets .entry))) (now (marks .entry)) ⌝ }
+{
+    let mut numbers = [0u32; Count::MOST];
+    let mut keys = [0u32; Count::MOST];
+    judge_each(
+        s,
+        names,
+        digests,
+        items,
+        offsets,
+        method,
+        throws,
+        marks,
+        &mut numbers,
+        &mut keys,
+    );
+    let n = offsets.len();
+    let close = repeats(&keys[..n]);
+    if !close {
+        return;
+    }
+    let same = equal_names(s, names, digests, &numbers[..n]);
+    mark_if(marks, same, Mark::REPEATED);
 }
