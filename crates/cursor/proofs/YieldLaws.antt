@@ -19,7 +19,8 @@ use Rattle.cursor.specs.declared.Step.{Step}
 use Rattle.cursor.specs.declared.Step.the-variants.{At, Fault}
 use Rattle.cursor.specs.Checking.{Limited, ReadsField, Checks}
 use Rattle.cursor.proofs.CheckLaws.{stepped, stopped}
-use Rattle.cursor.proofs.FieldLaws.{value, cut, field-lt}
+use Rattle.cursor.proofs.FieldLaws.{value, cut, field-lt, field-next}
+use Rattle.cursor.proofs.CodeLaws.{bits-whole}
 use Rattle.cursor.specs.declared.Found.{Found}
 use Rattle.cursor.specs.Yielding.{valueOr, nextOf, Yields, Finds}
 
@@ -59,6 +60,13 @@ module _ (n : ℕ) (s : List ℕ) (at : ℕ) where
           pick b (got (bitsAt s at n) (at + n)) (fault CutSheet) ≡ got v m → m ≤ 8 * length s
       by-test true t e = let z : at + n ≡ m = cc in omega (arith, leb-true (at + n) (8 * length s) t)
       by-test false t e = absurd (let z : _≡_ {A = ℕ} 0 1 = cc in omega arith)
+
+  -- its value and its end, for code that reads it without a test
+  pub bits-there : {v m : ℕ} → bits n s at ≡ got v m → (at + n ≤ 8 * length s) × (v ≡ bitsAt s at n) × (m ≡ at + n)
+  bits-there {m} e =
+      let z : m ≡ at + n = field-next n s at e in
+      let l : at + n ≤ 8 * length s = omega (arith, field-end e) in
+      (l, got-value (sym e ∙ bits-whole n s at l refl), z)
 
   pub finds-value : {r : Field} {v : ℕ} {c : Cursor} → Limited s → ReadsField (bits n s at) r → r ≡ Value v c →
       Finds (bits n s at) n (record { value = v; next = c })

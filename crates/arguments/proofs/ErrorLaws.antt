@@ -1,0 +1,156 @@
+-- Laws of what rule 11 wants of a type, by its outermost kind.
+use mathlib.Core.Path.{_≡_, refl, sym, ap, _∙_}
+use mathlib.Core.List.{List, [], _∷_}
+use mathlib.Core.Bool.{Bool, true, false, _&&_, _||_, false≢true}
+use Prim.Native.Nat.{ℕ, zero, suc, _+_, _*_, _^_, _<_, _≤_}
+use native.Mathlib.Omega.{arith}
+use lib.ListN.{length, getD, set}
+use lib.Seq.{set-set}
+use lib.Dec.{eqb, ltb}
+use borrow.Author.Tests.{eqb-true}
+use Rattle.lexical.proofs.BoolLaws.{both}
+use Rattle.format.specs.Decode.{got, pick}
+use Rattle.format.specs.Bits.{bitsAt, bits, widthOf, index}
+use Rattle.format.specs.Types.{Ty, atom, named, template, pointer, str, fn, array}
+use Rattle.format.specs.declared.Atom.{Atom}
+use Rattle.format.specs.declared.Atom.the-variants as Atom
+use Rattle.format.specs.declared.Template.{Template}
+use Rattle.format.specs.declared.TypeKind.{TypeKind}
+use Rattle.format.specs.declared.TypeKind.the-variants as Kind
+use Rattle.format.specs.Decoding.{atoms, atomOf, typeBody, typeAt, type}
+use Rattle.syntax.specs.Types.{atomNumber, isIndirectTemplate}
+use Rattle.rules.specs.Rules.{isCxxVector}
+use Rattle.cursor.specs.Yielding.{nextOf, Yields}
+use Rattle.cursor.proofs.FieldLaws.{field-lt}
+use Rattle.cursor.proofs.WidthLaws.{index-field}
+use Rattle.cursor.proofs.YieldLaws.{in-turn, got-value, bits-there}
+use Rattle.types.specs.Kinds.{kindOfType}
+use Rattle.types.proofs.KindLaws.{behind-kind}
+use Rattle.marks.specs.Gathering.{each}
+use Rattle.marks.specs.Marking.{unfitAt, errorAt, mark, markIf, isIndirectNow, namedItem, markError}
+use Rattle.arguments.specs.Arguments.{isVectorKind, judgeError}
+
+pub vector-type : (t : Ty) → isVectorKind (kindOfType t) ≡ isCxxVector t
+vector-type (atom a) = refl
+vector-type (named i) = refl
+vector-type (template k t) = refl
+vector-type (pointer k m t) = refl
+vector-type str = refl
+vector-type (fn r ts) = refl
+vector-type (array t n) = refl
+
+-- ---- kinds that say all
+
+-- neither an atom, nor a name, nor indirect
+abbrev isPlainKind : TypeKind → Bool
+isPlainKind Kind.Atom = false
+isPlainKind Kind.Named = false
+isPlainKind (Kind.Template k) = false
+isPlainKind (Kind.Pointer k) = true
+isPlainKind Kind.Str = true
+isPlainKind Kind.Fn = true
+isPlainKind Kind.Array = false
+isPlainKind Kind.Bad = true
+
+abbrev isTemplateKind : TypeKind → Bool
+isTemplateKind (Kind.Template k) = true
+isTemplateKind Kind.Atom = false
+isTemplateKind Kind.Named = false
+isTemplateKind (Kind.Pointer k) = false
+isTemplateKind Kind.Str = false
+isTemplateKind Kind.Fn = false
+isTemplateKind Kind.Array = false
+isTemplateKind Kind.Bad = false
+
+abbrev isArrayKind : TypeKind → Bool
+isArrayKind Kind.Array = true
+isArrayKind (Kind.Template k) = false
+isArrayKind Kind.Atom = false
+isArrayKind Kind.Named = false
+isArrayKind (Kind.Pointer k) = false
+isArrayKind Kind.Str = false
+isArrayKind Kind.Fn = false
+isArrayKind Kind.Bad = false
+
+module _ (u : List ℕ) where
+  pub judge-plain : (t : Ty) (k : TypeKind) → k ≡ kindOfType t → isPlainKind k ≡ true → u ≡ judgeError t u
+  unfolding judgeError each
+  judge-plain (atom a) k e h = absurd (false≢true (sym (ap isPlainKind e) ∙ h))
+  judge-plain (named i) k e h = absurd (false≢true (sym (ap isPlainKind e) ∙ h))
+  judge-plain (template j t) k e h = absurd (false≢true (sym (ap isPlainKind e) ∙ h))
+  judge-plain (pointer j m t) k e h = refl
+  judge-plain str k e h = refl
+  judge-plain (fn r ts) k e h = refl
+  judge-plain (array t n) k e h = absurd (false≢true (sym (ap isPlainKind e) ∙ h))
+
+  pub judge-array : (t : Ty) {v : List ℕ} → Kind.Array ≡ kindOfType t → v ≡ mark unfitAt u → v ≡ judgeError t u
+  unfolding judgeError each
+  judge-array (atom a) e h = absurd (false≢true (sym (ap isArrayKind e)))
+  judge-array (named i) e h = absurd (false≢true (sym (ap isArrayKind e)))
+  judge-array (template j t) e h = absurd (false≢true (sym (ap isArrayKind e)))
+  judge-array (pointer j m t) e h = absurd (false≢true (sym (ap isArrayKind e)))
+  judge-array str e h = absurd (false≢true (sym (ap isArrayKind e)))
+  judge-array (fn r ts) e h = absurd (false≢true (sym (ap isArrayKind e)))
+  judge-array (array t n) e h = h
+
+  pub judge-template : (t : Ty) {k : Template} {b : Bool} {v : List ℕ} → Kind.Template k ≡ kindOfType t → b ≡ isIndirectTemplate k →
+      v ≡ markIf b unfitAt u → v ≡ judgeError t u
+  unfolding judgeError each
+  judge-template (template j t) {k} e f h = let z : k ≡ j = cc in h ∙ rw (f, z)
+  judge-template (atom a) e f h = absurd (false≢true (sym (ap isTemplateKind e)))
+  judge-template (named i) e f h = absurd (false≢true (sym (ap isTemplateKind e)))
+  judge-template (pointer j m t) e f h = absurd (false≢true (sym (ap isTemplateKind e)))
+  judge-template str e f h = absurd (false≢true (sym (ap isTemplateKind e)))
+  judge-template (fn r ts) e f h = absurd (false≢true (sym (ap isTemplateKind e)))
+  judge-template (array t n) e f h = absurd (false≢true (sym (ap isTemplateKind e)))
+
+-- ---- atoms and names, by what stands behind the kind
+
+-- the atoms of a list have the numbers from k on
+abbrev numbered : List Atom → ℕ → Bool
+numbered [] k = true
+numbered (x ∷ xs) k = eqb (atomNumber x) k && numbered xs (suc k)
+
+number-at : (xs : List Atom) (k i : ℕ) → numbered xs k ≡ true → i < length xs →
+    atomNumber (getD xs i Atom.Bool) ≡ k + i
+number-at [] k i h l = absurd (omega arith)
+number-at (x ∷ xs) k zero h l = eqb-true _ _ (both (eqb (atomNumber x) k) (numbered xs (suc k)) h .0) ∙ omega arith
+number-at (x ∷ xs) k (suc i) h l =
+    number-at xs (suc k) i (both (eqb (atomNumber x) k) (numbered xs (suc k)) h .1) (omega arith) ∙ omega arith
+
+atom-number : (a : ℕ) → a < 16 → atomNumber (atomOf a) ≡ a
+unfolding atomOf
+atom-number a l = number-at atoms 0 a refl l ∙ omega arith
+
+module _ (n : ℕ) (s : List ℕ) (at : ℕ) {t : Ty} (y : Yields (type n s at) t) where
+  body-of : {k : TypeKind} → k ≡ kindOfType t → typeBody k n (typeAt n 7) s (at + 4) ≡ got t (nextOf (type n s at))
+  body-of e = ap (λ (k : TypeKind). typeBody k n (typeAt n 7) s (at + 4)) e ∙ behind-kind n s at y
+
+  module _ (e : Kind.Atom ≡ kindOfType t) where
+    pub atom-room : at + 4 + 4 ≤ 8 * length s
+    atom-room = in-turn (bits 4 s (at + 4)) _ (body-of e) (λ a m f h. bits-there 4 s (at + 4) f .0)
+
+    pub judge-atom : (u : List ℕ) {a : ℕ} {v : List ℕ} → a ≡ bitsAt s (at + 4) 4 → v ≡ markIf (eqb a 14) unfitAt u →
+        v ≡ judgeError t u
+    unfolding judgeError each
+    judge-atom u {a} q h =
+        in-turn (bits 4 s (at + 4)) _ (body-of e) (λ b m f g.
+        let z : b ≡ a = bits-there 4 s (at + 4) f .1 ∙ sym q in
+        let d : t ≡ atom (atomOf a) = sym (got-value g) ∙ ap (λ (j : ℕ). atom (atomOf j)) z in
+        h ∙ rw (d, atom-number a (rw z at (field-lt 4 s (at + 4) f))))
+
+  module _ (e : Kind.Named ≡ kindOfType t) {w : ℕ} (z : w ≡ widthOf n) where
+    pub named-room : at + 4 + w ≤ 8 * length s
+    named-room =
+        in-turn (index n s (at + 4)) _ (body-of e) (λ i m f h.
+        rw z (bits-there (widthOf n) s (at + 4) (index-field n s (at + 4) f) .0))
+
+    pub judge-named : (u : List ℕ) {i : ℕ} {v : List ℕ} → i ≡ bitsAt s (at + 4) w → v ≡ markIf (ltb i 256) (errorAt i) u →
+        v ≡ judgeError t u
+    unfolding judgeError each
+    judge-named u {i} q h =
+        in-turn (index n s (at + 4)) _ (body-of e) (λ j m f g.
+        let d : j ≡ i =
+        bits-there (widthOf n) s (at + 4) (index-field n s (at + 4) f) .1 ∙ sym (rw (← z) q) in
+        let c : t ≡ named i = sym (got-value g) ∙ ap named d in
+        h ∙ rw c)

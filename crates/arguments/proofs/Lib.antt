@@ -1,0 +1,4 @@
+pub mod ErrorLaws
+pub mod ArgumentLaws
+pub mod PairLaws
+pub mod LocatedLaws
