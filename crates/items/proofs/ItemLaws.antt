@@ -2,16 +2,17 @@
 use mathlib.Core.Path.{_≡_, refl, sym, ap, _∙_}
 use mathlib.Core.List.{List, []}
 use mathlib.Core.Bool.{Bool, true, false, _||_}
-use Prim.Native.Nat.{ℕ, zero, suc}
+use Prim.Native.Nat.{ℕ, zero, suc, _≤_}
 use native.Mathlib.Omega.{arith}
 use lib.Dec.{eqb}
-use lib.ListN.{length, getD}
+use lib.ListN.{length, getD, take}
 use borrow.Author.Tests.{eq-eqb, ne-eqb}
 use Rattle.lexical.specs.Bytes.{within}
 use Rattle.refusal.specs.declared.Refusal.{Refusal}
 use Rattle.refusal.specs.declared.Refusal.the-variants.{CutSheet, BadKind}
 use Rattle.format.specs.Decode.{Got, fault, got, pick, after, _>>_, pure, many}
 use Rattle.format.specs.Bits.{bits, bit, index}
+use Rattle.format.specs.Limits.{mostArguments}
 use Rattle.format.specs.Types.{Ret}
 use Rattle.format.specs.Sheet.{Name, Argument, Form, free, constMethod, mutMethod, associated, Body, struct, enum}
 use Rattle.rules.specs.Rules.{isMethod}
@@ -22,10 +23,13 @@ use Rattle.comments.specs.Comments.{comment}
 use Rattle.cursor.specs.declared.Cursor.{Cursor}
 use Rattle.cursor.specs.declared.Step.{Step}
 use Rattle.cursor.specs.declared.Step.the-variants.{At, Fault}
-use Rattle.cursor.specs.Checking.{stepOf, Checks}
+use Rattle.cursor.specs.Checking.{stepOf, Checks, positionOf, Fills}
+use Rattle.cursor.proofs.TableLaws.{located}
+use Rattle.arguments.specs.Arguments.{argumentsAt, Arguments}
+use Rattle.arguments.proofs.LocatedLaws.{located-arguments}
 use Rattle.marks.specs.Gathering.{each, gatheredOf, answered, Gathers}
-use Rattle.marks.specs.Marking.{markIndex, markTy, markRet, markForm, markArgument, markBody}
-use Rattle.marks.proofs.GatherLaws.{made}
+use Rattle.marks.specs.Marking.{judgeArguments, markIndex, markTy, markRet, markForm, markArgument, markBody}
+use Rattle.marks.proofs.GatherLaws.{made, facts}
 use Rattle.cursor.proofs.CheckLaws.{step-map, tail, checks-like}
 use Rattle.items.specs.Parts.{markInputs}
 use Rattle.names.specs.Naming.{namesAt}
@@ -187,3 +191,23 @@ part-past (suc (suc (suc (suc (suc (suc (suc (suc k)))))))) h0 h1 h2 h3 h4 = ref
 pub inputs-like : {a b : Bool} (t : Bool) (r : Ret) (xs : List Argument) {u v : List ℕ} → b ≡ a → v ≡ u →
     markInputs a t xs (markRet r u) ≡ markInputs b t xs (markRet r v)
 inputs-like t r xs e h = rw (e, h) refl
+
+-- ---- arguments that were walked past, and are judged by their positions
+
+module _ (s names : List ℕ) (items n at : ℕ) {r : Step} {c : Cursor} {offsets u v : List ℕ}
+    (f : Fills (many n (positionOf (argument (namesAt s names) items)) s at) r n offsets ×
+    Gathers (each markArgument) (many n (argument (namesAt s names) items) s at) u r v)
+    (t : r ≡ At c) (room : n ≤ length offsets) (few : n ≤ mostArguments) where
+  pub walked-arguments : Arguments s names items (take n offsets)
+  walked-arguments =
+      let l = located (argument (namesAt s names) items) s n at (f .0) t in
+      located-arguments s names items (l .table) room few .0
+
+  pub walked-inputs : (method throws : Bool) {w : List ℕ} →
+      w ≡ judgeArguments method throws (argumentsAt s names items (take n offsets)) v →
+      Gathers (markInputs method throws) (many n (argument (namesAt s names) items) s at) u (At c) w
+  walked-inputs method throws {w} e =
+      let l = located (argument (namesAt s names) items) s n at (f .0) t in
+      let x = facts (f .1) t (l .decoded) in
+      let z = located-arguments s names items (l .table) room few .1 in
+      rw (l .decoded, e, z, x) record { gathered = refl }

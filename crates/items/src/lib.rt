@@ -1,5 +1,7 @@
 // The items of a sheet, checked; names are the positions of the sheet's names, items is the number of its items. The walk
 // marks what rules 9 to 11 ask for.
+use arguments::Count;
+use arguments::judge_arguments;
 use comments::check_comment;
 use cursor::Cursor;
 use cursor::Field;
@@ -103,11 +105,24 @@ fn check_inputs(
         (many n (argument (namesAt (now (s .entry)) (now (names .entry))) items) (now (s .entry)) (c .at))
         (now (marks .entry)) r (now (marks .exit)) ⌝ }
 {
-    let mut offsets = [0u32; 31];
+    let mut offsets = [0u32; Count::MOST];
     let r = check_arguments(s, names, c, items, n, &mut offsets, marks);
     match r {
         Step::Fault(e) => Step::Fault(e),
-        Step::At(next) => { Step::At(next) }
+        Step::At(next) => {
+            let k = n as usize;
+            judge_arguments(
+                s,
+                names,
+                digests,
+                items,
+                &offsets[..k],
+                method,
+                throws,
+                marks,
+            );
+            Step::At(next)
+        }
     }
 }
 

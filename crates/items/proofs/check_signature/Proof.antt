@@ -1,4 +1,4 @@
--- Written by tools/proofkit from answers/check_signature.tpl (09b21b79 65febe6e).
+-- Written by tools/proofkit from answers/check_signature.tpl (06d1ba3b 2a55c478).
 use borrow.Author.Needs.{needs}
 use mathlib.Core.Path.{refl, sym, ap, _∙_}
 use native.Mathlib.Omega.{arith}
@@ -8,6 +8,9 @@ use Rattle.items.specs.Parts.{markInputs, signature}
 use Rattle.items.proofs.ItemLaws.{comment-marks}
 use Rattle.items.proofs.check_signature.Statement.{statement}
 use Rattle.items.proofs.check_signature.Tie as tie
+
+check-comment-requires : tie.Need-check-comment-requires
+check-comment-requires c κs = c .before .before .before .before .before .before .before .before .before .before .before .before .before .before .before .before .before .before .before .before .before .before .pre .0 .limited
 
 check-inputs-requires : tie.Need-check-inputs-requires
 check-inputs-requires c κs = (c .before .before .before .before .before .before .before .before .before .before .before .before .before .before .before .before .pre .0, c .before .before .before .before .before .before .before .before .before .before .before .before .before .before .before .before .pre .1, omega (arith, field-lt 5 _ _ (value (c .before .before .before .before .read .ensures) (c .before .before .f .given .1))))
@@ -41,7 +44,7 @@ check-signature-spec =
     check-inputs-requires
     (λ c. search needs)
     (λ c. search needs)
-    (λ c κs. search needs)
+    check-comment-requires
     (λ c. search needs)
     returns
     (λ c. search needs)
