@@ -21,12 +21,12 @@ use Rattle.cursor.specs.Checking.{Limited, Checks, positionOf, Fills}
 use Rattle.cursor.proofs.FieldLaws.{field-lt}
 use Rattle.cursor.proofs.CheckLaws.{stepped, stopped}
 use Rattle.cursor.proofs.TableLaws.{fills-checks, placed-checks, Located, located}
-use Rattle.names.specs.Digests.{digestOf}
 use Rattle.names.proofs.DigestLaws.{digests-filled}
 use Rattle.marks.specs.Gathering.{each, Gathers}
 use Rattle.marks.specs.Marking.{markItem}
 use Rattle.marks.proofs.GatherLaws.{facts}
 use Rattle.names.specs.Naming.{namesAt, Named}
+use Rattle.names.specs.Digests.{digestOf, digestsAt}
 use Rattle.names.proofs.NamedLaws.{table-names, table-digests, table-named}
 use Rattle.decode.specs.declared.Decoded.{Decoded}
 use Rattle.decode.specs.declared.Decoded.the-variants.{Whole, Refused}
@@ -119,6 +119,16 @@ behind-is : (s : List ℕ) (h d : Bool) (at : ℕ) {n m k : ℕ} {ns : List Name
 unfolding behindBits nameTable
 behind-is s h d at q e = rw (q, e)
 
+-- what the names are known to be before the items are read
+pub names-ready : (s : List ℕ) (at n m : ℕ) {b g : List ℕ} {r : Step} {c : Cursor} → bits 10 s at ≡ got n m →
+    Fills (many n (positionOf name) s m) r n b × Fills (many n (digestOf name) s m) r n g → r ≡ At c → Limited s →
+    n ≤ length b → Named s (take n b) × (take n g ≡ digestsAt s (take n b))
+names-ready s at n m q f t l room =
+    let k = located name s n m (f .0) t in (
+      table-named (k .table) room l (omega (arith, field-lt 10 s at q)),
+      table-digests (k .table) room (digests-filled name s n m (f .1) t (k .decoded)),
+    )
+
 module _ (s : List ℕ) (h d : Bool) (at : ℕ) {b i g m₀ m₁ : List ℕ} where
   pub tables-cut : bits 10 s at ≡ fault CutSheet → Answers s (behindBits h d s at) (Refused CutSheet) b i g m₀ m₁
   unfolding behindBits nameTable
@@ -129,15 +139,6 @@ module _ (s : List ℕ) (h d : Bool) (at : ℕ) {b i g m₀ m₁ : List ℕ} whe
     pub tables-fault : {e : Refusal} → r ≡ Fault e → Answers s (behindBits h d s at) (Refused e) b i g m₀ m₁
     unfolding behindBits nameTable
     tables-fault t = record { says = rw (q, stopped (placed-checks name n s m (fills-checks (f .0))) t) }
-
-    -- what the names are known to be before the items are read
-    pub names-ready : {c : Cursor} → r ≡ At c → Limited s → n ≤ length b →
-        Named s (take n b) × (take n g ≡ digestsAt s (take n b))
-    names-ready t l room =
-        let k = located name s n m (f .0) t in (
-          table-named (k .table) room l (omega (arith, field-lt 10 s at q)),
-          table-digests (k .table) room (digests-filled name s n m (f .1) t (k .decoded)),
-        )
 
     pub tables-rest : {c : Cursor} {u : Decoded} → r ≡ At c → n ≤ length b →
         AnswersItems s (namesAt s (take n b)) (behindNames h d (namesAt s (take n b)) s (c .at)) u i m₀ m₁ →

@@ -1,4 +1,4 @@
--- Written by tools/proofkit from answers/decode_fields.tpl (c26603bd f5dbb804).
+-- Written by tools/proofkit from answers/decode_fields.tpl (c26603bd 0b05759a).
 use borrow.Author.Needs.{needs}
 use borrow.Author.Tests.{eq-eqb, ne-eqb}
 use Rattle.format.specs.Decoding.{sheet}
@@ -25,7 +25,7 @@ returns-4 c = record { says = rw (value (c .before .before .before .before .befo
 
 returns-5 : tie.Need-returns-5
 unfolding sheet behindNames behindBits
-returns-5 c = rw (value (c .before .before .before .before .before .before .before .before .before .before .before .before .before .before .before .before .before .before .before .before .before .before .read .ensures) (c .before .before .before .before .before .before .before .before .before .before .before .before .before .before .before .before .before .before .before .before .f .given .1), eq-eqb _ _ (c .before .before .before .before .before .before .before .before .before .before .before .before .before .before .before .before .before .before .if1 .left), bit-value _ _ (c .before .before .before .before .before .before .before .before .before .before .before .before .before .before .before .before .before .read2 .ensures) (c .before .before .before .before .before .before .before .before .before .before .before .before .before .before .before .g .given .1), bit-value _ _ (c .before .before .before .before .before .before .before .before .before .before .before .before .before .read3 .ensures) (c .before .before .before .before .before .before .before .before .before .before .before .k .given .1)) (c .before .before .before .before .before .before .decode-tables .ensures)
+returns-5 c = rw (value (c .before .before .before .before .before .before .before .before .before .before .before .before .before .before .before .before .before .before .before .before .before .before .before .before .before .read .ensures) (c .before .before .before .before .before .before .before .before .before .before .before .before .before .before .before .before .before .before .before .before .before .before .before .f .given .1), eq-eqb _ _ (c .before .before .before .before .before .before .before .before .before .before .before .before .before .before .before .before .before .before .before .before .before .if1 .left), bit-value _ _ (c .before .before .before .before .before .before .before .before .before .before .before .before .before .before .before .before .before .before .before .before .read2 .ensures) (c .before .before .before .before .before .before .before .before .before .before .before .before .before .before .before .before .before .before .g .given .1), bit-value _ _ (c .before .before .before .before .before .before .before .before .before .before .before .before .before .before .before .before .read3 .ensures) (c .before .before .before .before .before .before .before .before .before .before .before .before .before .before .k .given .1)) (c .before .before .before .before .before .before .before .before .decode-tables .ensures)
 
 pub decode-fields-spec : {M : Type 1} → statement M
 decode-fields-spec =
@@ -45,6 +45,7 @@ decode-fields-spec =
     returns-2
     returns-3
     returns-4
+    (λ c. search needs)
     (λ c. search needs)
     (λ c. search needs)
     (λ c. search needs)
