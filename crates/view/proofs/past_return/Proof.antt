@@ -1,19 +1,22 @@
--- Written by tools/proofkit from answers/past_return.tpl (ad86e657 97cad36b).
+-- Written by tools/proofkit from answers/past_return.tpl (d2c6427d eb42aa08).
 use borrow.Author.Needs.{needs}
 use Rattle.cursor.proofs.YieldLaws.{next-at, next-none}
+use Rattle.marks.proofs.GatherLaws.{gathers-checks}
 use Rattle.view.proofs.past_return.Statement.{statement}
 use Rattle.view.proofs.past_return.Tie as tie
 
 returns : tie.Need-returns
-returns c = next-at (c .before .before .before .check-return .ensures) (c .before .r .given .1)
+returns c = next-at (gathers-checks (c .before .before .before .before .check-return .ensures)) (c .before .r .given .1)
 
 returns-2 : tie.Need-returns-2
-returns-2 c = rw (c .new .ensures) (next-none (c .before .before .before .check-return .ensures) (c .before .enum-told .given .1))
+returns-2 c = rw (c .new .ensures) (next-none (gathers-checks (c .before .before .before .before .check-return .ensures)) (c .before .enum-told .given .1))
 
 pub past-return-spec : {M : Type 1} → statement M
 past-return-spec =
     tie.close
     (tie.spec
+    (λ c. search needs)
+    (λ c. search needs)
     (λ c κs. search needs)
     (λ c. search needs)
     (λ c. search needs)
