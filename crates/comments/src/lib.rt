@@ -2,19 +2,22 @@
 use cursor::Cursor;
 use cursor::Field;
 use cursor::Step;
+use cursor::end_of;
+use cursor::extract;
+use cursor::extract_wide;
 use cursor::read;
 use refusal::Refusal;
-use text::in_range;
-use text::read_text;
 ghost use mathlib.Core.Path.{_≡_};
 ghost use mathlib.Core.List.{List};
-ghost use Prim.Native.Nat.{ℕ};
+ghost use Prim.Native.Nat.{ℕ, _+_, _*_, _/_, _%_, _^_, _≤_, _<_};
+ghost use lib.ListN.{length};
 ghost use Rattle.lexical.specs.Bytes.{within, every};
 ghost use Rattle.format.specs.Decode.{many};
 ghost use Rattle.format.specs.Sheet.{Body};
 ghost use Rattle.format.specs.Decoding.{lineOk, line};
 ghost use Rattle.cursor.specs.Checking.{Limited, Checks};
-ghost use Rattle.comments.specs.Comments.{comment};
+ghost use Rattle.text.specs.Text.{charsAt};
+ghost use Rattle.comments.specs.Comments.{comment, badOf, bads};
 
 // A line of a comment, by its number of characters.
 pub struct CommentLine {
@@ -28,33 +31,75 @@ impl CommentLine {
     pub const MOST: usize = 31;
 }
 
-fn all_line_chars(w: &[u8]) -> bool
-    ensures { λ r. ⌜ r ≡ every (within 32 126) (now (w .entry)) ⌝ }
+// 1 where the character of x that d bits stand behind is 127 or below 32, else 0.
+fn is_bad(x: u64, d: u32) -> u64
+    requires { ⌜ d < 64 ⌝ }
+    ensures { λ r. ⌜ (r ≡ badOf (x / 2 ^ d % 128)) × (r ≤ 1) ⌝ }
 {
-    let mut i: usize = 0;
-    while i < w.len() {
-        let ok = in_range(32, 126, w[i]);
-        if !ok {
-            return false;
-        }
-        i = i + 1;
+    if ((x >> d) % 128 + 1) % 128 < 33 {
+        return 1;
     }
-    true
+    0
 }
 
-// The line rule.
-fn is_line(w: &[u8]) -> bool
-    ensures { λ r. ⌜ r ≡ lineOk (now (w .entry)) ⌝ }
+// How many of the eight characters at a position are bad.
+fn eight_bad(s: &[u8], at: u32) -> u64
+    requires { ⌜ Limited (now s) × (at + 56 ≤ 8 * length (now s)) ⌝ }
+    ensures { λ r. ⌜ (r ≡ bads (charsAt (now (s .entry)) at 8)) × (r ≤ 8) ⌝ }
 {
-    let all = all_line_chars(w);
+    let x = extract_wide(s, at, 56);
+    let a = is_bad(x, 49) + is_bad(x, 42) + is_bad(x, 35) + is_bad(x, 28);
+    a + is_bad(x, 21) + is_bad(x, 14) + is_bad(x, 7) + is_bad(x, 0)
+}
+
+// The same of n characters, fewer than eight.
+fn few_bad(s: &[u8], at: u32, n: u32) -> u64
+    requires { ⌜ Limited (now s) × (at + 7 * n ≤ 8 * length (now s)) × (n < 8) ⌝ }
+    ensures { λ r. ⌜ r ≡ bads (charsAt (now (s .entry)) at n) ⌝ }
+{
+    let x = extract_wide(s, at, 7 * n);
+    let mut down = 7 * n;
+    let mut bad: u64 = 0;
+    let mut i: u32 = 0;
+    while i < n {
+        down = down - 7;
+        bad = bad + is_bad(x, down);
+        i = i + 1;
+    }
+    bad
+}
+
+// Whether the n characters at a position are those of a line: eight by eight, the last eight first.
+fn all_line_chars(s: &[u8], at: u32, n: u32) -> bool
+    requires { ⌜ Limited (now s) × (at + 7 * n ≤ 8 * length (now s)) ⌝ }
+    ensures { λ r. ⌜ r ≡ every (within 32 126) (charsAt (now (s .entry)) at n) ⌝ }
+{
+    if n < 8 {
+        return few_bad(s, at, n) == 0;
+    }
+    let last = n - 8;
+    let mut bad = eight_bad(s, at + 7 * last);
+    let mut i: u32 = 0;
+    while i < last {
+        bad = bad + eight_bad(s, at + 7 * i);
+        i = i + 8;
+    }
+    bad == 0
+}
+
+// The line rule, for the n characters at a position.
+fn is_line(s: &[u8], at: u32, n: u32) -> bool
+    requires { ⌜ Limited (now s) × (at + 7 * n ≤ 8 * length (now s)) ⌝ }
+    ensures { λ r. ⌜ r ≡ lineOk (charsAt (now (s .entry)) at n) ⌝ }
+{
+    let all = all_line_chars(s, at, n);
     if !all {
         return false;
     }
-    let n = w.len();
     if n == 0 {
         return true;
     }
-    let last = w[n - 1];
+    let last = extract(s, at + 7 * (n - 1), 7);
     last != 92
 }
 
@@ -63,15 +108,18 @@ fn check_line(s: &[u8], c: Cursor) -> Step
     requires { ⌜ Limited (now s) ⌝ }
     ensures { λ r. ⌜ Checks (line (now (s .entry)) (c .at)) r ⌝ }
 {
-    let mut buf = [0u8; CommentLine::LONGEST];
-    let f = read_text(s, c, 7, &mut buf);
+    let f = read(s, c, 7);
     match f {
         Field::Cut => Step::Fault(Refusal::CutSheet),
-        Field::Value(n, next) => {
-            let k = n as usize;
-            let good = is_line(&buf[..k]);
+        Field::Value(n, first) => {
+            let at = first.at;
+            let end = at + 7 * n;
+            if end_of(s) < end {
+                return Step::Fault(Refusal::CutSheet);
+            }
+            let good = is_line(s, at, n);
             if good {
-                return Step::At(next);
+                return Step::At(Cursor { at: end });
             }
             Step::Fault(Refusal::BadComment)
         }

@@ -1,5 +1,8 @@
 // The words that are no names: the keywords of ISO C++ [lex.key], then the alternative tokens of [lex.digraph].
 
+// The length of the longest.
+pub const LONGEST: usize = 16;
+
 // Their lengths.
 pub const LENGTHS: [u8; 84] = [
     7,

@@ -7,8 +7,8 @@ use text::equal;
 use text::in_range;
 use text::read_text;
 ghost use mathlib.Core.Path.{_≡_};
-ghost use Prim.Native.Nat.{_≤_, _<_};
-ghost use lib.ListN.{length, getD};
+ghost use Prim.Native.Nat.{_+_, _≤_, _<_};
+ghost use lib.ListN.{length, getD, take, drop};
 ghost use Rattle.lexical.specs.Bytes.{every, same, member};
 ghost use Rattle.lexical.specs.Names.{letter, nameStart, nameChar, reserved, isName};
 ghost use Rattle.format.specs.Limits.{longestName};
@@ -83,6 +83,18 @@ fn to_usize(b: u8) -> usize
     b as usize
 }
 
+// Whether w is the n bytes from at on.
+fn is_word(bytes: &[u8], at: usize, n: usize, w: &[u8]) -> bool
+    requires { ⌜ at + n ≤ length (now bytes) ⌝ }
+    ensures { λ r. ⌜ r ≡ same (now (w .entry)) (take n (drop at (now (bytes .entry)))) ⌝ }
+{
+    if w.len() != n {
+        return false;
+    }
+    let end = at + n;
+    equal(w, &bytes[at..end])
+}
+
 // Whether w is a word of a table.
 pub fn listed(lengths: &[u8], bytes: &[u8], w: &[u8]) -> bool
     requires { ⌜ total (now lengths) ≤ length (now bytes) ⌝ }
@@ -92,21 +104,31 @@ pub fn listed(lengths: &[u8], bytes: &[u8], w: &[u8]) -> bool
     let mut i: usize = 0;
     while i < lengths.len() {
         let n = to_usize(lengths[i]);
-        let end = at + n;
-        let found = equal(w, &bytes[at..end]);
+        let found = is_word(bytes, at, n, w);
         if found {
             return true;
         }
-        at = end;
+        at = at + n;
         i = i + 1;
     }
     false
 }
 
-// Whether w is a keyword or an alternative token.
+// Whether w is a keyword or an alternative token. Each of these begins with a small letter: names that are longer than
+// all of them or begin otherwise are not searched for.
 fn is_reserved(w: &[u8]) -> bool
     ensures { λ r. ⌜ r ≡ member (now (w .entry)) reserved ⌝ }
 {
+    let n = w.len();
+    if n == 0 {
+        return false;
+    }
+    if keywords::LONGEST < n {
+        return false;
+    }
+    if w[0] < b'a' {
+        return false;
+    }
     listed(&keywords::LENGTHS, &keywords::BYTES, w)
 }
 

@@ -1,2 +1,3 @@
 pub mod ByteLoops
 pub mod TextLaws
+pub mod CharLaws

@@ -1,13 +1,13 @@
 -- Texts of a sheet: a length, then as many 7-bit characters, that a rule admits.
 use mathlib.Core.Path.{_≡_}
-use mathlib.Core.List.{List}
+use mathlib.Core.List.{List, [], _∷_}
 use mathlib.Core.Bool.{Bool}
-use Prim.Native.Nat.{ℕ, _^_, _<_}
+use Prim.Native.Nat.{ℕ, zero, suc, _+_, _^_, _<_}
 use lib.ListN.{take}
 use Rattle.refusal.specs.declared.Refusal.{Refusal}
 use Rattle.refusal.specs.declared.Refusal.the-variants.{CutSheet}
 use Rattle.format.specs.Decode.{Got, fault, got, Dec, pick, _>>_, pure, unless, many}
-use Rattle.format.specs.Bits.{bits}
+use Rattle.format.specs.Bits.{bitsAt, bits}
 use Rattle.cursor.specs.declared.Field.{Field}
 use Rattle.cursor.specs.declared.Field.the-variants.{Value, Cut}
 
@@ -28,3 +28,12 @@ fieldLength (Value n c) = n
 pub record Spelled (w : ℕ) (s : List ℕ) (at : ℕ) (r : Field) (b : List ℕ) : Type 0 where
   pub text : (rule : List ℕ → Bool) (e : Refusal) → ruledText w rule e s at ≡ textOf r b rule e
   pub short : fieldLength r < 2 ^ w
+
+-- the n characters at a position
+unfoldable pub charsAt : List ℕ → ℕ → ℕ → List ℕ
+charsAt s at zero = []
+charsAt s at (suc n) = bitsAt s at 7 ∷ charsAt s (at + 7) n
+
+-- the first n of the text at a position stand in the front of b
+pub record Holds (s : List ℕ) (at n : ℕ) (b : List ℕ) : Type 0 where
+  pub chars : take n b ≡ charsAt s at n

@@ -1,42 +1,32 @@
--- Written by tools/proofkit from answers/all_line_chars.tpl (906f86f8 f3414a83).
+-- Written by tools/proofkit from answers/all_line_chars.tpl (322d2fbf e8ddad52).
 use borrow.Author.Needs.{needs}
 use native.Mathlib.Omega.{arith}
 use mathlib.Core.Path.{_≡_, refl, sym, _∙_}
-use Prim.Native.Nat.{_-_, _≤_}
-use lib.ListN.{length, drop}
-use borrow.Author.Tests.{not-true, not-false}
-use Rattle.lexical.specs.Bytes.{within, every}
-use Rattle.cursor.proofs.CheckLaws.{known}
-use Rattle.text.proofs.ByteLoops.{every-turn, every-no, every-end}
+use Prim.Native.Nat.{_+_, _*_, _-_, _≤_}
+use Rattle.text.specs.Text.{charsAt}
+use Rattle.comments.specs.Comments.{bads}
+use Rattle.comments.proofs.LineLaws.{bads-none, bads-split, bads-covered}
 use Rattle.comments.proofs.all_line_chars.Statement.{statement}
 use Rattle.comments.proofs.all_line_chars.Tie as tie
 
 abbrev Inv-loop : tie.InvT-loop
-Inv-loop w i₀ i = (i ≤ length w) × (every (within 32 126) w ≡ every (within 32 126) (drop i w))
+Inv-loop s at n last bad₀ i₀ bad i = (i ≤ last + 8) × (bad ≤ i + 8) × (bad ≡ bads (charsAt s (at + 7 * last) 8) + bads (charsAt s at i))
 
 abbrev μ-loop : tie.MeasureT-loop
-μ-loop w i₀ i = length w - i
+μ-loop s at n last bad₀ i₀ bad i = last + 8 - i
 
 loop-holds : tie.Need-loop-holds Inv-loop μ-loop
-loop-holds c = (omega arith, refl)
-
-shared-slice-read-in-range : tie.Need-shared-slice-read-in-range Inv-loop μ-loop
-shared-slice-read-in-range c = omega arith
-
-returns : tie.Need-returns Inv-loop μ-loop
-returns c = sym (c .before .before .before .before .loop .inv .1 ∙ every-no (within 32 126) _ _ (c .before .before .before .loop-test .taken) (known (c .before .in-range .ensures) (not-true _ (c .if1 .taken))))
-
-add-i : tie.Need-add-i Inv-loop μ-loop
-add-i c = omega arith
-
-loop-less : tie.Need-loop-less Inv-loop μ-loop
-loop-less c = omega arith
+unfolding charsAt bads
+loop-holds c = (omega arith, omega arith, omega (arith, c .eight-bad .ensures))
 
 loop-again : tie.Need-loop-again Inv-loop μ-loop
-loop-again c = (omega arith, c .before .before .before .before .loop .inv .1 ∙ every-turn (within 32 126) _ _ (c .before .before .before .loop-test .taken) (known (c .before .in-range .ensures) (not-false _ (c .if1 .left))))
+loop-again c = (omega arith, omega arith, omega (arith, c .eight-bad2 .ensures, bads-split (c .before .before .before .before .before .before .args .s .now) (c .before .before .before .before .before .before .args .at) (c .before .before .loop .i) 8))
+
+returns : tie.Need-returns Inv-loop μ-loop
+returns c = rw (c .few-bad .ensures) (bads-none _)
 
 returns-2 : tie.Need-returns-2 Inv-loop μ-loop
-returns-2 c = sym (c .before .loop .inv .1 ∙ every-end (within 32 126) _ _ (c .loop-test .left))
+returns-2 c = let z : c .before .before .before .before .before .args .n - 8 + 8 ≡ c .before .before .before .before .before .args .n = omega arith in rw z at (bads-covered _ _ _ _ (c .before .loop .inv .2) (omega arith) (omega arith))
 
 pub all-line-chars-spec : {M : Type 1} → statement M
 all-line-chars-spec =
@@ -44,11 +34,17 @@ all-line-chars-spec =
     (tie.spec
     Inv-loop
     μ-loop
-    loop-holds
-    shared-slice-read-in-range
     (λ c κs. search needs)
     returns
-    add-i
-    loop-less
+    (λ c. search needs)
+    (λ c. search needs)
+    (λ c κs. search needs)
+    loop-holds
+    (λ c. search needs)
+    (λ c. search needs)
+    (λ c κs. search needs)
+    (λ c. search needs)
+    (λ c. search needs)
+    (λ c. search needs)
     loop-again
     returns-2)

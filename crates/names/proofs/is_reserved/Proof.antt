@@ -1,23 +1,38 @@
--- Written by tools/proofkit from answers/is_reserved.tpl (59a5bee4 c8a9aafa).
+-- Written by tools/proofkit from answers/is_reserved.tpl (c02fc1bc 8f6e171d).
 use borrow.Author.Needs.{needs}
+use mathlib.Core.Path.{sym}
 use Rattle.names.specs.Words.{wordsOf, total}
 use Rattle.lexical.specs.Names.{reserved, keywords, alternativeTokens}
+use Rattle.names.proofs.WordLaws.{word-none, word-long, word-first}
 use Rattle.names.proofs.is_reserved.Statement.{statement}
 use Rattle.names.proofs.is_reserved.Tie as tie
+
+returns : tie.Need-returns
+returns c = sym (word-none _ (c .if1 .taken))
+
+returns-2 : tie.Need-returns-2
+returns-2 c = sym (word-long _ (c .if2 .taken))
+
+returns-3 : tie.Need-returns-3
+returns-3 c = sym (word-first _ (c .if3 .taken))
 
 listed-requires : tie.Need-listed-requires
 unfolding total
 listed-requires c κs = search needs
 
-returns : tie.Need-returns
+returns-4 : tie.Need-returns-4
 unfolding wordsOf reserved keywords alternativeTokens
-returns c = c .listed .ensures
+returns-4 c = c .listed .ensures
 
 pub is-reserved-spec : {M : Type 1} → statement M
 is-reserved-spec =
     tie.close
     (tie.spec
+    returns
+    returns-2
+    (λ c. search needs)
+    returns-3
     (λ c. search needs)
     (λ c. search needs)
     listed-requires
-    returns)
+    returns-4)

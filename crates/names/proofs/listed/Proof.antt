@@ -1,4 +1,4 @@
--- Written by tools/proofkit from answers/listed.tpl (43c9549e 1214a50e).
+-- Written by tools/proofkit from answers/listed.tpl (551bd202 df4e6535).
 use borrow.Author.Needs.{needs}
 use native.Mathlib.Omega.{arith}
 use mathlib.Core.Path.{_≡_, refl, sym, ap, _∙_}
@@ -6,7 +6,7 @@ use Prim.Native.Nat.{ℕ, _+_, _-_, _≤_}
 use lib.ListN.{length, drop}
 use Rattle.lexical.specs.Bytes.{member}
 use Rattle.names.specs.Words.{wordsOf, total}
-use Rattle.names.proofs.WordLaws.{words-turn, words-yes, words-end, total-step, word-is}
+use Rattle.names.proofs.WordLaws.{words-turn, words-yes, words-end, total-step, word-told}
 use Rattle.names.proofs.listed.Statement.{statement}
 use Rattle.names.proofs.listed.Tie as tie
 
@@ -22,20 +22,14 @@ loop-holds c = (omega arith, omega (arith, c .before .before .before .pre), refl
 shared-slice-read-to-usize : tie.Need-shared-slice-read-to-usize Inv-loop μ-loop
 shared-slice-read-to-usize c = omega arith
 
-add-end : tie.Need-add-end Inv-loop μ-loop
-add-end c = omega (arith, total-step (c .before .before .before .before .before .before .before .args .lengths .now) (c .before .before .before .loop .i) (c .before .before .loop-test .taken), c .to-usize .ensures)
-
-sub-equal : tie.Need-sub-equal Inv-loop μ-loop
-sub-equal c = omega arith
-
-part-equal-start : tie.Need-part-equal-start Inv-loop μ-loop
-part-equal-start c = omega arith
-
-part-equal-end : tie.Need-part-equal-end Inv-loop μ-loop
-part-equal-end c = omega (arith, total-step (c .before .before .before .before .before .before .before .args .lengths .now) (c .before .before .before .loop .i) (c .before .before .loop-test .taken), c .to-usize .ensures)
+is-word-requires : tie.Need-is-word-requires Inv-loop μ-loop
+is-word-requires c κs = omega (arith, total-step (c .before .before .before .before .before .before .before .args .lengths .now) (c .before .before .before .loop .i) (c .before .before .loop-test .taken), c .to-usize .ensures)
 
 returns : tie.Need-returns Inv-loop μ-loop
-returns c = sym (c .before .before .before .before .before .before .loop .inv .2 ∙ words-yes (c .before .before .before .before .before .before .before .before .before .before .args .w .now) (c .before .before .before .before .before .before .before .before .before .before .args .lengths .now) (c .before .before .before .before .before .before .before .before .before .before .args .bytes .now) (c .before .before .before .before .before .before .loop .i) (c .before .before .before .before .before .before .loop .at) (c .before .before .before .before .before .loop-test .taken) (word-is (c .before .before .before .before .before .before .before .before .before .before .args .w .now) (c .before .before .before .before .before .before .before .before .before .before .args .bytes .now) (c .before .before .before .before .before .before .loop .at) (c .before .before .before .to-usize .ensures) (c .before .equal .ensures) (c .if1 .taken)))
+returns c = sym (c .before .before .before .before .before .loop .inv .2 ∙ words-yes (c .before .before .before .before .before .before .before .before .before .args .w .now) (c .before .before .before .before .before .before .before .before .before .args .lengths .now) (c .before .before .before .before .before .before .before .before .before .args .bytes .now) (c .before .before .before .before .before .loop .i) (c .before .before .before .before .before .loop .at) (c .before .before .before .before .loop-test .taken) (word-told (c .before .before .before .before .before .before .before .before .before .args .w .now) (c .before .before .before .before .before .before .before .before .before .args .bytes .now) (c .before .before .before .before .before .loop .at) (c .before .before .to-usize .ensures) (c .before .is-word .ensures) (c .if1 .taken)))
+
+add-at : tie.Need-add-at Inv-loop μ-loop
+add-at c = omega (arith, total-step (c .before .before .before .before .before .before .before .before .before .args .lengths .now) (c .before .before .before .before .before .loop .i) (c .before .before .before .before .loop-test .taken), c .before .before .to-usize .ensures)
 
 add-i : tie.Need-add-i Inv-loop μ-loop
 add-i c = omega arith
@@ -44,7 +38,7 @@ loop-less : tie.Need-loop-less Inv-loop μ-loop
 loop-less c = omega arith
 
 loop-again : tie.Need-loop-again Inv-loop μ-loop
-loop-again c = (omega arith, omega (arith, total-step (c .before .before .before .before .before .before .before .before .before .before .args .lengths .now) (c .before .before .before .before .before .before .loop .i) (c .before .before .before .before .before .loop-test .taken), c .before .before .before .to-usize .ensures), c .before .before .before .before .before .before .loop .inv .2 ∙ words-turn (c .before .before .before .before .before .before .before .before .before .before .args .w .now) (c .before .before .before .before .before .before .before .before .before .before .args .lengths .now) (c .before .before .before .before .before .before .before .before .before .before .args .bytes .now) (c .before .before .before .before .before .before .loop .i) (c .before .before .before .before .before .before .loop .at) (c .before .before .before .before .before .loop-test .taken) (word-is (c .before .before .before .before .before .before .before .before .before .before .args .w .now) (c .before .before .before .before .before .before .before .before .before .before .args .bytes .now) (c .before .before .before .before .before .before .loop .at) (c .before .before .before .to-usize .ensures) (c .before .equal .ensures) (c .if1 .left)) ∙ ap (λ (k : ℕ). member (c .before .before .before .before .before .before .before .before .before .before .args .w .now) (wordsOf (drop (c .before .before .before .before .before .before .loop .i + 1) (c .before .before .before .before .before .before .before .before .before .before .args .lengths .now)) (drop (c .before .before .before .before .before .before .loop .at + k) (c .before .before .before .before .before .before .before .before .before .before .args .bytes .now)))) (sym (c .before .before .before .to-usize .ensures)))
+loop-again c = (omega arith, omega (arith, total-step (c .before .before .before .before .before .before .before .before .before .args .lengths .now) (c .before .before .before .before .before .loop .i) (c .before .before .before .before .loop-test .taken), c .before .before .to-usize .ensures), c .before .before .before .before .before .loop .inv .2 ∙ words-turn (c .before .before .before .before .before .before .before .before .before .args .w .now) (c .before .before .before .before .before .before .before .before .before .args .lengths .now) (c .before .before .before .before .before .before .before .before .before .args .bytes .now) (c .before .before .before .before .before .loop .i) (c .before .before .before .before .before .loop .at) (c .before .before .before .before .loop-test .taken) (word-told (c .before .before .before .before .before .before .before .before .before .args .w .now) (c .before .before .before .before .before .before .before .before .before .args .bytes .now) (c .before .before .before .before .before .loop .at) (c .before .before .to-usize .ensures) (c .before .is-word .ensures) (c .if1 .left)) ∙ ap (λ (k : ℕ). member (c .before .before .before .before .before .before .before .before .before .args .w .now) (wordsOf (drop (c .before .before .before .before .before .loop .i + 1) (c .before .before .before .before .before .before .before .before .before .args .lengths .now)) (drop (c .before .before .before .before .before .loop .at + k) (c .before .before .before .before .before .before .before .before .before .args .bytes .now)))) (sym (c .before .before .to-usize .ensures)))
 
 returns-2 : tie.Need-returns-2 Inv-loop μ-loop
 returns-2 c = sym (c .before .loop .inv .2 ∙ words-end (c .before .before .before .before .before .args .w .now) (c .before .before .before .before .before .args .lengths .now) (c .before .before .before .before .before .args .bytes .now) (c .before .loop .i) (c .before .loop .at) (c .loop-test .left))
@@ -58,12 +52,9 @@ listed-spec =
     loop-holds
     shared-slice-read-to-usize
     (λ c κs. search needs)
-    add-end
-    sub-equal
-    part-equal-start
-    part-equal-end
-    (λ c κs. search needs)
+    is-word-requires
     returns
+    add-at
     add-i
     loop-less
     loop-again

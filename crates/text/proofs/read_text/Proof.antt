@@ -1,14 +1,15 @@
--- Written by tools/proofkit from answers/read_text.tpl (e29c0cd1 4333782e).
+-- Written by tools/proofkit from answers/read_text.tpl (e4d621e2 88acdf42).
 use borrow.Author.Needs.{needs}
 use native.Mathlib.Omega.{arith}
 use Rattle.cursor.proofs.FieldLaws.{value, cut, field-lt}
 use Rattle.cursor.proofs.TableLaws.{filled-at, filled-fault}
+use Rattle.text.proofs.CharLaws.{field-end}
 use Rattle.text.proofs.TextLaws.{text-cut, text-short, text-whole}
 use Rattle.text.proofs.read_text.Statement.{statement}
 use Rattle.text.proofs.read_text.Tie as tie
 
 chars-requires : tie.Need-chars-requires
-chars-requires c κs = omega (arith, field-lt _ _ _ (value (c .before .before .before .before .read .ensures) (c .before .before .f .given .1)), c .before .before .before .before .before .before .before .pre)
+chars-requires c κs = (omega arith, field-end _ _ _ (value (c .before .before .before .before .read .ensures) (c .before .before .f .given .1)), omega (arith, field-lt _ _ _ (value (c .before .before .before .before .read .ensures) (c .before .before .f .given .1)), c .before .before .before .before .before .before .before .pre))
 
 returns : tie.Need-returns
 returns c = text-cut _ _ _ (cut _ _ _ (c .before .before .read .ensures) (c .enum-told .given .1))
