@@ -14,7 +14,7 @@ use Rattle.rules.specs.Rules.{twice, gather, typeName, symbol}
 use Rattle.rules.proofs.SearchLaws.{apart-among}
 use Rattle.cursor.proofs.CheckLaws.{getD-same}
 use Rattle.view.specs.Values.{oneItemAt, itemsAt, Whole}
-use Rattle.view.specs.Digests.{digest}
+use Rattle.names.specs.Digests.{digest}
 use Rattle.clash.specs.Clashes.{clashes, ownName, Keyed}
 use Rattle.clash.proofs.ItemLaws.{Proper, proper}
 use Rattle.clash.proofs.SameLaws.{clash-own}

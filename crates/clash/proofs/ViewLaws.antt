@@ -14,7 +14,7 @@ use Rattle.format.specs.Bits.{bits, widthOf}
 use Rattle.format.specs.Sheet.{Name, Function, Item}
 use Rattle.format.specs.Decoding.{formOf}
 use Rattle.syntax.specs.Items.{itemAt, fullName, isFunction}
-use Rattle.view.specs.declared.Found.{Found}
+use Rattle.cursor.specs.declared.Found.{Found}
 use Rattle.view.specs.declared.ItemView.{ItemView}
 use Rattle.view.specs.declared.FunctionView.{FunctionView}
 use Rattle.view.specs.Values.{nameAt, itemsAt, functionIn, functionAt, Whole, itemNo}

@@ -1,11 +1,11 @@
--- Written by tools/proofkit from answers/fill_keys.tpl (d25fe7fe a35f384e).
+-- Written by tools/proofkit from answers/fill_keys.tpl (aca221a6 b144b94a).
 use borrow.Author.Needs.{needs}
 use native.Mathlib.Omega.{arith}
 use mathlib.Core.Path.{_≡_, refl, sym, ap, _∙_}
 use Prim.Native.Nat.{ℕ, _≤_, _<_, _-_}
 use lib.ListN.{length, length-set, getD}
-use Rattle.view.specs.Digests.{digest}
-use Rattle.view.proofs.NameLaws.{digests-length, digest-there}
+use Rattle.names.specs.Digests.{digest}
+use Rattle.names.proofs.NameLaws.{digests-length, digest-there}
 use Rattle.view.specs.Values.{itemNo}
 use Rattle.clash.specs.Clashes.{ownName}
 use Rattle.rules.proofs.SearchLaws.{filled-turn}
