@@ -27,6 +27,7 @@ use Rattle.types.specs.Kinds.{kindOfType}
 use Rattle.marks.specs.Gathering.{each}
 use Rattle.marks.specs.Marking.{unfitAt, markIf, isIndirectNow, isError, unfitNow, errorItem}
 use Rattle.marks.specs.Marking.{repeatedAt, judgeArgument, judgeArguments}
+use Rattle.marks.proofs.SomeLaws.{or-false}
 use Rattle.arguments.specs.Arguments.{argumentHere, argumentsAt, isVectorKind, judgeError, namesOf}
 use Rattle.arguments.specs.Arguments.{Indexes, Numbered}
 use Rattle.arguments.proofs.ErrorLaws.{vector-type}
@@ -66,10 +67,6 @@ mark-or : (a b : Bool) (k : ℕ) (u : List ℕ) → markIf b k (markIf a k u) �
 mark-or true true k u = set-set u k 1 1
 mark-or true false k u = refl
 mark-or false b k u = refl
-
-or-false : (a : Bool) → (a || false) ≡ a
-or-false true = refl
-or-false false = refl
 
 module _ (method throws : Bool) (x : Argument) {word : Name} {kind : TypeKind} {vector receiver error : Bool}
     (u : List ℕ) {v w : List ℕ} (n : word ≡ x .name) (k : kind ≡ kindOfType (x .type)) (e : vector ≡ isVectorKind kind)
