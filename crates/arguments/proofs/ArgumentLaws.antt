@@ -1,18 +1,15 @@
 -- Laws of arguments by their positions.
 use mathlib.Core.Path.{_≡_, refl, sym, ap, _∙_}
-use mathlib.Core.List.{List, [], _∷_, map}
-use mathlib.Core.Bool.{Bool, true, false, _&&_, _||_, false≢true}
-use Prim.Native.Nat.{ℕ, zero, suc, _+_, _*_, _<_, _≤_}
+use mathlib.Core.List.{List, [], map}
+use mathlib.Core.Bool.{Bool, true, false, _&&_, _||_}
+use Prim.Native.Nat.{ℕ, _+_, _*_, _<_, _≤_}
 use native.Mathlib.Omega.{arith}
 use native.Mathlib.Numerals.{add-one}
 use lib.Dec.{eqb}
 use lib.ListN.{length, getD, take, drop, set, length-map, List·getD-map, drop-of-length-le}
-use lib.Seq.{set-set, drop-cons, getD-take, getD-set-same, getD-set-other, length-take-le, ext-getD}
-use borrow.Author.Tests.{eqb-true, eqb-false}
+use lib.Seq.{set-set, drop-cons, getD-take, length-take-le, ext-getD}
 use Rattle.lexical.specs.Bytes.{bytes, same}
 use Rattle.lexical.proofs.ByteLaws.{same-eq}
-use Rattle.lexical.proofs.BoolLaws.{by-cases}
-use Rattle.format.specs.Decode.{got, pick}
 use Rattle.format.specs.Bits.{bitsAt, widthOf}
 use Rattle.format.specs.Types.{Ty, str}
 use Rattle.format.specs.Sheet.{Name, Argument}
@@ -20,18 +17,18 @@ use Rattle.format.specs.Limits.{mostArguments}
 use Rattle.format.specs.declared.TypeKind.{TypeKind}
 use Rattle.format.specs.Decoding.{nameOf, type, argument}
 use Rattle.rules.specs.Rules.{twice, isCxxVector}
-use Rattle.rules.proofs.SearchLaws.{apart-keys}
-use Rattle.cursor.specs.Checking.{Table}
-use Rattle.cursor.specs.Yielding.{valueOr, nextOf, Yields}
-use Rattle.cursor.proofs.YieldLaws.{yields, yielded, in-turn, got-value, got-next, bits-there}
+use Rattle.rules.proofs.SearchLaws.{apart-keys, filled-turn}
+use Rattle.cursor.specs.Yielding.{Yields}
+use Rattle.cursor.proofs.YieldLaws.{yields, in-turn, got-value, bits-there}
 use Rattle.names.specs.Naming.{nameAt, namesAt}
 use Rattle.names.specs.Digests.{digestFrom, digest, digestsAt}
 use Rattle.names.proofs.NameLaws.{map-at, indexed, digest-there}
-use Rattle.types.specs.Kinds.{typeHere, kindOfType}
+use Rattle.types.specs.Kinds.{kindOfType}
 use Rattle.marks.specs.Gathering.{each}
-use Rattle.marks.specs.Marking.{unfitAt, mark, markIf, isIndirectNow, namedItem, isError, unfitNow, errorItem, markError}
+use Rattle.marks.specs.Marking.{unfitAt, markIf, isIndirectNow, isError, unfitNow, errorItem}
 use Rattle.marks.specs.Marking.{repeatedAt, judgeArgument, judgeArguments}
-use Rattle.arguments.specs.Arguments.{argumentHere, argumentsAt, Arguments, isVectorKind, judgeError, namesOf}
+use Rattle.marks.proofs.SomeLaws.{or-false}
+use Rattle.arguments.specs.Arguments.{argumentHere, argumentsAt, isVectorKind, judgeError, namesOf}
 use Rattle.arguments.specs.Arguments.{Indexes, Numbered}
 use Rattle.arguments.proofs.ErrorLaws.{vector-type}
 
@@ -63,13 +60,6 @@ module _ (s names : List ℕ) (n at : ℕ) {x : Argument} (y : Yields (argument 
         of = rw (← c, ← q) (yields e₂);
       }))
 
-pub type-there : (n : ℕ) (s : List ℕ) (at : ℕ) {t : Ty} → Yields (type n s at) t → typeHere n s at ≡ t
-unfolding typeHere
-type-there n s at y = yielded str y
-
-pub type-yields : (n : ℕ) (s : List ℕ) (at : ℕ) {t : Ty} → Yields (type n s at) t → Yields (type n s at) (typeHere n s at)
-type-yields n s at y = rw (type-there n s at y) y
-
 -- ---- the marks of one argument
 
 -- a place that is marked twice
@@ -78,12 +68,8 @@ mark-or true true k u = set-set u k 1 1
 mark-or true false k u = refl
 mark-or false b k u = refl
 
-or-false : (a : Bool) → (a || false) ≡ a
-or-false true = refl
-or-false false = refl
-
-module _ (method throws : Bool) (x : Argument) {word : Name} {kind : TypeKind} {vector receiver error : Bool} (u : List ℕ)
-    {v w : List ℕ} (n : word ≡ x .name) (k : kind ≡ kindOfType (x .type)) (e : vector ≡ isVectorKind kind)
+module _ (method throws : Bool) (x : Argument) {word : Name} {kind : TypeKind} {vector receiver error : Bool}
+    (u : List ℕ) {v w : List ℕ} (n : word ≡ x .name) (k : kind ≡ kindOfType (x .type)) (e : vector ≡ isVectorKind kind)
     (f : v ≡ markIf vector unfitAt u) (g : receiver ≡ (method && same word (bytes "self")))
     (h : w ≡ markIf receiver unfitAt v) (d : error ≡ (throws && same word (bytes "error"))) where
   marked : w ≡ markIf (isCxxVector (x .type) || method && same (x .name) (bytes "self")) unfitAt u
@@ -141,14 +127,6 @@ module _ (s names : List ℕ) (items : ℕ) (offsets : List ℕ) where
 
 -- ---- the tables of indexes and keys
 
--- one more entry of a table is as it should be
-filled-turn : (P : ℕ → ℕ → Type 0) (b : List ℕ) (i : ℕ) {x : ℕ} → i < length b → P i x →
-    ((k : ℕ) → k < i → P k (getD b k 0)) → (k : ℕ) → k < i + 1 → P k (getD (set b i x) k 0)
-filled-turn P b i {x} l p h k m =
-    by-cases (eqb k i)
-    (λ e. rw (eqb-true k i e, getD-set-same b i x 0 l) p)
-    (λ e. let d : k ≡ i → ⊥ = eqb-false k i e in rw (getD-set-other b i k x 0 d) (h k (omega arith)))
-
 module _ (s names : List ℕ) (items : ℕ) (offsets : List ℕ) where
   pub numbered-none : (numbers keys : List ℕ) → Numbered s names items offsets 0 numbers keys
   numbered-none numbers keys = record {
@@ -157,8 +135,8 @@ module _ (s names : List ℕ) (items : ℕ) (offsets : List ℕ) where
     key = λ i l. absurd (omega arith);
   }
 
-  pub numbered-end : {i : ℕ} {numbers keys : List ℕ} → Numbered s names items offsets i numbers keys → i ≤ length offsets →
-      length offsets ≤ i → Numbered s names items offsets (length offsets) numbers keys
+  pub numbered-end : {i : ℕ} {numbers keys : List ℕ} → Numbered s names items offsets i numbers keys →
+      i ≤ length offsets → length offsets ≤ i → Numbered s names items offsets (length offsets) numbers keys
   numbered-end {i} p l k = let z : i ≡ length offsets = omega arith in rw z at p
 
   module _ {digests : List ℕ} (d : digests ≡ digestsAt s names) {i : ℕ} {numbers keys : List ℕ} where
@@ -178,7 +156,9 @@ module _ (s names : List ℕ) (items : ℕ) (offsets : List ℕ) where
     words = map (λ a. a .name) (argumentsAt s names items offsets)
 
     words-length : length words ≡ length offsets
-    words-length = length-map (argumentsAt s names items offsets) (λ (a : Argument). a .name) ∙ arguments-length s names items offsets
+    words-length =
+        length-map (argumentsAt s names items offsets) (λ (a : Argument). a .name) ∙
+        arguments-length s names items offsets
 
     word-there : (i : ℕ) → i < length offsets → getD words i [] ≡ argumentHere s names items (getD offsets i 0) .name
     word-there i l =

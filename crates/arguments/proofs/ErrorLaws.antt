@@ -1,15 +1,14 @@
 -- Laws of what rule 11 wants of a type, by its outermost kind.
 use mathlib.Core.Path.{_≡_, refl, sym, ap, _∙_}
 use mathlib.Core.List.{List, [], _∷_}
-use mathlib.Core.Bool.{Bool, true, false, _&&_, _||_, false≢true}
-use Prim.Native.Nat.{ℕ, zero, suc, _+_, _*_, _^_, _<_, _≤_}
+use mathlib.Core.Bool.{Bool, true, false, _&&_, false≢true}
+use Prim.Native.Nat.{ℕ, zero, suc, _+_, _*_, _<_, _≤_}
 use native.Mathlib.Omega.{arith}
-use lib.ListN.{length, getD, set}
-use lib.Seq.{set-set}
+use lib.ListN.{length, getD}
 use lib.Dec.{eqb, ltb}
 use borrow.Author.Tests.{eqb-true}
 use Rattle.lexical.proofs.BoolLaws.{both}
-use Rattle.format.specs.Decode.{got, pick}
+use Rattle.format.specs.Decode.{got}
 use Rattle.format.specs.Bits.{bitsAt, bits, widthOf, index}
 use Rattle.format.specs.Types.{Ty, atom, named, template, pointer, str, fn, array}
 use Rattle.format.specs.declared.Atom.{Atom}
@@ -27,7 +26,7 @@ use Rattle.cursor.proofs.YieldLaws.{in-turn, got-value, bits-there}
 use Rattle.types.specs.Kinds.{kindOfType}
 use Rattle.types.proofs.KindLaws.{behind-kind}
 use Rattle.marks.specs.Gathering.{each}
-use Rattle.marks.specs.Marking.{unfitAt, errorAt, mark, markIf, isIndirectNow, namedItem, markError}
+use Rattle.marks.specs.Marking.{unfitAt, errorAt, mark, markIf}
 use Rattle.arguments.specs.Arguments.{isVectorKind, judgeError}
 
 pub vector-type : (t : Ty) → isVectorKind (kindOfType t) ≡ isCxxVector t
@@ -52,26 +51,6 @@ isPlainKind Kind.Fn = true
 isPlainKind Kind.Array = false
 isPlainKind Kind.Bad = true
 
-abbrev isTemplateKind : TypeKind → Bool
-isTemplateKind (Kind.Template k) = true
-isTemplateKind Kind.Atom = false
-isTemplateKind Kind.Named = false
-isTemplateKind (Kind.Pointer k) = false
-isTemplateKind Kind.Str = false
-isTemplateKind Kind.Fn = false
-isTemplateKind Kind.Array = false
-isTemplateKind Kind.Bad = false
-
-abbrev isArrayKind : TypeKind → Bool
-isArrayKind Kind.Array = true
-isArrayKind (Kind.Template k) = false
-isArrayKind Kind.Atom = false
-isArrayKind Kind.Named = false
-isArrayKind (Kind.Pointer k) = false
-isArrayKind Kind.Str = false
-isArrayKind Kind.Fn = false
-isArrayKind Kind.Bad = false
-
 module _ (u : List ℕ) where
   pub judge-plain : (t : Ty) (k : TypeKind) → k ≡ kindOfType t → isPlainKind k ≡ true → u ≡ judgeError t u
   unfolding judgeError each
@@ -85,24 +64,24 @@ module _ (u : List ℕ) where
 
   pub judge-array : (t : Ty) {v : List ℕ} → Kind.Array ≡ kindOfType t → v ≡ mark unfitAt u → v ≡ judgeError t u
   unfolding judgeError each
-  judge-array (atom a) e h = absurd (false≢true (sym (ap isArrayKind e)))
-  judge-array (named i) e h = absurd (false≢true (sym (ap isArrayKind e)))
-  judge-array (template j t) e h = absurd (false≢true (sym (ap isArrayKind e)))
-  judge-array (pointer j m t) e h = absurd (false≢true (sym (ap isArrayKind e)))
-  judge-array str e h = absurd (false≢true (sym (ap isArrayKind e)))
-  judge-array (fn r ts) e h = absurd (false≢true (sym (ap isArrayKind e)))
+  judge-array (atom a) e h = absurd (let y : _≡_ {A = ℕ} 0 1 = cc in omega arith)
+  judge-array (named i) e h = absurd (let y : _≡_ {A = ℕ} 0 1 = cc in omega arith)
+  judge-array (template j t) e h = absurd (let y : _≡_ {A = ℕ} 0 1 = cc in omega arith)
+  judge-array (pointer j m t) e h = absurd (let y : _≡_ {A = ℕ} 0 1 = cc in omega arith)
+  judge-array str e h = absurd (let y : _≡_ {A = ℕ} 0 1 = cc in omega arith)
+  judge-array (fn r ts) e h = absurd (let y : _≡_ {A = ℕ} 0 1 = cc in omega arith)
   judge-array (array t n) e h = h
 
-  pub judge-template : (t : Ty) {k : Template} {b : Bool} {v : List ℕ} → Kind.Template k ≡ kindOfType t → b ≡ isIndirectTemplate k →
-      v ≡ markIf b unfitAt u → v ≡ judgeError t u
+  pub judge-template : (t : Ty) {k : Template} {b : Bool} {v : List ℕ} → Kind.Template k ≡ kindOfType t →
+      b ≡ isIndirectTemplate k → v ≡ markIf b unfitAt u → v ≡ judgeError t u
   unfolding judgeError each
   judge-template (template j t) {k} e f h = let z : k ≡ j = cc in h ∙ rw (f, z)
-  judge-template (atom a) e f h = absurd (false≢true (sym (ap isTemplateKind e)))
-  judge-template (named i) e f h = absurd (false≢true (sym (ap isTemplateKind e)))
-  judge-template (pointer j m t) e f h = absurd (false≢true (sym (ap isTemplateKind e)))
-  judge-template str e f h = absurd (false≢true (sym (ap isTemplateKind e)))
-  judge-template (fn r ts) e f h = absurd (false≢true (sym (ap isTemplateKind e)))
-  judge-template (array t n) e f h = absurd (false≢true (sym (ap isTemplateKind e)))
+  judge-template (atom a) e f h = absurd (let y : _≡_ {A = ℕ} 0 1 = cc in omega arith)
+  judge-template (named i) e f h = absurd (let y : _≡_ {A = ℕ} 0 1 = cc in omega arith)
+  judge-template (pointer j m t) e f h = absurd (let y : _≡_ {A = ℕ} 0 1 = cc in omega arith)
+  judge-template str e f h = absurd (let y : _≡_ {A = ℕ} 0 1 = cc in omega arith)
+  judge-template (fn r ts) e f h = absurd (let y : _≡_ {A = ℕ} 0 1 = cc in omega arith)
+  judge-template (array t n) e f h = absurd (let y : _≡_ {A = ℕ} 0 1 = cc in omega arith)
 
 -- ---- atoms and names, by what stands behind the kind
 
@@ -145,8 +124,8 @@ module _ (n : ℕ) (s : List ℕ) (at : ℕ) {t : Ty} (y : Yields (type n s at) 
         in-turn (index n s (at + 4)) _ (body-of e) (λ i m f h.
         rw z (bits-there (widthOf n) s (at + 4) (index-field n s (at + 4) f) .0))
 
-    pub judge-named : (u : List ℕ) {i : ℕ} {v : List ℕ} → i ≡ bitsAt s (at + 4) w → v ≡ markIf (ltb i 256) (errorAt i) u →
-        v ≡ judgeError t u
+    pub judge-named : (u : List ℕ) {i : ℕ} {v : List ℕ} → i ≡ bitsAt s (at + 4) w →
+        v ≡ markIf (ltb i 256) (errorAt i) u → v ≡ judgeError t u
     unfolding judgeError each
     judge-named u {i} q h =
         in-turn (index n s (at + 4)) _ (body-of e) (λ j m f g.

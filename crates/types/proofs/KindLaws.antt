@@ -6,13 +6,13 @@ use native.Mathlib.Omega.{arith}
 use lib.ListN.{length}
 use Rattle.format.specs.Decode.{got, Dec, many}
 use Rattle.format.specs.Bits.{bitsAt, bits, bit, index}
-use Rattle.format.specs.Types.{Ty}
+use Rattle.format.specs.Types.{Ty, str}
 use Rattle.format.specs.declared.TypeKind.{TypeKind}
 use Rattle.format.specs.declared.TypeKind.the-variants as Kind
 use Rattle.format.specs.Decoding.{kindOf, optional, typeBody, typeAt, type}
 use Rattle.cursor.specs.Yielding.{nextOf, Yields}
-use Rattle.cursor.proofs.YieldLaws.{in-turn, got-value, bits-there}
-use Rattle.types.specs.Kinds.{kindOfType}
+use Rattle.cursor.proofs.YieldLaws.{yielded, in-turn, got-value, bits-there}
+use Rattle.types.specs.Kinds.{typeHere, kindOfType}
 
 -- what stands behind the kind says it
 pub body-type : (k : TypeKind) (n : ℕ) (ty : Dec Ty) (s : List ℕ) (at : ℕ) {t : Ty} {m : ℕ} →
@@ -49,3 +49,10 @@ module _ (n : ℕ) (s : List ℕ) (at : ℕ) {t : Ty} (y : Yields (type n s at) 
   pub behind-kind : typeBody (kindOfType t) n (typeAt n 7) s (at + 4) ≡ got t (nextOf (type n s at))
   behind-kind =
       ap (λ (k : TypeKind). typeBody k n (typeAt n 7) s (at + 4)) (sym (kind-here refl refl)) ∙ body-read
+
+  pub type-there : typeHere n s at ≡ t
+  unfolding typeHere
+  type-there = yielded str y
+
+  pub type-yields : Yields (type n s at) (typeHere n s at)
+  type-yields = rw type-there y

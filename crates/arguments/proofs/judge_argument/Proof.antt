@@ -1,10 +1,10 @@
--- Written by tools/proofkit from answers/judge_argument.tpl (e7f13d22 9a94c230).
+-- Written by tools/proofkit from answers/judge_argument.tpl (243a8d8c 1c0ded29).
 use borrow.Author.Needs.{needs}
 use native.Mathlib.Omega.{arith}
 use mathlib.Core.Path.{refl}
 use Rattle.cursor.proofs.WidthLaws.{width-le}
-use Rattle.types.proofs.KindLaws.{kind-room, kind-here}
-use Rattle.arguments.proofs.ArgumentLaws.{argument-read, type-there, type-yields, judged, judged-error}
+use Rattle.types.proofs.KindLaws.{kind-room, kind-here, type-there, type-yields}
+use Rattle.arguments.proofs.ArgumentLaws.{argument-read, judged, judged-error}
 use Rattle.arguments.proofs.judge_argument.Statement.{statement}
 use Rattle.arguments.proofs.judge_argument.Tie as tie
 
