@@ -6,7 +6,7 @@ use Prim.Native.Nat.{ℕ, _≤_}
 use native.Mathlib.Nat.{le-trans}
 use native.Mathlib.Omega.{arith}
 use lib.Dec.{leb}
-use lib.ListN.{length, take}
+use lib.ListN.{length, take, replicate}
 use borrow.Author.Tests.{leb-true}
 use Rattle.refusal.specs.declared.Refusal.{Refusal}
 use Rattle.refusal.specs.declared.Refusal.the-variants.{WrongPart, Taken, UnfitArgument, Ring, Overrun}
@@ -22,8 +22,9 @@ use Rattle.rules.specs.declared.Checked.{Checked}
 use Rattle.rules.specs.declared.Checked.the-variants as Checked
 use Rattle.rules.specs.Rules.{wrongPart, taken, unfitArgument, ring}
 use Rattle.rules.specs.Judge.{Judged, refused, accepted, ruled, judged, judge}
+use Rattle.marks.specs.Marking.{places}
 use Rattle.check_sheet.specs.Ruled.{ruledParts}
-use Rattle.check_sheet.proofs.CheckLaws.{ready-tables}
+use Rattle.check_sheet.proofs.CheckLaws.{ready-tables, marked-tables}
 use Rattle.services.specs.declared.Written.{Written}
 use Rattle.services.specs.declared.Written.the-variants as Written
 use Rattle.services.specs.Services.{structOrder, fitted, answerOf, bufferOf, Serves, Orders}
@@ -31,11 +32,12 @@ use Rattle.struct_order.specs.Lists.{orderOf, Lists, Decodes}
 
 -- ---- a sheet that was decoded, with its tables cut to their lengths
 
-pub decodes : (s : List ℕ) {o : Outline} {names items digests : List ℕ} → Tables s (decode s) o names items digests →
+pub decodes : (s : List ℕ) {o : Outline} {names items digests marks : List ℕ} → Tables s (decode s) o names items digests (replicate places 0) marks →
     mostNames ≤ length names → mostItems ≤ length items →
-    Decodes s (take (o .names) names) (take (o .items) items) (take (o .names) digests)
+    Decodes s (take (o .names) names) (take (o .items) items) (take (o .names) digests) marks
 decodes s t a b = record {
   ready = ready-tables s t a b;
+  marked = marked-tables s t a b;
   sheet = t .items .sheet;
   end = t .items .end;
   decoded = t .items .decoded;
@@ -58,7 +60,7 @@ abbrev elseJudged : Checked → Judged → Judged
 elseJudged (Checked.Refused e) next = refused e
 elseJudged Checked.Accepted next = next
 
-module _ (s : List ℕ) {names items digests : List ℕ} (d : Decodes s names items digests) where
+module _ (s : List ℕ) {names items digests marks : List ℕ} (d : Decodes s names items digests marks) where
   abbrev byRing : Judged
   byRing = pick (ring (d .sheet .items)) (refused Ring) (accepted (d .sheet))
 

@@ -12,6 +12,7 @@ use Rattle.toposort.specs.Sort.{order}
 use Rattle.rules.specs.Rules.{heldStructs, structs, ring}
 use Rattle.services.specs.declared.Written.{Written}
 use Rattle.services.specs.declared.Written.the-variants as Written
+use Rattle.judge.specs.Marked.{Marked}
 use Rattle.services.specs.Services.{fitted, overlaid}
 
 -- the structs in order, by item number
@@ -24,8 +25,9 @@ pub record Lists (items : List Item) (buffer : List ℕ) (answer : Written) (aft
   pub leaves : after ≡ pick (ring items) buffer (overlaid (orderOf items) buffer)
 
 -- the sheet s is decoded, and its items are those that the tables give
-pub record Decodes (s names items digests : List ℕ) : Type 0 where
+pub record Decodes (s names items digests marks : List ℕ) : Type 0 where
   pub ready : Ready s names items digests
+  pub marked : Marked s names items marks
   pub sheet : Sheet
   pub end : ℕ
   pub decoded : decode s ≡ got sheet end

@@ -5,7 +5,7 @@ use mathlib.Core.Bool.{Bool, true, false}
 use Prim.Native.Nat.{ℕ, _≤_, _<_, _^_}
 use native.Mathlib.Omega.{arith}
 use native.Mathlib.Nat.{le-trans}
-use lib.ListN.{length, take, drop, drop-of-length-le}
+use lib.ListN.{length, take, drop, replicate, drop-of-length-le}
 use lib.Seq.{length-take-le}
 use borrow.Author.Tests.{le-leb, lt-leb}
 use Rattle.refusal.specs.declared.Refusal.{Refusal}
@@ -14,6 +14,7 @@ use Rattle.format.specs.Decode.{fault, got, pick}
 use Rattle.format.specs.Sheet.{Sheet}
 use Rattle.format.specs.Decoding.{decode}
 use Rattle.format.specs.declared.Outline.{Outline}
+use Rattle.marks.specs.Marking.{places}
 use Rattle.decode.specs.Tables.{Tables}
 use Rattle.view.specs.Values.{itemsAt}
 use Rattle.view.proofs.WholeLaws.{items-are}
@@ -90,11 +91,11 @@ writes-judged s {x} h j =
     by-rules (wrongPart (x .items)) (taken (x .items)) (unfitArgument (x .items)) (ring (x .items)) x (j .is) s (rw h)
 
 -- a decoded sheet is that of its outline and its tables
-pub writes-tables : (s : List ℕ) {o : Outline} {names items digests buffer after : List ℕ} {r : Written} →
-    Tables s (decode s) o names items digests → 1023 ≤ length names → 255 ≤ length items →
+pub writes-tables : (s : List ℕ) {o : Outline} {names items digests marks buffer after : List ℕ} {r : Written} →
+    Tables s (decode s) o names items digests (replicate places 0) marks → 1023 ≤ length names → 255 ≤ length items →
     Judges (sheetOf (o .header) (o .doxygen) (itemsAt s (take (o .names) names) (take (o .items) items))) buffer r after →
     Writes s buffer r after
-writes-tables s {o} {names} {items} {digests} {buffer} {after} {r} t a b j =
+writes-tables s {o} {names} {items} {digests} {marks} {buffer} {after} {r} t a b j =
     writes-judged s (t .items .decoded)
     (rw (
       t .items .header,

@@ -3,15 +3,18 @@ use check_sheet::judge;
 use decode::Decoded;
 use decode::decode;
 use format::Outline;
+use marks::Mark;
 use refusal::Refusal;
 use rules::Checked;
 use services::Written;
 use write::write_text;
 ghost use Prim.Native.Nat.{_≤_};
-ghost use lib.ListN.{length};
+ghost use lib.ListN.{length, replicate};
 ghost use Rattle.format.specs.Limits.{mostNames, mostItems};
 ghost use Rattle.format.specs.Decoding.{decode as decodeOf};
 ghost use Rattle.decode.specs.Tables.{Tables, Answers};
+ghost use Rattle.marks.specs.Marking.{places};
+ghost use Rattle.judge.specs.Marked.{Marked};
 ghost use Rattle.bridge.specs.Write.{text};
 ghost use Rattle.services.specs.Services.{Writes};
 ghost use Rattle.view.specs.Values.{itemsAt, Ready};
@@ -55,16 +58,18 @@ fn write_judged(
     names: &[u32],
     items: &[u32],
     digests: &[u32],
+    marks: &[u8; Mark::PLACES],
     header: bool,
     doxygen: bool,
     buf: &mut [u8],
 ) -> Written
-    requires { ⌜ Ready (now s) (now names) (now items) (now digests) ⌝ }
+    requires { ⌜ Ready (now s) (now names) (now items) (now digests) ×
+        Marked (now s) (now names) (now items) (now marks) ⌝ }
     ensures { λ r. ⌜ Judges
         (sheetOf header doxygen (itemsAt (now (s .entry)) (now (names .entry)) (now (items .entry))))
         (now (buf .entry)) r (now (buf .exit)) ⌝ }
 {
-    let c = judge(s, names, items, digests);
+    let c = judge(s, names, items, digests, marks);
     match c {
         Checked::Refused(e) => Written::Refused(e),
         Checked::Accepted => deliver(s, names, items, digests, header, doxygen, buf),
@@ -77,11 +82,12 @@ fn write_decoded(
     names: &[u32],
     items: &[u32],
     digests: &[u32],
+    marks: &[u8; Mark::PLACES],
     o: Outline,
     buf: &mut [u8],
 ) -> Written
-    requires { ⌜ Tables (now sheet) (decodeOf (now sheet)) o (now names) (now items) (now digests) ×
-        (mostNames ≤ length (now names)) × (mostItems ≤ length (now items)) × (mostNames ≤ length (now digests)) ⌝ }
+    requires { ⌜ Tables (now sheet) (decodeOf (now sheet)) o (now names) (now items) (now digests)
+        (replicate places 0) (now marks) × (mostNames ≤ length (now names)) × (mostItems ≤ length (now items)) × (mostNames ≤ length (now digests)) ⌝ }
     ensures { λ r. ⌜ Writes (now (sheet .entry)) (now (buf .entry)) r (now (buf .exit)) ⌝ }
 {
     let n = o.names as usize;
@@ -91,6 +97,7 @@ fn write_decoded(
         &names[..n],
         &items[..k],
         &digests[..n],
+        marks,
         o.header,
         o.doxygen,
         buf,
@@ -103,15 +110,17 @@ fn answer(
     names: &[u32; Outline::NAMES],
     items: &[u32; Outline::ITEMS],
     digests: &[u32; Outline::NAMES],
+    marks: &[u8; Mark::PLACES],
     d: Decoded,
     buf: &mut [u8],
 ) -> Written
-    requires { ⌜ Answers (now sheet) (decodeOf (now sheet)) d (now names) (now items) (now digests) ⌝ }
+    requires { ⌜ Answers (now sheet) (decodeOf (now sheet)) d (now names) (now items) (now digests)
+        (replicate places 0) (now marks) ⌝ }
     ensures { λ r. ⌜ Writes (now (sheet .entry)) (now (buf .entry)) r (now (buf .exit)) ⌝ }
 {
     match d {
         Decoded::Refused(e) => Written::Refused(e),
-        Decoded::Whole(o) => write_decoded(sheet, names, items, digests, o, buf),
+        Decoded::Whole(o) => write_decoded(sheet, names, items, digests, marks, o, buf),
     }
 }
 
@@ -122,6 +131,7 @@ pub fn write(sheet: &[u8], buf: &mut [u8]) -> Written
     let mut names = [0u32; Outline::NAMES];
     let mut items = [0u32; Outline::ITEMS];
     let mut digests = [0u32; Outline::NAMES];
-    let d = decode(sheet, &mut names, &mut items, &mut digests);
-    answer(sheet, &names, &items, &digests, d, buf)
+    let mut marks = [0u8; Mark::PLACES];
+    let d = decode(sheet, &mut names, &mut items, &mut digests, &mut marks);
+    answer(sheet, &names, &items, &digests, &marks, d, buf)
 }

@@ -1,9 +1,9 @@
--- Written by tools/proofkit from answers/check_decoded.tpl (b1c0a82f 6a22ccf1).
+-- Written by tools/proofkit from answers/check_decoded.tpl (a0232cdb bf3be853).
 use borrow.Author.Needs.{needs}
 use native.Mathlib.Omega.{arith}
 use mathlib.Core.Path.{sym}
 use lib.Seq.{length-take-le}
-use Rattle.check_sheet.proofs.CheckLaws.{check-tables, ready-tables}
+use Rattle.check_sheet.proofs.CheckLaws.{check-tables, ready-tables, marked-tables}
 use Rattle.check_sheet.proofs.check_decoded.Statement.{statement}
 use Rattle.check_sheet.proofs.check_decoded.Tie as tie
 
@@ -17,7 +17,7 @@ slice-aggregate-judge-3 : tie.Need-slice-aggregate-judge-3
 slice-aggregate-judge-3 c = sym (length-take-le _ _ (omega (arith, c .before .before .before .before .before .before .before .before .before .pre .0 .few)))
 
 judge-requires : tie.Need-judge-requires
-judge-requires c κs = ready-tables _ (c .before .before .before .before .before .before .before .before .before .pre .0) (c .before .before .before .before .before .before .before .before .before .pre .1) (c .before .before .before .before .before .before .before .before .before .pre .2)
+judge-requires c κs = (ready-tables _ (c .before .before .before .before .before .before .before .before .before .pre .0) (c .before .before .before .before .before .before .before .before .before .pre .1) (c .before .before .before .before .before .before .before .before .before .pre .2), marked-tables _ (c .before .before .before .before .before .before .before .before .before .pre .0) (c .before .before .before .before .before .before .before .before .before .pre .1) (c .before .before .before .before .before .before .before .before .before .pre .2))
 
 returns : tie.Need-returns
 returns c = check-tables _ (c .before .before .before .before .before .before .before .before .before .before .pre .0) (c .before .before .before .before .before .before .before .before .before .before .pre .1) (c .before .before .before .before .before .before .before .before .before .before .pre .2) (c .judge .ensures)
