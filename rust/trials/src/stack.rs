@@ -1,6 +1,8 @@
 //! How much stack a call takes: it runs on a stack of its own that was painted
 //! before, and the paint that is gone is counted.
 
+use crate::sheets;
+use sheet::{Rng, encode, generate};
 use std::arch::asm;
 
 /// The stack's size, and how much of it is painted.
@@ -65,6 +67,51 @@ impl Default for Stack {
 extern "C" fn enter(call: *mut &mut dyn FnMut()) {
     // SAFETY: the only caller passes a pointer to a local that it does not use meanwhile.
     unsafe { (*call)() }
+}
+
+/// The most bytes that a call took, and on which sheet: large ones, those at the
+/// limits, and so many of each generated kind. An error if some call took all.
+pub fn deepest(generated: u64, mut call: impl FnMut(&[u8])) -> Result<(usize, String), ()> {
+    let mut stack = Stack::new();
+    let mut deepest = (0, String::new());
+    for (label, sheet) in all(generated) {
+        let depth = stack.depth(|| call(&sheet)).ok_or(())?;
+        if depth > deepest.0 {
+            deepest = (depth, label);
+        }
+    }
+    Ok(deepest)
+}
+
+fn all(count: u64) -> impl Iterator<Item = (String, Vec<u8>)> {
+    let large = [
+        ("1,023 names", sheets::many_names()),
+        ("255 functions with 8 arguments", sheets::functions(8)),
+        ("255 functions with 31 arguments", sheets::functions(31)),
+        ("255 structs in a chain", sheets::chain()),
+        (
+            "255 structs in a chain backwards",
+            sheets::chain_backwards(),
+        ),
+        ("255 structs in diamonds", sheets::diamonds()),
+        ("255 structs with 63 fields", sheets::dense()),
+        ("the longest text", sheets::longest_text()),
+    ];
+    let large = large.map(|(label, sheet)| (label.to_string(), encode(&sheet)));
+    let generated = (0..count).map(|number| {
+        let sheet = generate::any(&mut Rng::new(number));
+        (format!("generated, seed {number}"), sheet)
+    });
+    let structs = (0..count).map(|number| {
+        let sheet = sheets::structs(&mut Rng::new(number));
+        (format!("structs, seed {number}"), encode(&sheet))
+    });
+    large
+        .into_iter()
+        .chain(generate::boundaries())
+        .chain(generate::signatures())
+        .chain(generated)
+        .chain(structs)
 }
 
 #[cfg(test)]

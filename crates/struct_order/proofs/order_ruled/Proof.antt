@@ -1,8 +1,11 @@
--- Written by tools/proofkit from answers/order_ruled.tpl (64dee0ca fa4a52e6).
+-- Written by tools/proofkit from answers/order_ruled.tpl (32af1564 ecd0e01a).
 use borrow.Author.Needs.{needs}
 use Rattle.struct_order.proofs.ServeLaws.{orders-unruled, orders-listed}
 use Rattle.struct_order.proofs.order_ruled.Statement.{statement}
 use Rattle.struct_order.proofs.order_ruled.Tie as tie
+
+judge-parts-requires : tie.Need-judge-parts-requires
+judge-parts-requires c κs = (c .before .before .before .before .before .pre .ready, c .before .before .before .before .before .pre .marked)
 
 returns : tie.Need-returns
 returns c = orders-unruled _ (c .before .before .before .before .before .before .before .before .before .pre) _ (c .before .before .before .judge-parts .ensures) (c .before .parts .given .1)
@@ -14,7 +17,7 @@ pub order-ruled-spec : {M : Type 1} → statement M
 order-ruled-spec =
     tie.close
     (tie.spec
-    (λ c κs. search needs)
+    judge-parts-requires
     (λ c. search needs)
     (λ c. search needs)
     (λ c κs. search needs)

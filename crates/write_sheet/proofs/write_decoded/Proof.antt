@@ -1,9 +1,9 @@
--- Written by tools/proofkit from answers/write_decoded.tpl (6dfa2f4d 690afb3c).
+-- Written by tools/proofkit from answers/write_decoded.tpl (ea040810 85e3fe97).
 use borrow.Author.Needs.{needs}
 use native.Mathlib.Omega.{arith}
 use mathlib.Core.Path.{sym}
 use lib.Seq.{length-take-le}
-use Rattle.check_sheet.proofs.CheckLaws.{ready-tables}
+use Rattle.check_sheet.proofs.CheckLaws.{ready-tables, marked-tables}
 use Rattle.write_sheet.proofs.DeliverLaws.{writes-tables}
 use Rattle.write_sheet.proofs.write_decoded.Statement.{statement}
 use Rattle.write_sheet.proofs.write_decoded.Tie as tie
@@ -18,7 +18,7 @@ slice-aggregate-write-judged-3 : tie.Need-slice-aggregate-write-judged-3
 slice-aggregate-write-judged-3 c = sym (length-take-le _ _ (omega (arith, c .before .before .before .before .before .before .before .before .before .before .pre .0 .few)))
 
 write-judged-requires : tie.Need-write-judged-requires
-write-judged-requires c κs = ready-tables _ (c .before .before .before .before .before .before .before .before .before .before .before .pre .0) (c .before .before .before .before .before .before .before .before .before .before .before .pre .1) (c .before .before .before .before .before .before .before .before .before .before .before .pre .2)
+write-judged-requires c κs = (ready-tables _ (c .before .before .before .before .before .before .before .before .before .before .before .pre .0) (c .before .before .before .before .before .before .before .before .before .before .before .pre .1) (c .before .before .before .before .before .before .before .before .before .before .before .pre .2), marked-tables _ (c .before .before .before .before .before .before .before .before .before .before .before .pre .0) (c .before .before .before .before .before .before .before .before .before .before .before .pre .1) (c .before .before .before .before .before .before .before .before .before .before .before .pre .2))
 
 returns : tie.Need-returns
 returns c = writes-tables _ (c .before .before .before .before .before .before .before .before .before .before .before .before .before .before .pre .0) (c .before .before .before .before .before .before .before .before .before .before .before .before .before .before .pre .1) (c .before .before .before .before .before .before .before .before .before .before .before .before .before .before .pre .2) (c .before .before .write-judged .ensures)

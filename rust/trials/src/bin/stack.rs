@@ -1,10 +1,8 @@
 //! `stack`: the peak stack of the services.
 
-use sheet::{Rng, encode, generate};
 use std::hint::black_box;
 use std::process::ExitCode;
-use trials::sheets;
-use trials::stack::Stack;
+use trials::stack::deepest;
 
 const USAGE: &str = "usage: stack
 
@@ -24,19 +22,19 @@ fn main() -> ExitCode {
     let mut text = vec![0; 80 << 20];
     let mut plain_text = text.clone();
     let deepest = [
-        deepest(|sheet| {
+        deepest(2_000, |sheet| {
             let _ = black_box(bridgetext::check(sheet));
         }),
-        deepest(|sheet| {
+        deepest(2_000, |sheet| {
             let _ = black_box(bridgetext::struct_order(sheet, &mut buffer));
         }),
-        deepest(|sheet| {
+        deepest(2_000, |sheet| {
             let _ = black_box(bridgetext::write(sheet, &mut text));
         }),
-        deepest(|sheet| {
+        deepest(2_000, |sheet| {
             black_box(sheet::check(sheet));
         }),
-        deepest(|sheet| {
+        deepest(2_000, |sheet| {
             let _ = black_box(plain::write(sheet, &mut plain_text));
         }),
     ];
@@ -57,49 +55,4 @@ fn main() -> ExitCode {
         println!("| {call} | {depth} | {label} |");
     }
     ExitCode::SUCCESS
-}
-
-/// The most bytes that a call took, and on which sheet; an error if some call
-/// took all.
-fn deepest(mut call: impl FnMut(&[u8])) -> Result<(usize, String), ()> {
-    let mut stack = Stack::new();
-    let mut deepest = (0, String::new());
-    for (label, sheet) in all() {
-        let depth = stack.depth(|| call(&sheet)).ok_or(())?;
-        if depth > deepest.0 {
-            deepest = (depth, label);
-        }
-    }
-    Ok(deepest)
-}
-
-fn all() -> impl Iterator<Item = (String, Vec<u8>)> {
-    let large = [
-        ("1,023 names", sheets::many_names()),
-        ("255 functions with 8 arguments", sheets::functions(8)),
-        ("255 functions with 31 arguments", sheets::functions(31)),
-        ("255 structs in a chain", sheets::chain()),
-        (
-            "255 structs in a chain backwards",
-            sheets::chain_backwards(),
-        ),
-        ("255 structs in diamonds", sheets::diamonds()),
-        ("255 structs with 63 fields", sheets::dense()),
-        ("the longest text", sheets::longest_text()),
-    ];
-    let large = large.map(|(label, sheet)| (label.to_string(), encode(&sheet)));
-    let generated = (0..2_000).map(|number| {
-        let sheet = generate::any(&mut Rng::new(number));
-        (format!("generated, seed {number}"), sheet)
-    });
-    let structs = (0..2_000).map(|number| {
-        let sheet = sheets::structs(&mut Rng::new(number));
-        (format!("structs, seed {number}"), encode(&sheet))
-    });
-    large
-        .into_iter()
-        .chain(generate::boundaries())
-        .chain(generate::signatures())
-        .chain(generated)
-        .chain(structs)
 }
