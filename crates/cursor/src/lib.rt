@@ -96,18 +96,17 @@ fn bit_in(s: &[u8], i: u32) -> u64
     (byte_in(s, b) >> (7 - i % 8)) % 2
 }
 
-// The value of n bits, bit by bit.
+// The value of n bits, bit by bit. It calls itself, so that no caller grows by it.
 fn extract_slowly(s: &[u8], at: u32, n: u32) -> u64
     requires { ⌜ Limited (now s) × (n ≤ 57) × (at + n ≤ 8 * length (now s)) ⌝ }
     ensures { λ r. ⌜ r ≡ bitsAt (now (s .entry)) at n ⌝ }
 {
-    let mut value: u64 = 0;
-    let mut i: u32 = 0;
-    while i < n {
-        value = 2 * value + bit_in(s, at + i);
-        i = i + 1;
+    if n == 0 {
+        return 0;
     }
-    value
+    let less = n - 1;
+    let high = extract_slowly(s, at, less);
+    2 * high + bit_in(s, at + less)
 }
 
 // The value of n bits, all of them in the sheet.

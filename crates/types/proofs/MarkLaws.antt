@@ -10,7 +10,8 @@ use Rattle.refusal.specs.declared.Refusal.the-variants.{CutSheet, LooseIndex}
 use Rattle.format.specs.Decode.{fault, got, many}
 use Rattle.format.specs.Bits.{bits, bit, widthOf, index}
 use Rattle.format.specs.Types.{Ty, named, template, pointer, fn, array, Ret, gives, tys}
-use Rattle.format.specs.Decoding.{typeBody, typeAt, optional}
+use Rattle.format.specs.Decoding.{kindOf, typeBody, typeAt, optional}
+use Rattle.format.specs.declared.TypeKind.{TypeKind}
 use Rattle.format.specs.declared.TypeKind.the-variants as Kind
 use Rattle.cursor.specs.declared.Cursor.{Cursor}
 use Rattle.cursor.specs.declared.Step.{Step}
@@ -21,7 +22,7 @@ use Rattle.cursor.proofs.CodeLaws.{at-in, cut-in, loose-in, bits-past}
 use Rattle.marks.specs.Gathering.{each, Gathers}
 use Rattle.marks.specs.Marking.{markIndex, markTy, markRet, markTys}
 use Rattle.marks.proofs.GatherLaws.{made, idle}
-use Rattle.types.proofs.TypeLaws.{type-cut}
+use Rattle.types.proofs.TypeLaws.{type-cut, type-body}
 
 -- ---- an item index
 
@@ -103,6 +104,12 @@ module _ (n levels : ℕ) (s : List ℕ) (at : ℕ) {u : List ℕ} where
         Gathers (each markTy) (many k (typeAt n levels) s first) w r v → Gathers markTy (typeBody Kind.Fn n (typeAt n levels) s at) u r v
     unfolding markTy
     fn-marks q g h = rw (e, g) (made (λ ts. fn x (tys ts)) (λ ts. types-like ts (markRet x u) ∙ ap (each markTy ts) (sym q)) h)
+
+-- what stands behind a kind
+pub body-marks : (n levels : ℕ) (s : List ℕ) (at : ℕ) {k m : ℕ} {kind : TypeKind} {u v : List ℕ} {r : Step} →
+    bits 4 s at ≡ got k m → (levels ≡ 0 → ⊥) → kind ≡ kindOf k →
+    Gathers markTy (typeBody kind n (typeAt n (levels - 1)) s m) u r v → Gathers markTy (typeAt n levels s at) u r v
+body-marks n levels s at e h z g = rw (type-body n levels s at e h, ← z) g
 
 -- ---- nothing stands past a sheet's last position
 

@@ -118,30 +118,22 @@ fn walk_type(s: &[u8], at: u32, items: u32, left: u32, marks: &mut [u8]) -> u32
     if left == 0 {
         return too_deep(kind);
     }
-    walk_body(s, body, items, left - 1, kind, marks)
-}
-
-// Past what stands behind a kind.
-fn walk_body(s: &[u8], at: u32, items: u32, left: u32, kind: TypeKind, marks: &mut [u8]) -> u32
-    requires { ⌜ Limited (now s) × (at ≤ mostBits) ⌝ }
-    ensures { λ r. ⌜ Gathers markTy (typeBody kind items (typeAt items left) (now (s .entry)) at)
-        (now (marks .entry)) (stepIn r) (now (marks .exit)) ⌝ }
-{
+    let deeper = left - 1;
     match kind {
-        TypeKind::Atom => pass(s, at, 4),
-        TypeKind::Named => walk_index(s, at, items, marks),
-        TypeKind::Template(_) => walk_type(s, at, items, left, marks),
+        TypeKind::Atom => pass(s, body, 4),
+        TypeKind::Named => walk_index(s, body, items, marks),
+        TypeKind::Template(_) => walk_type(s, body, items, deeper, marks),
         TypeKind::Pointer(_) => {
-            let r = pass(s, at, 1);
+            let r = pass(s, body, 1);
             if Cursor::LAST < r {
                 return r;
             }
-            walk_type(s, r, items, left, marks)
+            walk_type(s, r, items, deeper, marks)
         }
-        TypeKind::Str => at,
-        TypeKind::Fn => walk_fn(s, at, items, left, marks),
+        TypeKind::Str => body,
+        TypeKind::Fn => walk_fn(s, body, items, deeper, marks),
         TypeKind::Array => {
-            let r = walk_type(s, at, items, left, marks);
+            let r = walk_type(s, body, items, deeper, marks);
             if Cursor::LAST < r {
                 return r;
             }

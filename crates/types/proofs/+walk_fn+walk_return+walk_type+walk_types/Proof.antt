@@ -1,4 +1,4 @@
--- Written by tools/proofkit from answers/+walk_body+walk_fn+walk_return+walk_type+walk_types.tpl (d01288ab 550c5d3a).
+-- Written by tools/proofkit from answers/+walk_fn+walk_return+walk_type+walk_types.tpl (85d21cc2 ec0ef644).
 use borrow.Author.Needs.{needs}
 use Prim.Native.Nat.{ℕ, _+_, _-_, _*_, _<_, _≤_}
 use native.Mathlib.Omega.{arith}
@@ -12,56 +12,44 @@ use Rattle.cursor.proofs.CheckLaws.{stepped, stopped}
 use Rattle.cursor.proofs.CodeLaws.{at-in, fault-in, cut-in, bad-in, bits-cut, bits-whole}
 use Rattle.marks.specs.Marking.{markTy}
 use Rattle.marks.proofs.GatherLaws.{moved, halted, stays, stays-checks, refused, folded, fold-none, fold-turn, fold-stop, fold-done}
-use Rattle.types.proofs.TypeLaws.{type-cut, type-deep, type-body}
+use Rattle.types.proofs.TypeLaws.{type-cut, type-deep}
 use Rattle.types.proofs.MarkLaws.{atom-marks, named-marks, template-marks, pointer-marks, str-marks}
 use Rattle.types.proofs.MarkLaws.{array-marks, result-marks, result-none, result-cut}
-use Rattle.types.proofs.MarkLaws.{fn-cut, fn-marks}
+use Rattle.types.proofs.MarkLaws.{fn-cut, fn-marks, body-marks}
 use borrow.Fn.Kinds.{In}
 use borrow.Fn.PlainCycle.{Measures, is, falls, and}
-use Rattle.types.proofs.walk_body.Reads as walk-body
-use Rattle.types.proofs.walk_body.Kinds as walk-body-kinds
-use Rattle.types.proofs.+walk_body+walk_fn+walk_return+walk_type+walk_types.Lts-walk_body as walk-body-lts
 use Rattle.types.proofs.walk_fn.Reads as walk-fn
 use Rattle.types.proofs.walk_fn.Kinds as walk-fn-kinds
-use Rattle.types.proofs.+walk_body+walk_fn+walk_return+walk_type+walk_types.Lts-walk_fn as walk-fn-lts
+use Rattle.types.proofs.+walk_fn+walk_return+walk_type+walk_types.Lts-walk_fn as walk-fn-lts
 use Rattle.types.proofs.walk_return.Reads as walk-return
 use Rattle.types.proofs.walk_return.Kinds as walk-return-kinds
-use Rattle.types.proofs.+walk_body+walk_fn+walk_return+walk_type+walk_types.Lts-walk_return as walk-return-lts
+use Rattle.types.proofs.+walk_fn+walk_return+walk_type+walk_types.Lts-walk_return as walk-return-lts
 use Rattle.types.proofs.walk_type.Reads as walk-type
 use Rattle.types.proofs.walk_type.Kinds as walk-type-kinds
-use Rattle.types.proofs.+walk_body+walk_fn+walk_return+walk_type+walk_types.Lts-walk_type as walk-type-lts
+use Rattle.types.proofs.+walk_fn+walk_return+walk_type+walk_types.Lts-walk_type as walk-type-lts
 use Rattle.types.proofs.walk_types.Reads as walk-types
 use Rattle.types.proofs.walk_types.Kinds as walk-types-kinds
-use Rattle.types.proofs.+walk_body+walk_fn+walk_return+walk_type+walk_types.Lts-walk_types as walk-types-lts
+use Rattle.types.proofs.+walk_fn+walk_return+walk_type+walk_types.Lts-walk_types as walk-types-lts
 use Rattle.cursor.proofs.end_of.Reads as end-of-reads
 use Rattle.cursor.proofs.extract.Reads as extract-reads
 use Rattle.cursor.proofs.pass.Reads as pass-reads
 use Rattle.types.proofs.kind_of.Reads as kind-of-reads
 use Rattle.types.proofs.too_deep.Reads as too-deep-reads
 use Rattle.types.proofs.walk_index.Reads as walk-index-reads
-use Rattle.types.proofs.+walk_body+walk_fn+walk_return+walk_type+walk_types.{statement}
-use Rattle.types.proofs.+walk_body+walk_fn+walk_return+walk_type+walk_types.Tie.{close}
-
-abbrev μ-walk-body : Measures 2 walk-body-kinds.ps ℕ
-μ-walk-body κs a = 5 * (a .1 .1 .1 .0) + 4
+use Rattle.types.proofs.+walk_fn+walk_return+walk_type+walk_types.{statement}
+use Rattle.types.proofs.+walk_fn+walk_return+walk_type+walk_types.Tie.{close}
 
 abbrev μ-walk-fn : Measures 2 walk-fn-kinds.ps ℕ
-μ-walk-fn κs a = 5 * (a .1 .1 .1 .0) + 3
+μ-walk-fn κs a = 4 * (a .1 .1 .1 .0) + 3
 
 abbrev μ-walk-return : Measures 2 walk-return-kinds.ps ℕ
-μ-walk-return κs a = 5 * (a .1 .1 .1 .0) + 2
+μ-walk-return κs a = 4 * (a .1 .1 .1 .0) + 2
 
 abbrev μ-walk-type : Measures 2 walk-type-kinds.ps ℕ
-μ-walk-type κs a = 5 * (a .1 .1 .1 .0)
+μ-walk-type κs a = 4 * (a .1 .1 .1 .0)
 
 abbrev μ-walk-types : Measures 2 walk-types-kinds.ps ℕ
-μ-walk-types κs a = 5 * (a .1 .1 .1 .0) + 1
-
-abbrev walk-body-at : ℕ → In 2 walk-body-kinds.ps
-walk-body-at t = and 2 walk-body-kinds.ps (is 2 walk-body-kinds.ps μ-walk-body t) walk-body.Pre
-
-abbrev walk-body-below : ℕ → In 2 walk-body-kinds.ps
-walk-body-below t = and 2 walk-body-kinds.ps (falls 2 walk-body-kinds.ps _<_ μ-walk-body t) walk-body.Pre
+μ-walk-types κs a = 4 * (a .1 .1 .1 .0) + 1
 
 abbrev walk-fn-at : ℕ → In 2 walk-fn-kinds.ps
 walk-fn-at t = and 2 walk-fn-kinds.ps (is 2 walk-fn-kinds.ps μ-walk-fn t) walk-fn.Pre
@@ -86,50 +74,6 @@ walk-types-at t = and 2 walk-types-kinds.ps (is 2 walk-types-kinds.ps μ-walk-ty
 
 abbrev walk-types-below : ℕ → In 2 walk-types-kinds.ps
 walk-types-below t = and 2 walk-types-kinds.ps (falls 2 walk-types-kinds.ps _<_ μ-walk-types t) walk-types.Pre
-
-abbrev K-walk-body : ℕ → walk-body-lts.Claims
-K-walk-body t = (
-  pass-reads.Asked,
-  pass-reads.Learnt,
-  walk-index-reads.Asked,
-  walk-index-reads.Learnt,
-  walk-type-below t,
-  walk-type.Post,
-  walk-fn-below t,
-  walk-fn.Post,
-)
-
-walk-body-returns : (t : ℕ) → walk-body-lts.Need-returns (K-walk-body t) (walk-body-at t) walk-body.Post
-walk-body-returns t c = rw (c .before .before .enum-told4 .given .1) (stays-checks _ (bit-checks _ _ (c .before .pass2 .ensures)) (c .if1 .taken))
-
-walk-body-returns-2 : (t : ℕ) → walk-body-lts.Need-returns-2 (K-walk-body t) (walk-body-at t) walk-body.Post
-walk-body-returns-2 t c = rw (c .before .before .before .before .before .enum-told7 .given .1) (stays _ (c .before .before .before .walk-type3 .ensures) (c .if2 .taken))
-
-walk-body-returns-3 : (t : ℕ) → walk-body-lts.Need-returns-3 (K-walk-body t) (walk-body-at t) walk-body.Post
-walk-body-returns-3 t c = rw (c .before .enum-told .given .1) (atom-marks (c .before .before .before .before .before .args .items) (c .before .before .before .before .before .args .left) (c .before .before .before .before .before .args .s .now) (c .before .before .before .before .before .args .at) (c .pass .ensures))
-
-walk-body-returns-4 : (t : ℕ) → walk-body-lts.Need-returns-4 (K-walk-body t) (walk-body-at t) walk-body.Post
-walk-body-returns-4 t c = rw (c .before .before .before .before .enum-told2 .given .1) (named-marks (c .before .before .before .before .before .before .before .before .args .items) (c .before .before .before .before .before .before .before .before .args .left) (c .before .before .before .before .before .before .before .before .args .s .now) (c .before .before .before .before .before .before .before .before .args .at) (c .before .before .walk-index .ensures))
-
-walk-body-returns-5 : (t : ℕ) → walk-body-lts.Need-returns-5 (K-walk-body t) (walk-body-at t) walk-body.Post
-walk-body-returns-5 t c = rw (c .before .before .before .before .enum-told3 .given .1) (template-marks (c .before .before .before .before .before .before .before .before .args .items) (c .before .before .before .before .before .before .before .before .args .left) (c .before .before .before .before .before .before .before .before .args .s .now) (c .before .before .before .before .before .before .before .before .args .at) _ (c .before .before .walk-type .ensures))
-
-walk-body-returns-6 : (t : ℕ) → walk-body-lts.Need-returns-6 (K-walk-body t) (walk-body-at t) walk-body.Post
-walk-body-returns-6 t c = rw (c .before .before .before .before .before .before .enum-told4 .given .1) (pointer-marks (c .before .before .before .before .before .before .before .before .before .before .args .items) (c .before .before .before .before .before .before .before .before .before .before .args .left) (c .before .before .before .before .before .before .before .before .before .before .args .s .now) (c .before .before .before .before .before .before .before .before .before .before .args .at) _ (stepped (bit-checks _ _ (c .before .before .before .before .before .pass2 .ensures)) (at-in (c .before .before .before .before .if1 .left)) .1) (c .before .before .walk-type2 .ensures))
-
-walk-body-returns-7 : (t : ℕ) → walk-body-lts.Need-returns-7 (K-walk-body t) (walk-body-at t) walk-body.Post
-walk-body-returns-7 t c = rw (c .enum-told5 .given .1) (str-marks (c .before .before .before .before .args .items) (c .before .before .before .before .args .left) (c .before .before .before .before .args .s .now) (c .before .before .before .before .args .at) (omega arith))
-
-walk-body-returns-8 : (t : ℕ) → walk-body-lts.Need-returns-8 (K-walk-body t) (walk-body-at t) walk-body.Post
-walk-body-returns-8 t c = rw (c .before .before .before .before .enum-told6 .given .1) (c .before .before .walk-fn .ensures)
-
-walk-body-returns-9 : (t : ℕ) → walk-body-lts.Need-returns-9 (K-walk-body t) (walk-body-at t) walk-body.Post
-walk-body-returns-9 t c =
-    let m = moved (c .before .before .before .before .walk-type3 .ensures) (at-in (c .before .if2 .left)) in
-    rw (c .before .before .before .before .before .before .enum-told7 .given .1) (array-marks (c .before .before .before .before .before .before .before .before .before .before .args .items) (c .before .before .before .before .before .before .before .before .before .before .args .left) (c .before .before .before .before .before .before .before .before .before .before .args .s .now) (c .before .before .before .before .before .before .before .before .before .before .args .at) (m .1) (m .2) (c .pass3 .ensures))
-
-walk-body-returns-10 : (t : ℕ) → walk-body-lts.Need-returns-10 (K-walk-body t) (walk-body-at t) walk-body.Post
-walk-body-returns-10 t c = rw (c .enum-told8 .given .1, bad-in) record { gathered = refl }
 
 abbrev K-walk-fn : ℕ → walk-fn-lts.Claims
 K-walk-fn t = (
@@ -183,8 +127,14 @@ K-walk-type t = (
   kind-of-reads.Learnt,
   too-deep-reads.Asked,
   too-deep-reads.Learnt,
-  walk-body-below t,
-  walk-body.Post,
+  pass-reads.Asked,
+  pass-reads.Learnt,
+  walk-index-reads.Asked,
+  walk-index-reads.Learnt,
+  walk-type-below t,
+  walk-type.Post,
+  walk-fn-below t,
+  walk-fn.Post,
 )
 
 walk-type-returns : (t : ℕ) → walk-type-lts.Need-returns (K-walk-type t) (walk-type-at t) walk-type.Post
@@ -194,7 +144,36 @@ walk-type-returns-2 : (t : ℕ) → walk-type-lts.Need-returns-2 (K-walk-type t)
 walk-type-returns-2 t c = rw (c .too-deep .ensures, c .before .before .kind-of .ensures) (refused (type-deep _ _ _ _ (bits-whole _ _ _ (omega arith) (c .before .before .before .extract .ensures)) (c .before .if2 .taken)))
 
 walk-type-returns-3 : (t : ℕ) → walk-type-lts.Need-returns-3 (K-walk-type t) (walk-type-at t) walk-type.Post
-walk-type-returns-3 t c = rw (type-body _ _ _ _ (bits-whole _ _ _ (omega arith) (c .before .before .before .before .before .before .extract .ensures)) (c .before .before .before .before .if2 .left), ← c .before .before .before .before .before .kind-of .ensures) (c .before .before .walk-body .ensures)
+walk-type-returns-3 t c = body-marks _ _ _ _ (bits-whole _ _ _ (omega arith) (c .before .before .before .before .before .before .extract .ensures)) (c .before .before .before .before .if2 .left) (c .before .before .before .before .before .kind-of .ensures) (rw (c .before .before .enum-told4 .given .1) (stays-checks _ (bit-checks _ _ (c .before .pass2 .ensures)) (c .if3 .taken)))
+
+walk-type-returns-4 : (t : ℕ) → walk-type-lts.Need-returns-4 (K-walk-type t) (walk-type-at t) walk-type.Post
+walk-type-returns-4 t c = body-marks _ _ _ _ (bits-whole _ _ _ (omega arith) (c .before .before .before .before .before .before .before .before .before .extract .ensures)) (c .before .before .before .before .before .before .before .if2 .left) (c .before .before .before .before .before .before .before .before .kind-of .ensures) (rw (c .before .before .before .before .before .enum-told7 .given .1) (stays _ (c .before .before .before .walk-type3 .ensures) (c .if4 .taken)))
+
+walk-type-returns-5 : (t : ℕ) → walk-type-lts.Need-returns-5 (K-walk-type t) (walk-type-at t) walk-type.Post
+walk-type-returns-5 t c = body-marks _ _ _ _ (bits-whole _ _ _ (omega arith) (c .before .before .before .before .before .extract .ensures)) (c .before .before .before .if2 .left) (c .before .before .before .before .kind-of .ensures) (rw (c .before .enum-told .given .1) (atom-marks (c .before .before .before .before .before .before .before .before .before .before .args .items) (c .before .before .before .before .before .before .before .before .before .before .args .left - 1) (c .before .before .before .before .before .before .before .before .before .before .args .s .now) (c .before .before .before .before .before .before .before .before .before .before .args .at + 4) (c .pass .ensures)))
+
+walk-type-returns-6 : (t : ℕ) → walk-type-lts.Need-returns-6 (K-walk-type t) (walk-type-at t) walk-type.Post
+walk-type-returns-6 t c = body-marks _ _ _ _ (bits-whole _ _ _ (omega arith) (c .before .before .before .before .before .before .before .before .extract .ensures)) (c .before .before .before .before .before .before .if2 .left) (c .before .before .before .before .before .before .before .kind-of .ensures) (rw (c .before .before .before .before .enum-told2 .given .1) (named-marks (c .before .before .before .before .before .before .before .before .before .before .before .before .before .args .items) (c .before .before .before .before .before .before .before .before .before .before .before .before .before .args .left - 1) (c .before .before .before .before .before .before .before .before .before .before .before .before .before .args .s .now) (c .before .before .before .before .before .before .before .before .before .before .before .before .before .args .at + 4) (c .before .before .walk-index .ensures)))
+
+walk-type-returns-7 : (t : ℕ) → walk-type-lts.Need-returns-7 (K-walk-type t) (walk-type-at t) walk-type.Post
+walk-type-returns-7 t c = body-marks _ _ _ _ (bits-whole _ _ _ (omega arith) (c .before .before .before .before .before .before .before .before .extract .ensures)) (c .before .before .before .before .before .before .if2 .left) (c .before .before .before .before .before .before .before .kind-of .ensures) (rw (c .before .before .before .before .enum-told3 .given .1) (template-marks (c .before .before .before .before .before .before .before .before .before .before .before .before .before .args .items) (c .before .before .before .before .before .before .before .before .before .before .before .before .before .args .left - 1) (c .before .before .before .before .before .before .before .before .before .before .before .before .before .args .s .now) (c .before .before .before .before .before .before .before .before .before .before .before .before .before .args .at + 4) _ (c .before .before .walk-type .ensures)))
+
+walk-type-returns-8 : (t : ℕ) → walk-type-lts.Need-returns-8 (K-walk-type t) (walk-type-at t) walk-type.Post
+walk-type-returns-8 t c = body-marks _ _ _ _ (bits-whole _ _ _ (omega arith) (c .before .before .before .before .before .before .before .before .before .before .extract .ensures)) (c .before .before .before .before .before .before .before .before .if2 .left) (c .before .before .before .before .before .before .before .before .before .kind-of .ensures) (rw (c .before .before .before .before .before .before .enum-told4 .given .1) (pointer-marks (c .before .before .before .before .before .before .before .before .before .before .before .before .before .before .before .args .items) (c .before .before .before .before .before .before .before .before .before .before .before .before .before .before .before .args .left - 1) (c .before .before .before .before .before .before .before .before .before .before .before .before .before .before .before .args .s .now) (c .before .before .before .before .before .before .before .before .before .before .before .before .before .before .before .args .at + 4) _ (stepped (bit-checks _ _ (c .before .before .before .before .before .pass2 .ensures)) (at-in (c .before .before .before .before .if3 .left)) .1) (c .before .before .walk-type2 .ensures)))
+
+walk-type-returns-9 : (t : ℕ) → walk-type-lts.Need-returns-9 (K-walk-type t) (walk-type-at t) walk-type.Post
+walk-type-returns-9 t c = body-marks _ _ _ _ (bits-whole _ _ _ (omega arith) (c .before .before .before .before .extract .ensures)) (c .before .before .if2 .left) (c .before .before .before .kind-of .ensures) (rw (c .enum-told5 .given .1) (str-marks (c .before .before .before .before .before .before .before .before .before .args .items) (c .before .before .before .before .before .before .before .before .before .args .left - 1) (c .before .before .before .before .before .before .before .before .before .args .s .now) (c .before .before .before .before .before .before .before .before .before .args .at + 4) (omega arith)))
+
+walk-type-returns-10 : (t : ℕ) → walk-type-lts.Need-returns-10 (K-walk-type t) (walk-type-at t) walk-type.Post
+walk-type-returns-10 t c = body-marks _ _ _ _ (bits-whole _ _ _ (omega arith) (c .before .before .before .before .before .before .before .before .extract .ensures)) (c .before .before .before .before .before .before .if2 .left) (c .before .before .before .before .before .before .before .kind-of .ensures) (rw (c .before .before .before .before .enum-told6 .given .1) (c .before .before .walk-fn .ensures))
+
+walk-type-returns-11 : (t : ℕ) → walk-type-lts.Need-returns-11 (K-walk-type t) (walk-type-at t) walk-type.Post
+walk-type-returns-11 t c =
+    let m = moved (c .before .before .before .before .walk-type3 .ensures) (at-in (c .before .if4 .left)) in
+    body-marks _ _ _ _ (bits-whole _ _ _ (omega arith) (c .before .before .before .before .before .before .before .before .before .before .extract .ensures)) (c .before .before .before .before .before .before .before .before .if2 .left) (c .before .before .before .before .before .before .before .before .before .kind-of .ensures) (rw (c .before .before .before .before .before .before .enum-told7 .given .1) (array-marks (c .before .before .before .before .before .before .before .before .before .before .before .before .before .before .before .args .items) (c .before .before .before .before .before .before .before .before .before .before .before .before .before .before .before .args .left - 1) (c .before .before .before .before .before .before .before .before .before .before .before .before .before .before .before .args .s .now) (c .before .before .before .before .before .before .before .before .before .before .before .before .before .before .before .args .at + 4) (m .1) (m .2) (c .pass3 .ensures)))
+
+walk-type-returns-12 : (t : ℕ) → walk-type-lts.Need-returns-12 (K-walk-type t) (walk-type-at t) walk-type.Post
+walk-type-returns-12 t c = body-marks _ _ _ _ (bits-whole _ _ _ (omega arith) (c .before .before .before .before .extract .ensures)) (c .before .before .if2 .left) (c .before .before .before .kind-of .ensures) (rw (c .enum-told8 .given .1, bad-in) record { gathered = refl })
 
 abbrev K-walk-types : ℕ → walk-types-lts.Claims
 K-walk-types t = (
@@ -222,47 +201,13 @@ walk-types-loop-again t c =
 walk-types-returns-2 : (t : ℕ) → walk-types-lts.Need-returns-2 (K-walk-types t) (walk-types-at t) walk-types.Post walk-types-Inv-loop walk-types-μ-loop
 walk-types-returns-2 t c = rw (at-in (c .before .loop .inv .1)) record { gathered = c .before .loop .inv .3 ∙ fold-done markTy (typeAt _ _) _ _ _ _ _ (c .loop-test .left) }
 
-pub +walk-body+walk-fn+walk-return+walk-type+walk-types-spec : {M : Type 1} → statement M
-+walk-body+walk-fn+walk-return+walk-type+walk-types-spec =
+pub +walk-fn+walk-return+walk-type+walk-types-spec : {M : Type 1} → statement M
++walk-fn+walk-return+walk-type+walk-types-spec =
     close
-    μ-walk-body
     μ-walk-fn
     μ-walk-return
     μ-walk-type
     μ-walk-types
-    (λ t. walk-body-lts.spec (K-walk-body t) (walk-body-at t) walk-body.Post
-    (λ c. search needs)
-    (λ c κs. search needs)
-    (λ c. search needs)
-    (λ c κs. search needs)
-    (λ c. search needs)
-    (λ c κs. search needs)
-    (λ c. search needs)
-    (λ c κs. search needs)
-    (walk-body-returns t)
-    (λ c κs. search needs)
-    (λ c. search needs)
-    (λ c. search needs)
-    (λ c κs. search needs)
-    (λ c. search needs)
-    (λ c κs. search needs)
-    (λ c. search needs)
-    (walk-body-returns-2 t)
-    (λ c κs. search needs)
-    (λ c. search needs)
-    (walk-body-returns-3 t)
-    (λ c. search needs)
-    (walk-body-returns-4 t)
-    (λ c. search needs)
-    (walk-body-returns-5 t)
-    (λ c. search needs)
-    (walk-body-returns-6 t)
-    (walk-body-returns-7 t)
-    (λ c. search needs)
-    (walk-body-returns-8 t)
-    (λ c. search needs)
-    (walk-body-returns-9 t)
-    (walk-body-returns-10 t))
     (λ t. walk-fn-lts.spec (K-walk-fn t) (walk-fn-at t) walk-fn.Post
     (λ c κs. search needs)
     (λ c. search needs)
@@ -293,9 +238,38 @@ pub +walk-body+walk-fn+walk-return+walk-type+walk-types-spec : {M : Type 1} → 
     (λ c κs. search needs)
     (walk-type-returns-2 t)
     (λ c. search needs)
+    (λ c. search needs)
     (λ c κs. search needs)
     (λ c. search needs)
-    (walk-type-returns-3 t))
+    (λ c κs. search needs)
+    (λ c. search needs)
+    (λ c κs. search needs)
+    (λ c. search needs)
+    (λ c κs. search needs)
+    (walk-type-returns-3 t)
+    (λ c κs. search needs)
+    (λ c. search needs)
+    (λ c. search needs)
+    (λ c κs. search needs)
+    (λ c. search needs)
+    (λ c κs. search needs)
+    (λ c. search needs)
+    (walk-type-returns-4 t)
+    (λ c κs. search needs)
+    (λ c. search needs)
+    (walk-type-returns-5 t)
+    (λ c. search needs)
+    (walk-type-returns-6 t)
+    (λ c. search needs)
+    (walk-type-returns-7 t)
+    (λ c. search needs)
+    (walk-type-returns-8 t)
+    (walk-type-returns-9 t)
+    (λ c. search needs)
+    (walk-type-returns-10 t)
+    (λ c. search needs)
+    (walk-type-returns-11 t)
+    (walk-type-returns-12 t))
     (λ t. walk-types-lts.spec (K-walk-types t) (walk-types-at t) walk-types.Post walk-types-Inv-loop walk-types-μ-loop
     (walk-types-loop-holds t)
     (λ c κs. search needs)
