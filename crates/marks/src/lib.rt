@@ -1,10 +1,11 @@
 // The table of marks that a walk over a sheet leaves behind: a 1 where something was met. What each place says is in
 // specs/Marking.antt. And keys: names that are equal have equal keys.
 ghost use mathlib.Core.Path.{_≡_};
+ghost use mathlib.Core.Bool.{_&&_};
 ghost use Prim.Native.Nat.{_<_};
 ghost use lib.ListN.{length};
 ghost use lib.Dec.{eqb};
-ghost use Rattle.rules.specs.Rules.{twice};
+ghost use Rattle.rules.specs.Rules.{any, twice};
 ghost use Rattle.marks.specs.Keys.{oneIf, countOf};
 ghost use Rattle.marks.specs.Marking.{mark};
 
@@ -61,20 +62,42 @@ fn count_equal(keys: &[u32], k: u32) -> u32
     n
 }
 
-// Whether two of the keys are equal.
-pub fn repeats(keys: &[u32]) -> bool
-    requires { ⌜ length (now keys) < 4294967296 ⌝ }
+// Whether k is one of the keys in front of it; with another mark than 1 it is not asked.
+fn seen_before(front: &[u32], k: u32, mark: u8) -> bool
+    requires { ⌜ length (now front) < 4294967296 ⌝ }
+    ensures { λ r. ⌜ r ≡ (eqb mark 1 && any (eqb k) (now (front .entry))) ⌝ }
+{
+    if mark != 1 {
+        return false;
+    }
+    let n = count_equal(front, k);
+    n != 0
+}
+
+// Whether two of the keys are equal. Each key leaves a 1 at its last byte: a key whose place has none is new.
+fn repeats_in(keys: &[u32], seen: &mut [u8; 256]) -> bool
+    requires { ⌜ (length (now keys) < 4294967296) × (length (now seen) ≡ 256) ⌝ }
     ensures { λ r. ⌜ r ≡ twice eqb (now (keys .entry)) ⌝ }
 {
     let mut i: usize = 0;
     while i < keys.len() {
         let k = keys[i];
-        let next = i + 1;
-        let n = count_equal(&keys[next..], k);
-        if n != 0 {
+        let p = (k % 256) as usize;
+        let mark = seen[p];
+        if seen_before(&keys[..i], k, mark) {
             return true;
         }
-        i = next;
+        seen[p] = 1;
+        i = i + 1;
     }
     false
+}
+
+// Whether two of the keys are equal.
+pub fn repeats(keys: &[u32]) -> bool
+    requires { ⌜ length (now keys) < 4294967296 ⌝ }
+    ensures { λ r. ⌜ r ≡ twice eqb (now (keys .entry)) ⌝ }
+{
+    let mut seen = [0u8; 256];
+    repeats_in(keys, &mut seen)
 }
