@@ -2,16 +2,16 @@
 use mathlib.Core.Path.{_≡_, refl, sym, ap, _∙_}
 use mathlib.Core.List.{List, []}
 use mathlib.Core.Bool.{Bool, true, false, _||_}
-use Prim.Native.Nat.{ℕ, zero, suc, _≤_}
+use Prim.Native.Nat.{ℕ, zero, suc, _<_, _≤_}
 use native.Mathlib.Omega.{arith}
 use lib.Dec.{eqb}
 use lib.ListN.{length, getD, take}
-use borrow.Author.Tests.{eq-eqb, ne-eqb}
+use borrow.Author.Tests.{eq-eqb, ne-eqb, lt-ltb, le-ltb}
 use Rattle.lexical.specs.Bytes.{within}
 use Rattle.refusal.specs.declared.Refusal.{Refusal}
-use Rattle.refusal.specs.declared.Refusal.the-variants.{CutSheet, BadKind}
+use Rattle.refusal.specs.declared.Refusal.the-variants.{CutSheet, LooseIndex, BadKind}
 use Rattle.format.specs.Decode.{Got, fault, got, pick, after, _>>_, pure, many}
-use Rattle.format.specs.Bits.{bits, bit, index}
+use Rattle.format.specs.Bits.{bits, bit, widthOf, index}
 use Rattle.format.specs.Limits.{mostArguments}
 use Rattle.format.specs.Types.{Ret}
 use Rattle.format.specs.Sheet.{Name, Argument, Form, free, constMethod, mutMethod, associated, Body, struct, enum}
@@ -45,6 +45,21 @@ module _ (s names : List ℕ) (at : ℕ) where
   unfolding nameOf
   names-of k h = checks-like (nameOf (namesAt s names)) (index (length names)) s
       (λ m. rw (names-length s names) (step-map (λ (i : ℕ). getD (namesAt s names) i []) (index (length names) s m))) k at h
+
+-- an index that is read by itself
+module _ (s names : List ℕ) (at : ℕ) {w : ℕ} (z : w ≡ widthOf (length names)) where
+  pub name-cut : bits w s at ≡ fault CutSheet → nameOf (namesAt s names) s at ≡ fault CutSheet
+  unfolding nameOf index
+  name-cut e = rw (names-length s names, ← z, e)
+
+  module _ {i m : ℕ} (e : bits w s at ≡ got i m) where
+    pub name-loose : length names ≤ i → nameOf (namesAt s names) s at ≡ fault LooseIndex
+    unfolding nameOf index
+    name-loose l = rw (names-length s names, ← z, e, le-ltb i (length names) l)
+
+    pub name-found : i < length names → nameOf (namesAt s names) s at ≡ got (getD (namesAt s names) i []) m
+    unfolding nameOf index
+    name-found l = rw (names-length s names, ← z, e, lt-ltb i (length names) l)
 
 pub bad-is : {k x : ItemKind} {b t : Bool} → k ≡ x → b ≡ isBad k → b ≡ t → isBad x ≡ t
 bad-is e h t = ap isBad (sym e) ∙ sym h ∙ t

@@ -9,6 +9,7 @@ use cursor::Step;
 use cursor::check_index;
 use cursor::read;
 use cursor::skip;
+use cursor::width;
 use format::ItemKind;
 use refusal::Refusal;
 use text::in_range;
@@ -43,10 +44,17 @@ fn check_argument(s: &[u8], names: &[u32], c: Cursor, items: u32, marks: &mut [u
         (argument (namesAt (now (s .entry)) (now (names .entry))) items (now (s .entry)) (c .at))
         (now (marks .entry)) r (now (marks .exit)) ⌝ }
 {
-    let r = check_index(s, c, names.len() as u32);
-    match r {
-        Step::Fault(e) => Step::Fault(e),
-        Step::At(next) => check_type(s, next, items, marks),
+    let n = names.len() as u32;
+    let w = width(n);
+    let f = read(s, c, w);
+    match f {
+        Field::Cut => Step::Fault(Refusal::CutSheet),
+        Field::Value(i, next) => {
+            if n <= i {
+                return Step::Fault(Refusal::LooseIndex);
+            }
+            check_type(s, next, items, marks)
+        }
     }
 }
 

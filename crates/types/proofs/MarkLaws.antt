@@ -2,13 +2,14 @@
 use mathlib.Core.Path.{_≡_, refl, sym, ap, _∙_}
 use mathlib.Core.List.{List, [], _∷_}
 use mathlib.Core.Bool.{Bool, true, false}
-use Prim.Native.Nat.{ℕ, suc, _-_, _<_, _≤_}
+use Prim.Native.Nat.{ℕ, suc, _+_, _-_, _*_, _<_, _≤_}
 use native.Mathlib.Omega.{arith}
+use lib.ListN.{length}
 use borrow.Author.Tests.{lt-ltb, le-ltb, eq-eqb, ne-eqb}
 use Rattle.refusal.specs.declared.Refusal.{Refusal}
 use Rattle.refusal.specs.declared.Refusal.the-variants.{CutSheet, LooseIndex}
 use Rattle.format.specs.Decode.{fault, got, many}
-use Rattle.format.specs.Bits.{bits, bit, widthOf, index}
+use Rattle.format.specs.Bits.{bitsAt, bits, bit, widthOf, index}
 use Rattle.format.specs.Types.{Ty, named, template, pointer, fn, array, Ret, gives, tys}
 use Rattle.format.specs.Decoding.{kindOf, typeBody, typeAt, optional}
 use Rattle.format.specs.declared.TypeKind.{TypeKind}
@@ -18,6 +19,9 @@ use Rattle.cursor.specs.declared.Step.{Step}
 use Rattle.cursor.specs.declared.Step.the-variants.{At, Fault}
 use Rattle.format.specs.Limits.{mostBits}
 use Rattle.cursor.specs.Checking.{Limited, Checks, stepIn}
+use Rattle.cursor.proofs.CheckLaws.{stepped}
+use Rattle.cursor.proofs.WidthLaws.{index-field}
+use Rattle.cursor.proofs.YieldLaws.{bits-there}
 use Rattle.cursor.proofs.CodeLaws.{at-in, cut-in, loose-in, bits-past}
 use Rattle.marks.specs.Gathering.{each, Gathers}
 use Rattle.marks.specs.Marking.{markIndex, markTy, markRet, markTys}
@@ -40,6 +44,18 @@ module _ (n : ℕ) (s : List ℕ) (at : ℕ) {u : List ℕ} {w : ℕ} (z : w ≡
     pub index-loose : {v : List ℕ} → n ≤ i → Gathers markIndex (index n s at) u (stepIn 262148) v
     unfolding index
     index-loose l = rw (loose-in, ← z, e, le-ltb i n l) record { gathered = refl }
+
+-- an index that was checked, read again
+module _ (n : ℕ) (s : List ℕ) (at : ℕ) {r : Step} {c : Cursor} (h : Checks (index n s at) r) (t : r ≡ At c)
+    {w : ℕ} (z : w ≡ widthOf n) where
+  pub index-there : (at + w ≤ 8 * length s) × (stepped h t .0 ≡ bitsAt s at w)
+  index-there =
+      let e = bits-there (widthOf n) s at (index-field n s at (stepped h t .1)) in
+      rw z (e .0, e .1)
+
+  pub index-known : {i : ℕ} {u v : List ℕ} → i ≡ bitsAt s at w → v ≡ markIndex i u →
+      Gathers markIndex (index n s at) u (At c) v
+  index-known e q = rw (stepped h t .1, q, e, ← index-there .1) record { gathered = refl }
 
 -- ---- types
 
@@ -114,10 +130,6 @@ body-marks n levels s at e h z g = rw (type-body n levels s at e h, ← z) g
 -- ---- nothing stands past a sheet's last position
 
 module _ (n : ℕ) (s : List ℕ) (at : ℕ) (l : Limited s) (h : mostBits < at) where
-  pub index-past : index n s at ≡ fault CutSheet
-  unfolding index
-  index-past = rw (bits-past (widthOf n) s at l h)
-
   pub type-past : (levels : ℕ) → typeAt n levels s at ≡ fault CutSheet
   type-past levels = type-cut n levels s at (bits-past 4 s at l h)
 

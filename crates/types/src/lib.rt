@@ -2,6 +2,7 @@
 // is marked on the way, as far as the lent table reaches: who wants no marks lends an empty one.
 use cursor::Cursor;
 use cursor::Step;
+use cursor::check_index;
 use cursor::end_of;
 use cursor::extract;
 use cursor::pass;
@@ -196,18 +197,21 @@ fn walk_types(s: &[u8], at: u32, items: u32, left: u32, n: u32, marks: &mut [u8]
     next
 }
 
-// Past an item index.
+// Past an item index, which is marked.
 pub fn check_item_index(s: &[u8], c: Cursor, items: u32, marks: &mut [u8]) -> Step
     requires { ⌜ Limited (now s) ⌝ }
     ensures { λ r. ⌜ Gathers markIndex (index items (now (s .entry)) (c .at)) (now (marks .entry)) r
         (now (marks .exit)) ⌝ }
 {
-    let at = c.at;
-    if Cursor::LAST < at {
-        return Step::Fault(Refusal::CutSheet);
+    let r = check_index(s, c, items);
+    match r {
+        Step::Fault(e) => Step::Fault(e),
+        Step::At(next) => {
+            let i = extract(s, c.at, width(items));
+            set_mark(marks, Mark::NAMED + i as usize);
+            Step::At(next)
+        }
     }
-    let r = walk_index(s, at, items, marks);
-    step_in(r)
 }
 
 // Past an outermost type, in a sheet of so many items.
