@@ -127,6 +127,13 @@ pub body-marks : (n levels : ℕ) (s : List ℕ) (at : ℕ) {k m : ℕ} {kind : 
     Gathers markTy (typeBody kind n (typeAt n (levels - 1)) s m) u r v → Gathers markTy (typeAt n levels s at) u r v
 body-marks n levels s at e h z g = rw (type-body n levels s at e h, ← z) g
 
+-- a name
+pub name-slot : (n levels : ℕ) (s : List ℕ) (at : ℕ) {k m : ℕ} {u v : List ℕ} {r : Step} → bits 4 s at ≡ got k m → k ≡ 1 →
+    (levels ≡ 0 → ⊥) → Gathers markIndex (index n s m) u r v → Gathers markTy (typeAt n levels s at) u r v
+unfolding kindOf
+name-slot n levels s at {m = m} e z h g =
+    body-marks n levels s at {kind = Kind.Named} e h (rw z refl) (named-marks n (levels - 1) s m g)
+
 -- ---- nothing stands past a sheet's last position
 
 module _ (n : ℕ) (s : List ℕ) (at : ℕ) (l : Limited s) (h : mostBits < at) where

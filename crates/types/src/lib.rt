@@ -1,5 +1,5 @@
-// The types of a sheet, walked by recursion over the levels left (document 01, "A type is a 4-bit kind"). What they name
-// is marked on the way, as far as the lent table reaches: who wants no marks lends an empty one.
+// The types of a sheet, walked by recursion over the levels left (document 01, "A type is a 4-bit kind"). What they
+// name is marked on the way, as far as the lent table reaches: who wants no marks lends an empty one.
 use cursor::Cursor;
 use cursor::Step;
 use cursor::check_index;
@@ -178,6 +178,32 @@ fn walk_fn(s: &[u8], at: u32, items: u32, left: u32, marks: &mut [u8]) -> u32
     walk_types(s, first, items, left, n, marks)
 }
 
+// Past the type at a position in a row of types: where it is a name, at once.
+fn walk_slot(s: &[u8], at: u32, items: u32, left: u32, marks: &mut [u8]) -> u32
+    requires { ⌜ Limited (now s) × (at ≤ mostBits) ⌝ }
+    ensures { λ r. ⌜ Gathers markTy (typeAt items left (now (s .entry)) at) (now (marks .entry)) (stepIn r)
+        (now (marks .exit)) ⌝ }
+{
+    let body = at + 4;
+    let w = width(items);
+    let end = body + w;
+    if end_of(s) < end {
+        return walk_type(s, at, items, left, marks);
+    }
+    if left == 0 {
+        return walk_type(s, at, items, left, marks);
+    }
+    if extract(s, at, 4) != 1 {
+        return walk_type(s, at, items, left, marks);
+    }
+    let i = extract(s, body, w);
+    if items <= i {
+        return Cursor::LOOSE;
+    }
+    set_mark(marks, Mark::NAMED + i as usize);
+    end
+}
+
 // Past n types.
 fn walk_types(s: &[u8], at: u32, items: u32, left: u32, n: u32, marks: &mut [u8]) -> u32
     requires { ⌜ Limited (now s) × (at ≤ mostBits) ⌝ }
@@ -187,7 +213,7 @@ fn walk_types(s: &[u8], at: u32, items: u32, left: u32, n: u32, marks: &mut [u8]
     let mut next = at;
     let mut i: u32 = 0;
     while i < n {
-        let r = walk_type(s, next, items, left, marks);
+        let r = walk_slot(s, next, items, left, marks);
         if Cursor::LAST < r {
             return r;
         }
