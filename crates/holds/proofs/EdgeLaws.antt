@@ -6,7 +6,7 @@ use Prim.Native.Nat.{ℕ, zero, suc, _+_, _-_, _*_, _<_, _≤_}
 use native.Mathlib.Omega.{arith}
 use native.Mathlib.Numerals.{add-one}
 use lib.ListN.{length, getD, set, take, drop, length-set, length-map, List·getD-eq-default, drop-of-length-le}
-use lib.Dec.{ltb}
+use lib.Dec.{eqb, ltb}
 use lib.Seq.{getD-set-same, getD-set-other, drop-cons}
 use borrow.Author.Tests.{ltb-true, ltb-false}
 use Rattle.format.specs.Limits.{mostItems, mostFields}
@@ -18,7 +18,7 @@ use Rattle.toposort.specs.Adjacency.{itemNumbers, mostHeld, graphOf, Adjacency}
 use Rattle.rules.specs.Rules.{gather, heldBy, fieldsOf, heldStructs, structsFrom, structs}
 use Rattle.rules.proofs.RingRule.{sheet-structs}
 use Rattle.view.specs.Values.{oneItemAt, itemsAt}
-use Rattle.holds.specs.Edges.{counted, Puts, Edges, StructNumbers}
+use Rattle.holds.specs.Edges.{Flags, counted, Puts, Edges, StructNumbers}
 use Rattle.holds.proofs.PutLaws.{put-nothing, part-kept, part-new}
 
 -- an item that is not there holds nothing
@@ -56,6 +56,38 @@ puts-none l at e = rw (← e) (put-nothing l at)
 pub puts-item : (items : List Item) {i j at r : ℕ} {l m : List ℕ} → j ≡ i → Puts (heldStructs items j) at l r m →
     Puts (heldStructs items i) at l r m
 puts-item items {i} {j} {at} {r} {l} {m} e p = rw e at p
+
+-- ---- the flags
+
+-- the first i flags are there
+pub record Flagging (items : List Item) (i : ℕ) (structs : List ℕ) : Type 0 where
+  pub size : length structs ≡ itemNumbers
+  pub each : (j : ℕ) → j < i → eqb (getD structs j 0) 1 ≡ isStruct (itemAt items j .body)
+
+pub flag-none : {items : List Item} {structs : List ℕ} → length structs ≡ itemNumbers → Flagging items 0 structs
+flag-none e = record { size = e; each = λ j h. absurd (omega arith) }
+
+pub flag-next : {items : List Item} {i v : ℕ} {b : Bool} {structs : List ℕ} → Flagging items i structs → i < itemNumbers →
+    b ≡ isStruct (itemAt items i .body) → v ≡ pick b 1 0 → Flagging items (i + 1) (set structs i v)
+flag-next {items} {i} {v} {b} {structs} f h e z = record {
+  size = length-set structs i v ∙ f .size;
+  each = λ j k. one j k (ltb j i) refl;
+}
+  where
+    told : (b : Bool) → eqb (pick b 1 0) 1 ≡ b
+    told true = refl
+    told false = refl
+
+    one : (j : ℕ) → j < i + 1 → (t : Bool) → ltb j i ≡ t → eqb (getD (set structs i v) j 0) 1 ≡ isStruct (itemAt items j .body)
+    one j k true t =
+        let l : j < i = ltb-true j i t in
+        rw (getD-set-other structs i j v 0 (λ q. absurd (omega arith))) (f .each j l)
+    one j k false t =
+        let l : j ≡ i = omega (arith, ltb-false j i t) in
+        rw l (ap (λ (x : ℕ). eqb x 1) (getD-set-same structs i v 0 (omega (arith, f .size)) ∙ z) ∙ told b ∙ e)
+
+pub flag-done : {items : List Item} {i : ℕ} {structs : List ℕ} → length items ≤ i → Flagging items i structs → Flags items structs
+flag-done {items} {i} {structs} h f = record { size = f .size; each = λ j k. f .each j (omega arith) }
 
 -- ---- the table
 

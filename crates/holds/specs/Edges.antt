@@ -2,8 +2,9 @@
 use mathlib.Core.Path.{_≡_}
 use mathlib.Core.List.{List, [], _∷_, _++_}
 use mathlib.Core.Bool.{Bool, true, false}
-use Prim.Native.Nat.{ℕ, _+_, _≤_}
-use lib.ListN.{length, take}
+use Prim.Native.Nat.{ℕ, _+_, _<_, _≤_}
+use lib.ListN.{length, getD, take}
+use lib.Dec.{eqb}
 use Rattle.format.specs.Decode.{Got, Dec, pick, _>>_, pure, many}
 use Rattle.format.specs.Bits.{index}
 use Rattle.format.specs.Types.{Ty, named, str}
@@ -11,7 +12,8 @@ use Rattle.format.specs.Sheet.{Item}
 use Rattle.format.specs.Decoding.{type}
 use Rattle.format.specs.declared.ItemKind.{ItemKind}
 use Rattle.format.specs.declared.ItemKind.the-variants.{Struct, Enum, CxxType, RustType, RustFunction, Bad}
-use Rattle.toposort.specs.Adjacency.{graphOf, Adjacency}
+use Rattle.toposort.specs.Adjacency.{itemNumbers, graphOf, Adjacency}
+use Rattle.syntax.specs.Items.{itemAt, isStruct}
 use Rattle.rules.specs.Rules.{heldBy, heldStructs, structs}
 use Rattle.view.specs.Values.{valueOr, nextOf}
 use Rattle.holds.specs.declared.FieldView.{FieldView}
@@ -23,6 +25,11 @@ isStructKind CxxType = false
 isStructKind RustType = false
 isStructKind RustFunction = false
 isStructKind Bad = false
+
+-- at an item's number stands a 1 exactly if it is a struct
+pub record Flags (items : List Item) (structs : List ℕ) : Type 0 where
+  pub size : length structs ≡ itemNumbers
+  pub each : (i : ℕ) → i < length items → eqb (getD structs i 0) 1 ≡ isStruct (itemAt items i .body)
 
 -- a number, if it counts
 abbrev pub counted : Bool → ℕ → List ℕ

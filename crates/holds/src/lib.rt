@@ -16,7 +16,7 @@ ghost use mathlib.Core.Path.{_≡_};
 ghost use Prim.Native.Nat.{_+_, _*_, _≤_, _<_};
 ghost use lib.ListN.{length};
 ghost use Rattle.format.specs.Limits.{mostFields};
-ghost use Rattle.format.specs.Decode.{many};
+ghost use Rattle.format.specs.Decode.{pick, many};
 ghost use Rattle.format.specs.Types.{str};
 ghost use Rattle.format.specs.Decoding.{type};
 ghost use Rattle.format.specs.declared.ItemKind.the-variants.{Struct};
@@ -26,7 +26,7 @@ ghost use Rattle.rules.specs.Rules.{gather, heldBy, heldStructs};
 ghost use Rattle.view.specs.Values.{valueOr, Yields, typeHere, itemsAt, Whole};
 ghost use Rattle.view.specs.Views.{ItemAt};
 ghost use Rattle.holds.specs.Edges.{isStructKind, counted, Puts, Tells, namedAt, fieldsHere};
-ghost use Rattle.holds.specs.Edges.{Edges, StructNumbers};
+ghost use Rattle.holds.specs.Edges.{Flags, Edges, StructNumbers};
 
 // What a field holds by its name: a struct's number if it is one, and the position behind the field.
 pub struct FieldView {
@@ -60,6 +60,30 @@ fn struct_at(s: &[u8], names: &[u32], items: &[u32], i: u32) -> bool
     is_struct(kind)
 }
 
+// A 1 for true.
+fn flag(b: bool) -> u8
+    ensures { λ r. ⌜ r ≡ pick b 1 0 ⌝ }
+{
+    if b {
+        return 1;
+    }
+    0
+}
+
+// Writes for each item whether it is a struct: a 1 at its number.
+fn flag_structs(s: &[u8], names: &[u32], items: &[u32], structs: &mut [u8; Traversal::NUMBERS])
+    requires { ⌜ Whole (now s) (now names) (now items) × (length (now structs) ≡ itemNumbers) ⌝ }
+    ensures { λ r. ⌜ Flags (itemsAt (now (s .entry)) (now (names .entry)) (now (items .entry)))
+        (now (structs .exit)) ⌝ }
+{
+    let mut i: usize = 0;
+    while i < items.len() {
+        let found = struct_at(s, names, items, i as u32);
+        structs[i] = flag(found);
+        i = i + 1;
+    }
+}
+
 // ---- lists in front of an array
 
 // Puts a number behind the first `at`, if it counts.
@@ -78,8 +102,15 @@ fn put(list: &mut [u8], at: usize, counts: bool, number: u8) -> usize
 // ---- fields
 
 // What a field holds whose type is named by the index at c.
-fn named_at(s: &[u8], names: &[u32], items: &[u32], c: Cursor) -> FieldView
-    requires { ⌜ Whole (now s) (now names) (now items) × Yields (namedAt (length (now items)) (now s) (c .at))
+fn named_at(
+    s: &[u8],
+    names: &[u32],
+    items: &[u32],
+    structs: &[u8; Traversal::NUMBERS],
+    c: Cursor,
+) -> FieldView
+    requires { ⌜ Whole (now s) (now names) (now items) × Flags (itemsAt (now s) (now names) (now items)) (now structs) ×
+        Yields (namedAt (length (now items)) (now s) (c .at))
         (valueOr str (namedAt (length (now items)) (now s) (c .at))) ⌝ }
     ensures { λ r. ⌜ Tells (itemsAt (now (s .entry)) (now (names .entry)) (now (items .entry)))
         (namedAt (length (now (items .entry))) (now (s .entry)) (c .at)) r ⌝ }
@@ -87,7 +118,8 @@ fn named_at(s: &[u8], names: &[u32], items: &[u32], c: Cursor) -> FieldView
     let w = width(items.len() as u32);
     let index = field(s, c, w);
     let i = index.value;
-    let found = struct_at(s, names, items, i);
+    let mark = structs[i as usize];
+    let found = mark == 1;
     let number = i as u8;
     let next = index.next;
     FieldView {
@@ -98,8 +130,15 @@ fn named_at(s: &[u8], names: &[u32], items: &[u32], c: Cursor) -> FieldView
 }
 
 // What the field at c holds.
-fn held_at(s: &[u8], names: &[u32], items: &[u32], c: Cursor) -> FieldView
-    requires { ⌜ Whole (now s) (now names) (now items) × Yields (type (length (now items)) (now s) (c .at))
+fn held_at(
+    s: &[u8],
+    names: &[u32],
+    items: &[u32],
+    structs: &[u8; Traversal::NUMBERS],
+    c: Cursor,
+) -> FieldView
+    requires { ⌜ Whole (now s) (now names) (now items) × Flags (itemsAt (now s) (now names) (now items)) (now structs) ×
+        Yields (type (length (now items)) (now s) (c .at))
         (typeHere (length (now items)) (now s) (c .at)) ⌝ }
     ensures { λ r. ⌜ Tells (itemsAt (now (s .entry)) (now (names .entry)) (now (items .entry)))
         (type (length (now (items .entry))) (now (s .entry)) (c .at)) r ⌝ }
@@ -108,7 +147,7 @@ fn held_at(s: &[u8], names: &[u32], items: &[u32], c: Cursor) -> FieldView
     let kind = kind_of(f.value);
     let by_name = is_named(kind);
     if by_name {
-        return named_at(s, names, items, f.next);
+        return named_at(s, names, items, structs, f.next);
     }
     let next = past_type(s, c, items.len() as u32);
     FieldView {
@@ -123,12 +162,14 @@ fn put_fields(
     s: &[u8],
     names: &[u32],
     items: &[u32],
+    structs: &[u8; Traversal::NUMBERS],
     c: Cursor,
     n: u32,
     held: &mut [u8],
     at: usize,
 ) -> usize
-    requires { ⌜ Whole (now s) (now names) (now items) × Yields (many n (type (length (now items))) (now s) (c .at))
+    requires { ⌜ Whole (now s) (now names) (now items) × Flags (itemsAt (now s) (now names) (now items)) (now structs) ×
+        Yields (many n (type (length (now items))) (now s) (c .at))
         (fieldsHere (length (now items)) n (now s) (c .at)) × (at + n ≤ length (now held)) ⌝ }
     ensures { λ r. ⌜ Puts (gather (heldBy (itemsAt (now (s .entry)) (now (names .entry)) (now (items .entry))))
         (fieldsHere (length (now (items .entry))) n (now (s .entry)) (c .at))) at (now (held .entry)) r
@@ -138,7 +179,7 @@ fn put_fields(
     let mut end = at;
     let mut i: u32 = 0;
     while i < n {
-        let f = held_at(s, names, items, next);
+        let f = held_at(s, names, items, structs, next);
         end = put(held, end, f.found, f.number);
         next = f.next;
         i = i + 1;
@@ -151,11 +192,13 @@ fn put_struct(
     s: &[u8],
     names: &[u32],
     items: &[u32],
+    structs: &[u8; Traversal::NUMBERS],
     v: ItemView,
     held: &mut [u8],
     at: usize,
 ) -> usize
-    requires { ⌜ Whole (now s) (now names) (now items) × ItemAt (now s) (now names) (now items) v × (v .kind ≡ Struct) ×
+    requires { ⌜ Whole (now s) (now names) (now items) × Flags (itemsAt (now s) (now names) (now items)) (now structs) ×
+        ItemAt (now s) (now names) (now items) v × (v .kind ≡ Struct) ×
         (at + mostFields ≤ length (now held)) ⌝ }
     ensures { λ r. ⌜ Puts
         (heldStructs (itemsAt (now (s .entry)) (now (names .entry)) (now (items .entry))) (v .number)) at
@@ -163,12 +206,21 @@ fn put_struct(
 {
     let bit = field(s, v.body, 1);
     let count = field(s, bit.next, 6);
-    put_fields(s, names, items, count.next, count.value, held, at)
+    put_fields(s, names, items, structs, count.next, count.value, held, at)
 }
 
 // Puts what item i holds behind the first `at`: nothing, unless it is a struct.
-fn put_item(s: &[u8], names: &[u32], items: &[u32], i: usize, held: &mut [u8], at: usize) -> usize
-    requires { ⌜ Whole (now s) (now names) (now items) × (at ≤ mostFields * i) × (at ≤ mostHeld) ×
+fn put_item(
+    s: &[u8],
+    names: &[u32],
+    items: &[u32],
+    structs: &[u8; Traversal::NUMBERS],
+    i: usize,
+    held: &mut [u8],
+    at: usize,
+) -> usize
+    requires { ⌜ Whole (now s) (now names) (now items) × Flags (itemsAt (now s) (now names) (now items)) (now structs) ×
+        (at ≤ mostFields * i) × (at ≤ mostHeld) ×
         (length (now held) ≡ mostHeld) ⌝ }
     ensures { λ r. ⌜ Puts (heldStructs (itemsAt (now (s .entry)) (now (names .entry)) (now (items .entry))) i) at
         (now (held .entry)) r (now (held .exit)) × (r ≤ at + mostFields) × (r ≤ mostHeld) ⌝ }
@@ -180,7 +232,7 @@ fn put_item(s: &[u8], names: &[u32], items: &[u32], i: usize, held: &mut [u8], a
     let kind = v.kind;
     let found = is_struct(kind);
     if found {
-        return put_struct(s, names, items, v, held, at);
+        return put_struct(s, names, items, structs, v, held, at);
     }
     at
 }
@@ -188,8 +240,16 @@ fn put_item(s: &[u8], names: &[u32], items: &[u32], i: usize, held: &mut [u8], a
 // ---- the table and the list that crate toposort sorts
 
 // Puts what every item holds: item i what stands in `held` from starts[i] up to starts[i + 1].
-fn fill_rows(s: &[u8], names: &[u32], items: &[u32], starts: &mut [u16], held: &mut [u8])
-    requires { ⌜ Whole (now s) (now names) (now items) × (length (now starts) ≡ itemNumbers + 1) ×
+fn fill_rows(
+    s: &[u8],
+    names: &[u32],
+    items: &[u32],
+    structs: &[u8; Traversal::NUMBERS],
+    starts: &mut [u16],
+    held: &mut [u8],
+)
+    requires { ⌜ Whole (now s) (now names) (now items) × Flags (itemsAt (now s) (now names) (now items)) (now structs) ×
+        (length (now starts) ≡ itemNumbers + 1) ×
         (length (now held) ≡ mostHeld) ⌝ }
     ensures { λ r. ⌜ Edges (itemsAt (now (s .entry)) (now (names .entry)) (now (items .entry))) (now (starts .exit))
         (now (held .exit)) ⌝ }
@@ -198,7 +258,7 @@ fn fill_rows(s: &[u8], names: &[u32], items: &[u32], starts: &mut [u16], held: &
     let mut end: usize = 0;
     let mut i: usize = 0;
     while i < Traversal::NUMBERS {
-        end = put_item(s, names, items, i, held, end);
+        end = put_item(s, names, items, structs, i, held, end);
         i = i + 1;
         starts[i] = end as u16;
     }
@@ -216,7 +276,9 @@ pub fn fill_edges(
     ensures { λ r. ⌜ Edges (itemsAt (now (s .entry)) (now (names .entry)) (now (items .entry))) (now (starts .exit))
         (now (held .exit)) ⌝ }
 {
-    fill_rows(s, names, items, starts, held);
+    let mut structs = [0u8; Traversal::NUMBERS];
+    flag_structs(s, names, items, &mut structs);
+    fill_rows(s, names, items, &structs, starts, held);
 }
 
 // The numbers of the structs, in the sheet's order, put in front of `numbers`; how many there are.

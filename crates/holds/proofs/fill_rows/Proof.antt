@@ -1,4 +1,4 @@
--- Written by tools/proofkit from answers/fill_rows.tpl (9819989e e2a52700).
+-- Written by tools/proofkit from answers/fill_rows.tpl (353896ef 3e3f4ff9).
 use native.Mathlib.Omega.{arith}
 use Prim.Native.Nat.{_-_, _≤_}
 use Rattle.toposort.specs.Adjacency.{itemNumbers}
@@ -8,19 +8,19 @@ use Rattle.holds.proofs.fill_rows.Statement.{statement}
 use Rattle.holds.proofs.fill_rows.Tie as tie
 
 abbrev Inv-loop : tie.InvT-loop
-Inv-loop s names items starts₀ held₀ end₀ i₀ starts held end i = (i ≤ itemNumbers) × Filling (itemsAt s names items) i end starts held
+Inv-loop s names items structs starts₀ held₀ end₀ i₀ starts held end i = (i ≤ itemNumbers) × Filling (itemsAt s names items) i end starts held
 
 abbrev μ-loop : tie.MeasureT-loop
-μ-loop s names items starts₀ held₀ end₀ i₀ starts held end i = itemNumbers - i
+μ-loop s names items structs starts₀ held₀ end₀ i₀ starts held end i = itemNumbers - i
 
 slice-write-starts : tie.Need-slice-write-starts Inv-loop μ-loop
-slice-write-starts c = omega (arith, c .before .before .before .before .before .pre .1)
+slice-write-starts c = omega (arith, c .before .before .before .before .before .pre .2)
 
 loop-holds : tie.Need-loop-holds Inv-loop μ-loop
-loop-holds c = (omega arith, fill-none (c .before .before .before .before .before .args .starts .now) (c .before .before .before .before .before .pre .1) (c .before .before .before .before .before .pre .2))
+loop-holds c = (omega arith, fill-none (c .before .before .before .before .before .args .starts .now) (c .before .before .before .before .before .pre .2) (c .before .before .before .before .before .pre .3))
 
 put-item-requires : tie.Need-put-item-requires Inv-loop μ-loop
-put-item-requires c κs = let f = c .before .before .loop .inv .1 in (c .before .before .before .before .before .before .before .before .pre .0, f .few, f .inside, f .size)
+put-item-requires c κs = let f = c .before .before .loop .inv .1 in (c .before .before .before .before .before .before .before .before .pre .0, c .before .before .before .before .before .before .before .before .pre .1, f .few, f .inside, f .size)
 
 add-i : tie.Need-add-i Inv-loop μ-loop
 add-i c = omega arith
@@ -41,10 +41,10 @@ loop-again : tie.Need-loop-again Inv-loop μ-loop
 loop-again c = let p = c .before .before .put-item .ensures in (omega arith, fill-next (c .before .before .before .before .before .loop .inv .1) (c .before .before .before .before .loop-test .taken) (p .0) (p .1) (p .2))
 
 same-length : tie.Need-same-length Inv-loop μ-loop
-same-length c = omega (arith, c .before .loop .inv .1 .count, c .before .before .before .before .before .before .before .pre .1)
+same-length c = omega (arith, c .before .loop .inv .1 .count, c .before .before .before .before .before .before .before .pre .2)
 
 same-length-2 : tie.Need-same-length-2 Inv-loop μ-loop
-same-length-2 c = omega (arith, c .before .loop .inv .1 .size, c .before .before .before .before .before .before .before .pre .2)
+same-length-2 c = omega (arith, c .before .loop .inv .1 .size, c .before .before .before .before .before .before .before .pre .3)
 
 returns : tie.Need-returns Inv-loop μ-loop
 returns c = fill-done (items-passed _ _ _ (c .before .before .before .before .before .before .before .pre .0 .few)) (filling-all (omega arith) (c .before .loop .inv .1))

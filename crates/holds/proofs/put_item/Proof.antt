@@ -1,4 +1,4 @@
--- Written by tools/proofkit from answers/put_item.tpl (c35b2561 81da2658).
+-- Written by tools/proofkit from answers/put_item.tpl (6d2e94fb 6f9fb57a).
 use borrow.Author.Needs.{needs}
 use mathlib.Core.Path.{sym, _∙_}
 use native.Mathlib.Omega.{arith}
@@ -12,7 +12,7 @@ returns : tie.Need-returns
 returns c = (puts-none _ _ (holds-none _ _ (items-passed _ _ _ (c .if1 .taken))), omega arith, omega arith)
 
 put-struct-requires : tie.Need-put-struct-requires
-put-struct-requires c κs = (c .before .before .before .before .before .before .before .before .before .pre .0, c .before .before .before .item .ensures .1, struct-kind _ (known (c .before .before .is-struct .ensures) (c .before .if2 .taken)), omega (arith, c .before .before .before .before .before .before .before .before .before .pre .0 .few, c .before .before .before .before .if1 .left))
+put-struct-requires c κs = (c .before .before .before .before .before .before .before .before .before .pre .0, c .before .before .before .before .before .before .before .before .before .pre .1, c .before .before .before .item .ensures .1, struct-kind _ (known (c .before .before .is-struct .ensures) (c .before .if2 .taken)), omega (arith, c .before .before .before .before .before .before .before .before .before .pre .0 .few, c .before .before .before .before .if1 .left))
 
 returns-2 : tie.Need-returns-2
 returns-2 c = let p = c .before .before .put-struct .ensures in (puts-item _ (c .before .before .before .before .before .before .item .ensures .0) (p .0), p .1, omega (arith, c .before .before .before .before .before .before .before .before .before .before .before .before .pre .0 .few, c .before .before .before .before .before .before .before .if1 .left))
