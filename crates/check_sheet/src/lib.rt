@@ -79,7 +79,7 @@ pub fn judge(
     }
 }
 
-// A decoded sheet, with the three tables that its decoding filled.
+// A decoded sheet, with the four tables that its decoding filled.
 fn check_decoded(
     sheet: &[u8],
     names: &[u32],
@@ -89,7 +89,8 @@ fn check_decoded(
     o: Outline,
 ) -> Checked
     requires { ⌜ Tables (now sheet) (decodeOf (now sheet)) o (now names) (now items) (now digests)
-        (replicate places 0) (now marks) × (mostNames ≤ length (now names)) × (mostItems ≤ length (now items)) × (mostNames ≤ length (now digests)) ⌝ }
+        (replicate places 0) (now marks) × (mostNames ≤ length (now names)) × (mostItems ≤ length (now items)) ×
+        (mostNames ≤ length (now digests)) ⌝ }
     ensures { λ r. ⌜ r ≡ checkOf (now (sheet .entry)) ⌝ }
 {
     let n = o.names as usize;

@@ -23,8 +23,8 @@ behindNames h d names = itemTable names >> λ is. tail (record { header = h; dox
 unfoldable pub behindBits : Bool → Bool → Dec Sheet
 behindBits h d = nameTable >> λ names. behindNames h d names
 
--- the decoder's p is a sheet, its items read with these names, offsets tells where each item stands, and their marks made
--- v of u
+-- the decoder's p is a sheet, its items read with these names, offsets tells where each item stands, and their marks
+-- made v of u
 pub record Items (s : List ℕ) (names : List Name) (p : Got Sheet) (o : Outline) (offsets u v : List ℕ) : Type 0 where
   pub sheet : Sheet
   pub end : ℕ
@@ -37,7 +37,8 @@ pub record Items (s : List ℕ) (names : List Name) (p : Got Sheet) (o : Outline
   pub marked : v ≡ markItems (sheet .items) u
 
 -- and nameOffsets tells where each of the names stands, and digests begins with their digests
-pub record Tables (s : List ℕ) (p : Got Sheet) (o : Outline) (nameOffsets itemOffsets digests u v : List ℕ) : Type 0 where
+pub record Tables (s : List ℕ) (p : Got Sheet) (o : Outline) (nameOffsets itemOffsets digests u v : List ℕ)
+    : Type 0 where
   pub names : List Name
   pub few : o .names ≤ mostNames
   pub table : Table name s (o .names) nameOffsets names
@@ -50,9 +51,11 @@ saysOf P p (Whole o) = P o
 saysOf P p (Refused e) = p ≡ fault e
 
 -- the answer to what stands behind the names
-pub record AnswersItems (s : List ℕ) (names : List Name) (p : Got Sheet) (r : Decoded) (offsets u v : List ℕ) : Type 0 where
+pub record AnswersItems (s : List ℕ) (names : List Name) (p : Got Sheet) (r : Decoded) (offsets u v : List ℕ)
+    : Type 0 where
   pub says : saysOf (λ o. Items s names p o offsets u v) p r
 
 -- the answer to a sheet: its refusal, or the three tables of the decoded sheet and its marks
-pub record Answers (s : List ℕ) (p : Got Sheet) (r : Decoded) (nameOffsets itemOffsets digests u v : List ℕ) : Type 0 where
+pub record Answers (s : List ℕ) (p : Got Sheet) (r : Decoded) (nameOffsets itemOffsets digests u v : List ℕ)
+    : Type 0 where
   pub says : saysOf (λ o. Tables s p o nameOffsets itemOffsets digests u v) p r

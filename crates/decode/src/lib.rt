@@ -1,5 +1,5 @@
-// A sheet, checked for the refusals 1 to 8, with tables of where its names and its items stand, and of the digests of
-// its names.
+// A sheet, checked for the refusals 1 to 8, with tables of where its names and its items stand, of the names' digests,
+// and of what its items name.
 use cursor::Cursor;
 use cursor::Field;
 use cursor::Step;
@@ -178,7 +178,7 @@ fn decode_fields(
     }
 }
 
-// A sheet: the first refusal of 1 to 8, or the three tables filled.
+// A sheet: the first refusal of 1 to 8, or the four tables filled.
 pub fn decode(
     sheet: &[u8],
     names: &mut [u32; Outline::NAMES],

@@ -1,5 +1,5 @@
-// The items of a sheet, checked; names are the positions of the sheet's names, items is the number of its items. The walk
-// marks what rules 9 to 11 ask for.
+// The items of a sheet, checked; names are the positions of the sheet's names, items is the number of its items. The
+// walk marks what rules 9 to 11 ask for.
 use arguments::Count;
 use arguments::judge_arguments;
 use comments::check_comment;

@@ -59,7 +59,7 @@ fn order_ruled(
     }
 }
 
-// A decoded sheet, with the three tables that its decoding filled.
+// A decoded sheet, with the four tables that its decoding filled.
 fn order_decoded(
     sheet: &[u8],
     names: &[u32],
@@ -70,7 +70,8 @@ fn order_decoded(
     buf: &mut [u8],
 ) -> Written
     requires { ⌜ Tables (now sheet) (decodeOf (now sheet)) o (now names) (now items) (now digests)
-        (replicate places 0) (now marks) × (mostNames ≤ length (now names)) × (mostItems ≤ length (now items)) × (mostNames ≤ length (now digests)) ⌝ }
+        (replicate places 0) (now marks) × (mostNames ≤ length (now names)) × (mostItems ≤ length (now items)) ×
+        (mostNames ≤ length (now digests)) ⌝ }
     ensures { λ r. ⌜ Orders (now (sheet .entry)) (now (buf .entry)) r (now (buf .exit)) ⌝ }
 {
     let n = o.names as usize;
