@@ -6,7 +6,7 @@ use Prim.Native.Nat.{ℕ, zero, suc, _+_, _*_, _<_, _≤_}
 use native.Mathlib.Omega.{arith}
 use lib.ListN.{length, getD}
 use lib.Dec.{eqb, ltb}
-use borrow.Author.Tests.{eqb-true}
+use borrow.Author.Tests.{eqb-true, ne-eqb}
 use Rattle.lexical.proofs.BoolLaws.{both}
 use Rattle.format.specs.Decode.{got}
 use Rattle.format.specs.Bits.{bitsAt, bits, widthOf, index}
@@ -16,7 +16,7 @@ use Rattle.format.specs.declared.Atom.the-variants as Atom
 use Rattle.format.specs.declared.Template.{Template}
 use Rattle.format.specs.declared.TypeKind.{TypeKind}
 use Rattle.format.specs.declared.TypeKind.the-variants as Kind
-use Rattle.format.specs.Decoding.{atoms, atomOf, typeBody, typeAt, type}
+use Rattle.format.specs.Decoding.{kindOf, atoms, atomOf, typeBody, typeAt, type}
 use Rattle.syntax.specs.Types.{atomNumber, isIndirectTemplate}
 use Rattle.rules.specs.Rules.{isCxxVector}
 use Rattle.cursor.specs.Yielding.{nextOf, Yields}
@@ -37,6 +37,26 @@ vector-type (pointer k m t) = refl
 vector-type str = refl
 vector-type (fn r ts) = refl
 vector-type (array t n) = refl
+
+pub vector-number : (k : ℕ) → eqb k 10 ≡ isVectorKind (kindOf k)
+unfolding kindOf
+vector-number zero = refl
+vector-number (suc zero) = refl
+vector-number (suc (suc zero)) = refl
+vector-number (suc (suc (suc zero))) = refl
+vector-number (suc (suc (suc (suc zero)))) = refl
+vector-number (suc (suc (suc (suc (suc zero))))) = refl
+vector-number (suc (suc (suc (suc (suc (suc zero)))))) = refl
+vector-number (suc (suc (suc (suc (suc (suc (suc zero))))))) = refl
+vector-number (suc (suc (suc (suc (suc (suc (suc (suc zero)))))))) = refl
+vector-number (suc (suc (suc (suc (suc (suc (suc (suc (suc zero))))))))) = refl
+vector-number (suc (suc (suc (suc (suc (suc (suc (suc (suc (suc zero)))))))))) = refl
+vector-number (suc (suc (suc (suc (suc (suc (suc (suc (suc (suc (suc zero))))))))))) = refl
+vector-number (suc (suc (suc (suc (suc (suc (suc (suc (suc (suc (suc (suc zero)))))))))))) = refl
+vector-number (suc (suc (suc (suc (suc (suc (suc (suc (suc (suc (suc (suc (suc zero))))))))))))) = refl
+vector-number (suc (suc (suc (suc (suc (suc (suc (suc (suc (suc (suc (suc (suc (suc zero)))))))))))))) = refl
+vector-number (suc (suc (suc (suc (suc (suc (suc (suc (suc (suc (suc (suc (suc (suc (suc zero))))))))))))))) = refl
+vector-number (suc (suc (suc (suc (suc (suc (suc (suc (suc (suc (suc (suc (suc (suc (suc (suc k)))))))))))))))) = ne-eqb (suc (suc (suc (suc (suc (suc (suc (suc (suc (suc (suc (suc (suc (suc (suc (suc k)))))))))))))))) 10 (λ e. absurd (omega arith))
 
 -- ---- kinds that say all
 

@@ -16,9 +16,9 @@ ghost use mathlib.Core.List.{map};
 ghost use Prim.Native.Nat.{_<_, _≤_};
 ghost use lib.ListN.{length, getD};
 ghost use Rattle.lexical.specs.Bytes.{same};
-ghost use Rattle.format.specs.Decoding.{argument, type};
+ghost use Rattle.format.specs.Decoding.{kindOf, argument, type};
 ghost use Rattle.syntax.specs.Types.{isIndirectTemplate};
-ghost use Rattle.rules.specs.Rules.{twice, isCxxVectorTemplate};
+ghost use Rattle.rules.specs.Rules.{twice};
 ghost use Rattle.cursor.specs.Checking.{Limited};
 ghost use Rattle.cursor.specs.Yielding.{Yields};
 ghost use Rattle.names.specs.Naming.{nameAt, namesAt, Named};
@@ -51,32 +51,11 @@ fn mark_if(marks: &mut [u8], yes: bool, place: usize)
 
 // ---- one argument
 
-fn is_vector_template(k: Template) -> bool
-    ensures { λ r. ⌜ r ≡ isCxxVectorTemplate k ⌝ }
+// Whether the kind of this number is a vector.
+fn is_vector(k: u32) -> bool
+    ensures { λ r. ⌜ r ≡ isVectorKind (kindOf k) ⌝ }
 {
-    match k {
-        Template::CxxVector => true,
-        Template::RustBox => false,
-        Template::RustVec => false,
-        Template::UniquePtr => false,
-        Template::SharedPtr => false,
-        Template::WeakPtr => false,
-    }
-}
-
-fn is_vector(kind: TypeKind) -> bool
-    ensures { λ r. ⌜ r ≡ isVectorKind kind ⌝ }
-{
-    match kind {
-        TypeKind::Template(k) => is_vector_template(k),
-        TypeKind::Atom => false,
-        TypeKind::Named => false,
-        TypeKind::Pointer(_) => false,
-        TypeKind::Str => false,
-        TypeKind::Fn => false,
-        TypeKind::Array => false,
-        TypeKind::Bad => false,
-    }
+    k == 10
 }
 
 fn is_indirect_template(k: Template) -> bool
@@ -170,13 +149,14 @@ fn judge_argument(
     let w = width(names.len() as u32);
     let name = extract(s, at, w);
     let of = at + w;
-    let kind = kind_of(extract(s, of, 4));
-    let vector = is_vector(kind);
+    let k = extract(s, of, 4);
+    let vector = is_vector(k);
     mark_if(marks, vector, Mark::UNFIT);
     let receiver = name_when(s, names, digests, method, name, b"self");
     mark_if(marks, receiver, Mark::UNFIT);
     let error = name_when(s, names, digests, throws, name, b"error");
     if error {
+        let kind = kind_of(k);
         judge_error(s, items, of, kind, marks);
         return name;
     }

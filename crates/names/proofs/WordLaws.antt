@@ -55,9 +55,9 @@ word-told w b at e h t = rw (← e) (sym h ∙ t)
 
 -- ---- names that are no words
 
--- at most 16 characters, the first from 'a' on
+-- at most 16 characters, the first and the last from 'a' on
 abbrev wordLike : List ℕ → Bool
-wordLike w = leb (length w) 16 && leb 97 (getD w 0 0)
+wordLike w = leb (length w) 16 && (leb 97 (getD w 0 0) && leb 97 (getD w (length w - 1) 0))
 
 unlike : (table : List (List ℕ)) (w : List ℕ) → every wordLike table ≡ true → wordLike w ≡ false → member w table ≡ false
 unfolding member
@@ -81,12 +81,16 @@ word-none (x ∷ w) h = absurd (omega arith)
 pub word-long : (w : List ℕ) → 16 < length w → member w reserved ≡ false
 word-long w h = unlike-reserved w (rw (lt-leb (length w) 16 h))
 
+and-false : (b : Bool) → (b && false) ≡ false
+and-false true = refl
+and-false false = refl
+
 pub word-first : (w : List ℕ) → getD w 0 0 < 97 → member w reserved ≡ false
 word-first w h = unlike-reserved w (rw (lt-leb 97 (getD w 0 0) h) (and-false (leb (length w) 16)))
-  where
-    and-false : (b : Bool) → (b && false) ≡ false
-    and-false true = refl
-    and-false false = refl
+
+pub word-last : (w : List ℕ) → getD w (length w - 1) 0 < 97 → member w reserved ≡ false
+word-last w h = unlike-reserved w (rw (lt-leb 97 (getD w (length w - 1) 0) h, and-false (leb 97 (getD w 0 0)))
+    (and-false (leb (length w) 16)))
 
 -- ---- the name rule
 

@@ -114,8 +114,8 @@ pub fn listed(lengths: &[u8], bytes: &[u8], w: &[u8]) -> bool
     false
 }
 
-// Whether w is a keyword or an alternative token. Each of these begins with a small letter: names that are longer than
-// all of them or begin otherwise are not searched for.
+// Whether w is a keyword or an alternative token. Each of these begins and ends with a small letter: names that are
+// longer than all of them, or begin or end otherwise, are not searched for.
 fn is_reserved(w: &[u8]) -> bool
     ensures { λ r. ⌜ r ≡ member (now (w .entry)) reserved ⌝ }
 {
@@ -127,6 +127,9 @@ fn is_reserved(w: &[u8]) -> bool
         return false;
     }
     if w[0] < b'a' {
+        return false;
+    }
+    if w[n - 1] < b'a' {
         return false;
     }
     listed(&keywords::LENGTHS, &keywords::BYTES, w)

@@ -1,9 +1,9 @@
--- Written by tools/proofkit from answers/is_reserved.tpl (c02fc1bc 8f6e171d).
+-- Written by tools/proofkit from answers/is_reserved.tpl (ad65cae7 5ab4b643).
 use borrow.Author.Needs.{needs}
 use mathlib.Core.Path.{sym}
 use Rattle.names.specs.Words.{wordsOf, total}
 use Rattle.lexical.specs.Names.{reserved, keywords, alternativeTokens}
-use Rattle.names.proofs.WordLaws.{word-none, word-long, word-first}
+use Rattle.names.proofs.WordLaws.{word-none, word-long, word-first, word-last}
 use Rattle.names.proofs.is_reserved.Statement.{statement}
 use Rattle.names.proofs.is_reserved.Tie as tie
 
@@ -16,13 +16,16 @@ returns-2 c = sym (word-long _ (c .if2 .taken))
 returns-3 : tie.Need-returns-3
 returns-3 c = sym (word-first _ (c .if3 .taken))
 
+returns-4 : tie.Need-returns-4
+returns-4 c = sym (word-last _ (c .if4 .taken))
+
 listed-requires : tie.Need-listed-requires
 unfolding total
 listed-requires c κs = search needs
 
-returns-4 : tie.Need-returns-4
+returns-5 : tie.Need-returns-5
 unfolding wordsOf reserved keywords alternativeTokens
-returns-4 c = c .listed .ensures
+returns-5 c = c .listed .ensures
 
 pub is-reserved-spec : {M : Type 1} → statement M
 is-reserved-spec =
@@ -34,5 +37,8 @@ is-reserved-spec =
     returns-3
     (λ c. search needs)
     (λ c. search needs)
+    returns-4
+    (λ c. search needs)
+    (λ c. search needs)
     listed-requires
-    returns-4)
+    returns-5)
