@@ -118,7 +118,7 @@ pub fn extract_wide(s: &[u8], at: u32, n: u32) -> u64
         return 0;
     }
     if s.len() < 8 {
-        return extract_slowly(s, at, n);
+        return extract_slowly(&s[..], at, n);
     }
     let b = word_start(s.len(), at, n);
     let w = word(s, b);

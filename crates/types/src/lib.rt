@@ -123,18 +123,18 @@ fn walk_type(s: &[u8], at: u32, items: u32, left: u32, marks: &mut [u8]) -> u32
     match kind {
         TypeKind::Atom => pass(s, body, 4),
         TypeKind::Named => walk_index(s, body, items, marks),
-        TypeKind::Template(_) => walk_type(s, body, items, deeper, marks),
+        TypeKind::Template(_) => walk_type(&s[..], body, items, deeper, &mut marks[..]),
         TypeKind::Pointer(_) => {
             let r = pass(s, body, 1);
             if Cursor::LAST < r {
                 return r;
             }
-            walk_type(s, r, items, deeper, marks)
+            walk_type(&s[..], r, items, deeper, &mut marks[..])
         }
         TypeKind::Str => body,
-        TypeKind::Fn => walk_fn(s, body, items, deeper, marks),
+        TypeKind::Fn => walk_fn(&s[..], body, items, deeper, &mut marks[..]),
         TypeKind::Array => {
-            let r = walk_type(s, body, items, deeper, marks);
+            let r = walk_type(&s[..], body, items, deeper, &mut marks[..]);
             if Cursor::LAST < r {
                 return r;
             }
@@ -155,7 +155,7 @@ fn walk_return(s: &[u8], at: u32, items: u32, left: u32, marks: &mut [u8]) -> u3
         return Cursor::CUT;
     }
     if extract(s, at, 1) == 1 {
-        return walk_type(s, next, items, left, marks);
+        return walk_type(&s[..], next, items, left, &mut marks[..]);
     }
     next
 }
@@ -166,7 +166,7 @@ fn walk_fn(s: &[u8], at: u32, items: u32, left: u32, marks: &mut [u8]) -> u32
     ensures { λ r. ⌜ Gathers markTy (typeBody Fn items (typeAt items left) (now (s .entry)) at) (now (marks .entry))
         (stepIn r) (now (marks .exit)) ⌝ }
 {
-    let r = walk_return(s, at, items, left, marks);
+    let r = walk_return(&s[..], at, items, left, &mut marks[..]);
     if Cursor::LAST < r {
         return r;
     }
@@ -175,7 +175,7 @@ fn walk_fn(s: &[u8], at: u32, items: u32, left: u32, marks: &mut [u8]) -> u32
         return Cursor::CUT;
     }
     let n = extract(s, r, 4);
-    walk_types(s, first, items, left, n, marks)
+    walk_types(&s[..], first, items, left, n, &mut marks[..])
 }
 
 // Past the type at a position in a row of types: where it is a name, at once.
@@ -188,13 +188,13 @@ fn walk_slot(s: &[u8], at: u32, items: u32, left: u32, marks: &mut [u8]) -> u32
     let w = width(items);
     let end = body + w;
     if end_of(s) < end {
-        return walk_type(s, at, items, left, marks);
+        return walk_type(&s[..], at, items, left, &mut marks[..]);
     }
     if left == 0 {
-        return walk_type(s, at, items, left, marks);
+        return walk_type(&s[..], at, items, left, &mut marks[..]);
     }
     if extract(s, at, 4) != 1 {
-        return walk_type(s, at, items, left, marks);
+        return walk_type(&s[..], at, items, left, &mut marks[..]);
     }
     let i = extract(s, body, w);
     if items <= i {
@@ -213,7 +213,7 @@ fn walk_types(s: &[u8], at: u32, items: u32, left: u32, n: u32, marks: &mut [u8]
     let mut next = at;
     let mut i: u32 = 0;
     while i < n {
-        let r = walk_slot(s, next, items, left, marks);
+        let r = walk_slot(&s[..], next, items, left, &mut marks[..]);
         if Cursor::LAST < r {
             return r;
         }
@@ -250,7 +250,7 @@ pub fn check_type(s: &[u8], c: Cursor, items: u32, marks: &mut [u8]) -> Step
     if Cursor::LAST < at {
         return Step::Fault(Refusal::CutSheet);
     }
-    let r = walk_type(s, at, items, Levels::MOST, marks);
+    let r = walk_type(&s[..], at, items, Levels::MOST, &mut marks[..]);
     step_in(r)
 }
 
@@ -267,7 +267,7 @@ pub fn check_types(s: &[u8], c: Cursor, items: u32, n: u32, marks: &mut [u8]) ->
     if Cursor::LAST < at {
         return Step::Fault(Refusal::CutSheet);
     }
-    let r = walk_types(s, at, items, Levels::MOST, n, marks);
+    let r = walk_types(&s[..], at, items, Levels::MOST, n, &mut marks[..]);
     step_in(r)
 }
 
@@ -281,6 +281,6 @@ pub fn check_return(s: &[u8], c: Cursor, items: u32, marks: &mut [u8]) -> Step
     if Cursor::LAST < at {
         return Step::Fault(Refusal::CutSheet);
     }
-    let r = walk_return(s, at, items, Levels::MOST, marks);
+    let r = walk_return(&s[..], at, items, Levels::MOST, &mut marks[..]);
     step_in(r)
 }
