@@ -10,7 +10,7 @@ use Rattle.format.specs.Sheet.{Item}
 use Rattle.toposort.specs.declared.Traversal.{Traversal}
 use Rattle.toposort.specs.declared.Traversal.the-variants.{Done, Cycle}
 use Rattle.toposort.specs.Graph.{Graph}
-use Rattle.toposort.specs.Sort.{Walk, cycle, done, sort, isRing, sortedOf, ringed, order}
+use Rattle.toposort.specs.Sort.{Walk, cycle, done, visitAll, sort, isRing, sortedOf, ringed, order}
 use Rattle.toposort.specs.Adjacency.{graphOf, Sorted, endOf}
 use Rattle.toposort.proofs.TableLaws.{told-ring, told-order}
 use Rattle.rules.specs.Rules as rules
@@ -47,6 +47,18 @@ ordered {items} {m₁ = m₁} {o₁ = o₁} {r = r} few e l s = by-step r (sorte
     by-step (Done end) s =
         let t = told-order (sheet-structs items) (omega arith) s in
         record { rings = sym (t .0); list = t .1; inside = s .inside }
+
+-- without structs there is nothing to sort
+pub ordered-none : {items : List Item} {numbers out : List ℕ} {n : ℕ} → StructNumbers items n numbers → n ≡ 0 →
+    Ordered items (Done 0) out
+unfolding rules.ring ringed order sort visitAll
+ordered-none {items} {numbers} {out} {n} l e =
+    let none : [] ≡ structs items = rw e at (l .front) in
+    record {
+      rings = ap (ringed (heldStructs items) (length items)) none;
+      list = ap (order (heldStructs items) (length items)) none;
+      inside = omega arith;
+    }
 
 -- ---- the answer is known
 

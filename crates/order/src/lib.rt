@@ -11,7 +11,8 @@ ghost use Rattle.rules.specs.Rules.{ring as ringOf};
 ghost use Rattle.view.specs.Values.{itemsAt, Whole};
 ghost use Rattle.order.specs.Ordered.{Ordered};
 
-// Puts the structs in order in front of `out`, and answers where they end, or that there is a ring.
+// Puts the structs in order in front of `out`, and answers where they end, or that there is a ring. Without structs no
+// table is made.
 pub fn order_of(
     s: &[u8],
     names: &[u32],
@@ -22,12 +23,15 @@ pub fn order_of(
     ensures { λ r. ⌜ Ordered (itemsAt (now (s .entry)) (now (names .entry)) (now (items .entry))) r
         (now (out .exit)) ⌝ }
 {
+    let mut numbers = [0u8; Outline::ITEMS];
+    let n = list_structs(s, names, items, &mut numbers);
+    if n == 0 {
+        return Traversal::Done(0);
+    }
     let mut starts = [0u16; Traversal::STARTS];
     let mut held = [0u8; Traversal::HELD];
-    let mut numbers = [0u8; Outline::ITEMS];
     let mut marks = [0u8; Traversal::NUMBERS];
     fill_edges(s, names, items, &mut starts, &mut held);
-    let n = list_structs(s, names, items, &mut numbers);
     sort(&starts, &held, &numbers[..n], &mut marks, out)
 }
 

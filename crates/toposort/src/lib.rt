@@ -91,6 +91,11 @@ fn visit_held(
     let mut e = at;
     while k < end {
         let j = to_usize(held[k]);
+        if 1 < marks[j] {
+            // One that was visited costs no call.
+            k = k + 1;
+            continue;
+        }
         let r = visit(starts, held, levels, j, marks, order, e);
         match r {
             Traversal::Cycle => {

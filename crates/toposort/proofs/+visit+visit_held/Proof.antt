@@ -1,4 +1,4 @@
--- Written by tools/proofkit from answers/+visit+visit_held.tpl (6bc692b4 83d60cd4).
+-- Written by tools/proofkit from answers/+visit+visit_held.tpl (241b5eb1 7c122387).
 -- `visit` and `visit_held` meet their contracts. The number that falls: the levels, and a bit for which of the two runs.
 use borrow.Author.Needs.{needs}
 use native.Mathlib.Omega.{arith}
@@ -128,23 +128,36 @@ visit-held-element-copy-out-to-usize t c =
     omega (arith, p .1 .size)
 
 visit-held-visit-requires : (t : ℕ) → visit-held-lts.Need-visit-requires (K-visit-held t) (visit-held-at t) visit-held.Post visit-held-Inv-loop visit-held-μ-loop
-visit-held-visit-requires t c κs = (omega arith, (c .before .before .to-usize .ensures .1, c .before .before .before .before .before .before .before .before .before .before .pre .1 .1, c .before .before .before .before .before .loop .inv .1 .room))
+visit-held-visit-requires t c κs = (omega arith, (c .before .before .before .before .to-usize .ensures .1, c .before .before .before .before .before .before .before .before .before .before .before .before .pre .1 .1, c .before .before .before .before .before .before .before .loop .inv .1 .room))
 
 visit-held-returns : (t : ℕ) → visit-held-lts.Need-returns (K-visit-held t) (visit-held-at t) visit-held.Post visit-held-Inv-loop visit-held-μ-loop
 visit-held-returns t c =
-    let v = c .before .before .before .before .before .before .before .before .loop .inv in
-    let now = going-as (part-next _ _ _ (c .before .before .before .before .before .before .before .loop-test .taken) (v .0) (c .before .before .before .before .before .to-usize .ensures .0)) (v .1) in
-    all-ring (c .before .before .before .before .before .before .before .before .before .before .before .before .before .pre .1 .2 .order) now (visited-as (c .enum-told .given .1) (c .before .before .visit .ensures))
+    let v = c .before .before .before .before .before .before .before .before .before .before .loop .inv in
+    let now = going-as (part-next _ _ _ (c .before .before .before .before .before .before .before .before .before .loop-test .taken) (v .0) (c .before .before .before .before .before .before .before .to-usize .ensures .0)) (v .1) in
+    all-ring (c .before .before .before .before .before .before .before .before .before .before .before .before .before .before .before .pre .1 .2 .order) now (visited-as (c .enum-told .given .1) (c .before .before .visit .ensures))
 
 visit-held-loop-again : (t : ℕ) → visit-held-lts.Need-loop-again (K-visit-held t) (visit-held-at t) visit-held.Post visit-held-Inv-loop visit-held-μ-loop
 visit-held-loop-again t c =
-    let v = c .before .before .before .before .before .before .before .before .before .loop .inv in
-    let within = c .before .before .before .before .before .before .before .before .before .before .before .before .before .before .pre .1 .1 .within in
-    let now = going-as (part-next _ _ _ (c .before .before .before .before .before .before .before .before .loop-test .taken) (v .0) (c .before .before .before .before .before .before .to-usize .ensures .0)) (v .1) in
-    (v .0, going-next within (c .before .before .before .before .before .before .to-usize .ensures .1) now (visited-as (c .before .r .given .1) (c .before .before .before .visit .ensures)))
+    let v = c .before .before .before .before .before .loop .inv in
+    let within = c .before .before .before .before .before .before .before .before .before .before .pre .1 .1 .within in
+    let now = going-as (part-next _ _ _ (c .before .before .before .before .loop-test .taken) (v .0) (c .before .before .to-usize .ensures .0)) (v .1) in
+    let room = now .room in
+    (v .0, going-next within (c .before .before .to-usize .ensures .1) now (visited-already (c .if1 .taken) (omega arith)))
+
+visit-held-loop-again-2 : (t : ℕ) → visit-held-lts.Need-loop-again-2 (K-visit-held t) (visit-held-at t) visit-held.Post visit-held-Inv-loop visit-held-μ-loop
+visit-held-loop-again-2 t c =
+    let v = c .before .before .before .before .before .before .before .before .before .before .before .loop .inv in
+    let within = c .before .before .before .before .before .before .before .before .before .before .before .before .before .before .before .before .pre .1 .1 .within in
+    let now = going-as (part-next _ _ _ (c .before .before .before .before .before .before .before .before .before .before .loop-test .taken) (v .0) (c .before .before .before .before .before .before .before .before .to-usize .ensures .0)) (v .1) in
+    (v .0, going-next within (c .before .before .before .before .before .before .before .before .to-usize .ensures .1) now (visited-as (c .before .r .given .1) (c .before .before .before .visit .ensures)))
 
 visit-held-returns-2 : (t : ℕ) → visit-held-lts.Need-returns-2 (K-visit-held t) (visit-held-at t) visit-held.Post visit-held-Inv-loop visit-held-μ-loop
 visit-held-returns-2 t c = all-done (c .before .before .before .before .before .before .pre .1 .2 .order) (going-as (part-end _ _ _ (c .loop-test .left)) (c .before .loop .inv .1))
+
+visit-held-element-copy-out-if1 : (t : ℕ) → visit-held-lts.Need-element-copy-out-if1 (K-visit-held t) (visit-held-at t) visit-held.Post visit-held-Inv-loop visit-held-μ-loop
+visit-held-element-copy-out-if1 t c =
+    let room = c .before .before .before .loop .inv .1 .room in
+    omega (arith, c .to-usize .ensures .1)
 
 pub +visit+visit-held-spec : {M : Type 1} → statement M
 +visit+visit-held-spec =
@@ -178,11 +191,15 @@ pub +visit+visit-held-spec : {M : Type 1} → statement M
     (visit-held-loop-holds t)
     (visit-held-element-copy-out-to-usize t)
     (λ c κs. search needs)
+    (visit-held-element-copy-out-if1 t)
+    (λ c. omega arith)
+    (λ c. omega arith)
+    (visit-held-loop-again t)
     (visit-held-visit-requires t)
     (λ c. search needs)
     (visit-held-returns t)
     (λ c. search needs)
     (λ c. omega arith)
     (λ c. omega arith)
-    (visit-held-loop-again t)
+    (visit-held-loop-again-2 t)
     (visit-held-returns-2 t))
