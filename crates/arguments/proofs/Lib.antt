@@ -1,4 +1,3 @@
 pub mod ErrorLaws
 pub mod ArgumentLaws
 pub mod PairLaws
-pub mod LocatedLaws

@@ -1,37 +1,23 @@
--- The arguments of a function, as functions of the sheet's bytes and of the positions at which they stand.
+-- The arguments of a function: what is told of their types by the kind, and what a walk past them leaves behind.
 use mathlib.Core.Path.{_≡_}
-use mathlib.Core.List.{List, [], map}
+use mathlib.Core.List.{List, [], _∷_, _++_, map}
 use mathlib.Core.Bool.{Bool, false}
 use Prim.Native.Nat.{ℕ, _<_, _≤_}
 use lib.ListN.{length, getD}
-use Rattle.format.specs.Limits.{mostArguments}
-use Rattle.format.specs.Types.{Ty, str}
+use Rattle.format.specs.Limits.{mostBits}
+use Rattle.format.specs.Decode.{Got, got}
+use Rattle.format.specs.Types.{Ty}
 use Rattle.format.specs.Sheet.{Name, Argument}
 use Rattle.format.specs.declared.TypeKind.{TypeKind}
 use Rattle.format.specs.declared.TypeKind.the-variants as Kind
-use Rattle.format.specs.Decoding.{argument}
 use Rattle.rules.specs.Rules.{isCxxVectorTemplate}
-use Rattle.cursor.specs.Yielding.{valueOr, Yields}
-use Rattle.names.specs.Naming.{nameAt, namesAt}
+use Rattle.cursor.specs.Checking.{stepIn}
+use Rattle.names.specs.Naming.{nameAt}
 use Rattle.names.specs.Digests.{digest}
-use Rattle.marks.specs.Gathering.{each}
-use Rattle.marks.specs.Marking.{unfitAt, markIf, isIndirectNow, namedItem, markError}
-
--- ---- arguments by position
-
--- the argument at a position, in a sheet of so many items
-unfoldable pub argumentHere : List ℕ → List ℕ → ℕ → ℕ → Argument
-argumentHere s names items at = valueOr (record { name = []; type = str }) (argument (namesAt s names) items s at)
-
--- the arguments of a table of positions
-unfoldable pub argumentsAt : List ℕ → List ℕ → ℕ → List ℕ → List Argument
-argumentsAt s names items offsets = map (argumentHere s names items) offsets
-
--- at each position of the table stands an argument
-pub record Arguments (s names : List ℕ) (items : ℕ) (offsets : List ℕ) : Type 0 where
-  pub few : length offsets ≤ mostArguments
-  pub each : (i : ℕ) → i < length offsets →
-      Yields (argument (namesAt s names) items s (getD offsets i 0)) (argumentHere s names items (getD offsets i 0))
+use Rattle.types.specs.Kinds.{typeHere}
+use Rattle.marks.specs.Gathering.{each, Gathers}
+use Rattle.marks.specs.Marking.{unfitAt, markIf, isIndirectNow, namedItem, markError, markArgument}
+use Rattle.arguments.specs.declared.Passed.{Passed}
 
 -- ---- their types
 
@@ -49,7 +35,20 @@ isVectorKind Kind.Bad = false
 unfoldable pub judgeError : Ty → List ℕ → List ℕ
 judgeError t u = each markError (namedItem t) (markIf (isIndirectNow t) unfitAt u)
 
--- ---- their names
+-- ---- one argument
+
+-- with the name of this index, and the type that stands at `of`
+abbrev pub argumentOf : List ℕ → List ℕ → ℕ → ℕ → ℕ → Argument
+argumentOf s names items name of = record { name = nameAt s (getD names name 0); type = typeHere items s of }
+
+-- the argument of the decoder's p was marked: u and v are the marks before and after, r tells its name and what is behind
+pub record Passes (method throws : Bool) (s names : List ℕ) (p : Got Argument) (u : List ℕ) (r : Passed) (v : List ℕ)
+    : Type 0 where
+  pub marks : Gathers (markArgument method throws) p u (stepIn (r .next)) v
+  pub there : r .next ≤ mostBits → r .name < length names
+  pub name : (x : Argument) (m : ℕ) → p ≡ got x m → nameAt s (getD names (r .name) 0) ≡ x .name
+
+-- ---- all arguments
 
 -- the names of a list of indexes
 unfoldable pub namesOf : List ℕ → List ℕ → List ℕ → List Name
@@ -59,9 +58,17 @@ namesOf s names numbers = map (λ k. nameAt s (getD names k 0)) numbers
 pub record Indexes (names numbers : List ℕ) : Type 0 where
   pub each : (i : ℕ) → i < length numbers → getD numbers i 0 < length names
 
--- the first n numbers are the indexes of the names of the arguments, and the first n keys the digests of these
-pub record Numbered (s names : List ℕ) (items : ℕ) (offsets : List ℕ) (n : ℕ) (numbers keys : List ℕ) : Type 0 where
-  pub there : (i : ℕ) → i < n → getD numbers i 0 < length names
-  pub name : (i : ℕ) → i < n →
-      nameAt s (getD names (getD numbers i 0) 0) ≡ argumentHere s names items (getD offsets i 0) .name
-  pub key : (i : ℕ) → i < n → getD keys i 0 ≡ digest (argumentHere s names items (getD offsets i 0) .name)
+-- the numbers are indexes of names, and the keys the digests of these
+pub record Numbered (s names numbers keys : List ℕ) : Type 0 where
+  pub indexes : Indexes names numbers
+  pub digests : keys ≡ map digest (namesOf s names numbers)
+
+-- the marks with one argument more, and the names
+unfoldable pub note : Bool → Bool → Argument → List ℕ × List Name → List ℕ × List Name
+note method throws a n = (markArgument method throws a (n .0), n .1 ++ (a .name ∷ []))
+
+-- the arguments of the decoder's p were marked: u and v are the marks before and after, r the answer
+pub record Notes (method throws : Bool) (s names : List ℕ) (p : Got (List Argument)) (u : List ℕ) (r : ℕ)
+    (numbers keys v : List ℕ) : Type 0 where
+  pub noted : Gathers (each (note method throws)) p (u, []) (stepIn r) (v, namesOf s names numbers)
+  pub numbered : r ≤ mostBits → Numbered s names numbers keys

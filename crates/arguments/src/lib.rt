@@ -1,5 +1,6 @@
-// The arguments of one function, looked at by their positions and without a walk over their types: what rules 10 and 11
-// want of them is marked.
+// The arguments of one function, walked past and looked at on the way: what rules 9 to 11 want of them is marked.
+use cursor::Cursor;
+use cursor::end_of;
 use cursor::extract;
 use cursor::width;
 use format::Template;
@@ -9,25 +10,28 @@ use marks::repeats;
 use marks::set_mark;
 use names::name_is;
 use names::same_name;
+use types::Levels;
 use types::kind_of;
+use types::walk_type;
 ghost use mathlib.Core.Path.{_≡_};
 ghost use mathlib.Core.Bool.{_&&_};
-ghost use mathlib.Core.List.{map};
+ghost use mathlib.Core.List.{[]};
 ghost use Prim.Native.Nat.{_<_, _≤_};
-ghost use lib.ListN.{length, getD};
+ghost use lib.ListN.{length, getD, take};
 ghost use Rattle.lexical.specs.Bytes.{same};
+ghost use Rattle.format.specs.Limits.{mostArguments, mostBits};
+ghost use Rattle.format.specs.Decode.{many};
 ghost use Rattle.format.specs.Decoding.{kindOf, argument, type};
 ghost use Rattle.syntax.specs.Types.{isIndirectTemplate};
 ghost use Rattle.rules.specs.Rules.{twice};
-ghost use Rattle.cursor.specs.Checking.{Limited};
+ghost use Rattle.cursor.specs.Checking.{Limited, stepIn};
 ghost use Rattle.cursor.specs.Yielding.{Yields};
 ghost use Rattle.names.specs.Naming.{nameAt, namesAt, Named};
 ghost use Rattle.names.specs.Digests.{digestsAt};
 ghost use Rattle.types.specs.Kinds.{typeHere, kindOfType};
-ghost use Rattle.marks.specs.Gathering.{each};
-ghost use Rattle.marks.specs.Marking.{markIf, judgeArgument, judgeArguments};
-ghost use Rattle.arguments.specs.Arguments.{argumentHere, argumentsAt, Arguments, isVectorKind, judgeError};
-ghost use Rattle.arguments.specs.Arguments.{namesOf, Indexes, Numbered};
+ghost use Rattle.marks.specs.Gathering.{Gathers};
+ghost use Rattle.marks.specs.Marking.{markIf, judgeArgument, markArguments};
+ghost use Rattle.arguments.specs.Arguments.{isVectorKind, judgeError, argumentOf, namesOf, Indexes, Passes, Notes};
 
 // How many arguments a function has.
 pub struct Count {
@@ -126,75 +130,118 @@ fn judge_error(s: &[u8], items: u32, at: u32, kind: TypeKind, marks: &mut [u8])
     }
 }
 
-// Marks what rule 11 wants of the argument at a position. The answer is the index of its name.
+// Marks what rule 11 wants of the argument with the name of this index, whose type stands at `of`.
 fn judge_argument(
     s: &[u8],
     names: &[u32],
     digests: &[u32],
     items: u32,
-    at: u32,
+    name: u32,
+    of: u32,
     method: bool,
     throws: bool,
     marks: &mut [u8],
-) -> u32
-    requires { ⌜ Named (now s) (now names) × (now digests ≡ digestsAt (now s) (now names)) ×
-        Yields (argument (namesAt (now s) (now names)) items (now s) at)
-        (argumentHere (now s) (now names) items at) ⌝ }
-    ensures { λ r. ⌜ (r < length (now (names .entry))) ×
-        (nameAt (now (s .entry)) (getD (now (names .entry)) r 0) ≡
-        argumentHere (now (s .entry)) (now (names .entry)) items at .name) ×
-        (now (marks .exit) ≡ judgeArgument method throws
-        (argumentHere (now (s .entry)) (now (names .entry)) items at) (now (marks .entry))) ⌝ }
+)
+    requires { ⌜ Named (now s) (now names) × (now digests ≡ digestsAt (now s) (now names)) × (name < length (now names)) ×
+        Yields (type items (now s) of) (typeHere items (now s) of) ⌝ }
+    ensures { λ r. ⌜ now (marks .exit) ≡ judgeArgument method throws
+        (argumentOf (now (s .entry)) (now (names .entry)) items name of) (now (marks .entry)) ⌝ }
 {
-    let w = width(names.len() as u32);
-    let name = extract(s, at, w);
-    let of = at + w;
     let k = extract(s, of, 4);
     let vector = is_vector(k);
     mark_if(marks, vector, Mark::UNFIT);
     let receiver = name_when(s, names, digests, method, name, b"self");
     mark_if(marks, receiver, Mark::UNFIT);
     let error = name_when(s, names, digests, throws, name, b"error");
-    if error {
-        let kind = kind_of(k);
-        judge_error(s, items, of, kind, marks);
-        return name;
+    if !error {
+        return;
     }
-    name
+    let kind = kind_of(k);
+    judge_error(s, items, of, kind, marks);
+}
+
+// An argument that was walked past: the index of its name, and the position behind it or the refusal, by one number.
+pub struct Passed {
+    pub name: u32,
+    pub next: u32,
+}
+
+// Past the argument at a position, which is marked.
+fn check_argument(
+    s: &[u8],
+    names: &[u32],
+    digests: &[u32],
+    at: u32,
+    items: u32,
+    method: bool,
+    throws: bool,
+    marks: &mut [u8],
+) -> Passed
+    requires { ⌜ Named (now s) (now names) × (now digests ≡ digestsAt (now s) (now names)) × (at ≤ mostBits) ⌝ }
+    ensures { λ r. ⌜ Passes method throws (now (s .entry)) (now (names .entry))
+        (argument (namesAt (now (s .entry)) (now (names .entry))) items (now (s .entry)) at)
+        (now (marks .entry)) r (now (marks .exit)) ⌝ }
+{
+    let n = names.len() as u32;
+    let w = width(n);
+    let of = at + w;
+    if end_of(s) < of {
+        let next = Cursor::CUT;
+        return Passed { name: 0, next };
+    }
+    let name = extract(s, at, w);
+    if n <= name {
+        let next = Cursor::LOOSE;
+        return Passed { name, next };
+    }
+    let next = walk_type(&s[..], of, items, Levels::MOST, &mut marks[..]);
+    if Cursor::LAST < next {
+        return Passed { name, next };
+    }
+    judge_argument(s, names, digests, items, name, of, method, throws, marks);
+    Passed { name, next }
 }
 
 // ---- all arguments
 
-// Marks what rule 11 wants of each argument; the index of its name and the digest of it go to the front of two tables.
-fn judge_each(
+// Past n arguments, which are marked; the index of each one's name and the digest of it go to the front of two tables.
+fn check_each(
     s: &[u8],
     names: &[u32],
     digests: &[u32],
+    at: u32,
     items: u32,
-    offsets: &[u32],
+    n: u32,
     method: bool,
     throws: bool,
-    marks: &mut [u8],
     numbers: &mut [u32],
     keys: &mut [u32],
-)
-    requires { ⌜ Named (now s) (now names) × (now digests ≡ digestsAt (now s) (now names)) ×
-        Arguments (now s) (now names) items (now offsets) × (length (now offsets) ≤ length (now numbers)) ×
-        (length (now offsets) ≤ length (now keys)) ⌝ }
-    ensures { λ r. ⌜ (now (marks .exit) ≡ each (judgeArgument method throws)
-        (argumentsAt (now (s .entry)) (now (names .entry)) items (now (offsets .entry))) (now (marks .entry))) ×
-        Numbered (now (s .entry)) (now (names .entry)) items (now (offsets .entry)) (length (now (offsets .entry)))
-        (now (numbers .exit)) (now (keys .exit)) ⌝ }
+    marks: &mut [u8],
+) -> u32
+    requires { ⌜ Named (now s) (now names) × (now digests ≡ digestsAt (now s) (now names)) × (at ≤ mostBits) ×
+        (n ≤ length (now numbers)) × (n ≤ length (now keys)) ⌝ }
+    ensures { λ r. ⌜ Notes method throws (now (s .entry)) (now (names .entry))
+        (many n (argument (namesAt (now (s .entry)) (now (names .entry))) items) (now (s .entry)) at)
+        (now (marks .entry)) r (take n (now (numbers .exit))) (take n (now (keys .exit))) (now (marks .exit)) ⌝ }
 {
-    let mut i: usize = 0;
-    while i < offsets.len() {
-        let name = judge_argument(s, names, digests, items, offsets[i], method, throws, marks);
-        let k = name as usize;
-        let key = digests[k];
-        numbers[i] = name;
-        keys[i] = key;
+    let mut next = at;
+    let mut i: u32 = 0;
+    while i < n {
+        let a = check_argument(s, names, digests, next, items, method, throws, marks);
+        let behind = a.next;
+        if Cursor::LAST < behind {
+            return behind;
+        }
+        let name = a.name;
+        let j = name as usize;
+        let key = digests[j];
+        let k = i as usize;
+        numbers[k] = name;
+        keys[k] = key;
+        next = behind;
         i = i + 1;
     }
+    next
 }
 
 // Whether two of the names are the same.
@@ -219,41 +266,48 @@ fn equal_names(s: &[u8], names: &[u32], digests: &[u32], numbers: &[u32]) -> boo
     found
 }
 
-// Marks what rules 10 and 11 want of the arguments at these positions, in a sheet of so many items.
-pub fn judge_arguments(
+// Past the n arguments of a function at a position, in a sheet of so many items.
+pub fn check_arguments(
     s: &[u8],
     names: &[u32],
     digests: &[u32],
+    at: u32,
     items: u32,
-    offsets: &[u32],
+    n: u32,
     method: bool,
     throws: bool,
     marks: &mut [u8],
-)
-    requires { ⌜ Named (now s) (now names) × (now digests ≡ digestsAt (now s) (now names)) ×
-        Arguments (now s) (now names) items (now offsets) ⌝ }
-    ensures { λ r. ⌜ now (marks .exit) ≡ judgeArguments method throws
-        (argumentsAt (now (s .entry)) (now (names .entry)) items (now (offsets .entry))) (now (marks .entry)) ⌝ }
+) -> u32
+    requires { ⌜ Named (now s) (now names) × (now digests ≡ digestsAt (now s) (now names)) × (at ≤ mostBits) ×
+        (n ≤ mostArguments) ⌝ }
+    ensures { λ r. ⌜ Gathers (markArguments method throws)
+        (many n (argument (namesAt (now (s .entry)) (now (names .entry))) items) (now (s .entry)) at)
+        (now (marks .entry)) (stepIn r) (now (marks .exit)) ⌝ }
 {
     let mut numbers = [0u32; Count::MOST];
     let mut keys = [0u32; Count::MOST];
-    judge_each(
+    let r = check_each(
         s,
         names,
         digests,
+        at,
         items,
-        offsets,
+        n,
         method,
         throws,
-        marks,
         &mut numbers,
         &mut keys,
+        marks,
     );
-    let n = offsets.len();
-    let close = repeats(&keys[..n]);
-    if !close {
-        return;
+    if Cursor::LAST < r {
+        return r;
     }
-    let same = equal_names(s, names, digests, &numbers[..n]);
+    let k = n as usize;
+    let close = repeats(&keys[..k]);
+    if !close {
+        return r;
+    }
+    let same = equal_names(s, names, digests, &numbers[..k]);
     mark_if(marks, same, Mark::REPEATED);
+    r
 }

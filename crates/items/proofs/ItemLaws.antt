@@ -2,36 +2,31 @@
 use mathlib.Core.Path.{_≡_, refl, sym, ap, _∙_}
 use mathlib.Core.List.{List, []}
 use mathlib.Core.Bool.{Bool, true, false, _||_}
-use Prim.Native.Nat.{ℕ, zero, suc, _<_, _≤_}
+use Prim.Native.Nat.{ℕ, zero, suc}
 use native.Mathlib.Omega.{arith}
 use lib.Dec.{eqb}
-use lib.ListN.{length, getD, take}
-use borrow.Author.Tests.{eq-eqb, ne-eqb, lt-ltb, le-ltb}
+use lib.ListN.{length, getD}
+use borrow.Author.Tests.{eq-eqb, ne-eqb}
 use Rattle.lexical.specs.Bytes.{within}
 use Rattle.refusal.specs.declared.Refusal.{Refusal}
-use Rattle.refusal.specs.declared.Refusal.the-variants.{CutSheet, LooseIndex, BadKind}
+use Rattle.refusal.specs.declared.Refusal.the-variants.{CutSheet, BadKind}
 use Rattle.format.specs.Decode.{Got, fault, got, pick, after, _>>_, pure, many}
-use Rattle.format.specs.Bits.{bits, bit, widthOf, index}
-use Rattle.format.specs.Limits.{mostArguments}
+use Rattle.format.specs.Bits.{bits, bit, index}
 use Rattle.format.specs.Types.{Ret}
-use Rattle.format.specs.Sheet.{Name, Argument, Form, free, constMethod, mutMethod, associated, Body, struct, enum}
+use Rattle.format.specs.Sheet.{Argument, Form, free, constMethod, mutMethod, associated, Body, struct, enum}
 use Rattle.rules.specs.Rules.{isMethod}
 use Rattle.format.specs.declared.ItemKind.{ItemKind}
 use Rattle.format.specs.declared.ItemKind.the-variants.{Bad}
-use Rattle.format.specs.Decoding.{nameOf, isBad, atomOf, line, type, argument, formOf, form, structBody, enumBody, partOf}
+use Rattle.format.specs.Decoding.{nameOf, isBad, atomOf, line, type, formOf, form, structBody, enumBody, partOf}
 use Rattle.comments.specs.Comments.{comment}
 use Rattle.cursor.specs.declared.Cursor.{Cursor}
 use Rattle.cursor.specs.declared.Step.{Step}
 use Rattle.cursor.specs.declared.Step.the-variants.{At, Fault}
-use Rattle.cursor.specs.Checking.{stepOf, Checks, positionOf, Fills}
-use Rattle.cursor.proofs.TableLaws.{located}
-use Rattle.arguments.specs.Arguments.{argumentsAt, Arguments}
-use Rattle.arguments.proofs.LocatedLaws.{located-arguments}
+use Rattle.cursor.specs.Checking.{stepOf, Checks}
 use Rattle.marks.specs.Gathering.{each, gatheredOf, answered, Gathers}
-use Rattle.marks.specs.Marking.{judgeArguments, markIndex, markTy, markRet, markForm, markArgument, markBody}
-use Rattle.marks.proofs.GatherLaws.{made, facts}
+use Rattle.marks.specs.Marking.{markIndex, markTy, markRet, markForm, markArguments, markBody}
+use Rattle.marks.proofs.GatherLaws.{made}
 use Rattle.cursor.proofs.CheckLaws.{step-map, tail, checks-like}
-use Rattle.items.specs.Parts.{markInputs}
 use Rattle.names.specs.Naming.{namesAt}
 use Rattle.names.proofs.NameLaws.{names-length}
 
@@ -46,31 +41,10 @@ module _ (s names : List ℕ) (at : ℕ) where
   names-of k h = checks-like (nameOf (namesAt s names)) (index (length names)) s
       (λ m. rw (names-length s names) (step-map (λ (i : ℕ). getD (namesAt s names) i []) (index (length names) s m))) k at h
 
--- an index that is read by itself
-module _ (s names : List ℕ) (at : ℕ) {w : ℕ} (z : w ≡ widthOf (length names)) where
-  pub name-cut : bits w s at ≡ fault CutSheet → nameOf (namesAt s names) s at ≡ fault CutSheet
-  unfolding nameOf index
-  name-cut e = rw (names-length s names, ← z, e)
-
-  module _ {i m : ℕ} (e : bits w s at ≡ got i m) where
-    pub name-loose : length names ≤ i → nameOf (namesAt s names) s at ≡ fault LooseIndex
-    unfolding nameOf index
-    name-loose l = rw (names-length s names, ← z, e, le-ltb i (length names) l)
-
-    pub name-found : i < length names → nameOf (namesAt s names) s at ≡ got (getD (namesAt s names) i []) m
-    unfolding nameOf index
-    name-found l = rw (names-length s names, ← z, e, lt-ltb i (length names) l)
-
 pub bad-is : {k x : ItemKind} {b t : Bool} → k ≡ x → b ≡ isBad k → b ≡ t → isBad x ≡ t
 bad-is e h t = ap isBad (sym e) ∙ sym h ∙ t
 
 -- ---- marks
-
-module _ (names : List Name) (n : ℕ) (s : List ℕ) (at : ℕ) {u v : List ℕ} {x : Name} {next : ℕ}
-    (e : nameOf names s at ≡ got x next) where
-  pub argument-marks : {r : Step} → Gathers markTy (type n s next) u r v → Gathers markArgument (argument names n s at) u r v
-  unfolding argument markArgument
-  argument-marks h = rw e (made (λ t. record { name = x; type = t }) (λ t. refl) h)
 
 owner-marks : (k i : ℕ) (w : List ℕ) → (k ≡ 0 → ⊥) → markForm (formOf k i) w ≡ markIndex i w
 unfolding markForm each
@@ -204,25 +178,5 @@ part-past (suc (suc (suc (suc (suc (suc (suc (suc k)))))))) h0 h1 h2 h3 h4 = ref
 -- ---- a function
 
 pub inputs-like : {a b : Bool} (t : Bool) (r : Ret) (xs : List Argument) {u v : List ℕ} → b ≡ a → v ≡ u →
-    markInputs a t xs (markRet r u) ≡ markInputs b t xs (markRet r v)
+    markArguments a t xs (markRet r u) ≡ markArguments b t xs (markRet r v)
 inputs-like t r xs e h = rw (e, h) refl
-
--- ---- arguments that were walked past, and are judged by their positions
-
-module _ (s names : List ℕ) (items n at : ℕ) {r : Step} {c : Cursor} {offsets u v : List ℕ}
-    (f : Fills (many n (positionOf (argument (namesAt s names) items)) s at) r n offsets ×
-    Gathers (each markArgument) (many n (argument (namesAt s names) items) s at) u r v)
-    (t : r ≡ At c) (room : n ≤ length offsets) (few : n ≤ mostArguments) where
-  pub walked-arguments : Arguments s names items (take n offsets)
-  walked-arguments =
-      let l = located (argument (namesAt s names) items) s n at (f .0) t in
-      located-arguments s names items (l .table) room few .0
-
-  pub walked-inputs : (method throws : Bool) {w : List ℕ} →
-      w ≡ judgeArguments method throws (argumentsAt s names items (take n offsets)) v →
-      Gathers (markInputs method throws) (many n (argument (namesAt s names) items) s at) u (At c) w
-  walked-inputs method throws {w} e =
-      let l = located (argument (namesAt s names) items) s n at (f .0) t in
-      let x = facts (f .1) t (l .decoded) in
-      let z = located-arguments s names items (l .table) room few .1 in
-      rw (l .decoded, e, z, x) record { gathered = refl }

@@ -1,7 +1,6 @@
 // The items of a sheet, checked; names are the positions of the sheet's names, items is the number of its items. The
 // walk marks what rules 9 to 11 ask for.
-use arguments::Count;
-use arguments::judge_arguments;
+use arguments::check_arguments;
 use comments::check_comment;
 use cursor::Cursor;
 use cursor::Field;
@@ -9,130 +8,32 @@ use cursor::Step;
 use cursor::check_index;
 use cursor::read;
 use cursor::skip;
-use cursor::width;
+use cursor::step_in;
 use format::ItemKind;
 use refusal::Refusal;
 use text::in_range;
 use types::check_item_index;
 use types::check_return;
-use types::check_type;
 use types::check_types;
 ghost use mathlib.Core.Path.{_≡_};
 ghost use mathlib.Core.List.{List};
 ghost use Prim.Native.Nat.{ℕ, _≤_};
 ghost use lib.ListN.{length};
-ghost use Rattle.format.specs.Limits.{mostArguments};
 ghost use Rattle.format.specs.Decode.{got, many};
 ghost use Rattle.format.specs.Bits.{index};
 ghost use Rattle.format.specs.Types.{Ret};
 ghost use Rattle.format.specs.Sheet.{Form, Argument, Body};
-ghost use Rattle.format.specs.Decoding.{argument, form, functionBody, structBody, enumBody};
+ghost use Rattle.format.specs.Decoding.{form, functionBody, structBody, enumBody};
 ghost use Rattle.format.specs.Decoding.{partOf, isBad, itemBody, namespace, item};
 ghost use Rattle.rules.specs.Rules.{isMethod};
 ghost use Rattle.cursor.specs.Checking.{Limited, Checks, positionOf, Fills};
 ghost use Rattle.names.specs.Naming.{namesAt, Named};
 ghost use Rattle.names.specs.Digests.{digestsAt};
 ghost use Rattle.marks.specs.Gathering.{each, Gathers};
-ghost use Rattle.marks.specs.Marking.{markRet, markForm, markArgument, markBody, markItem};
-ghost use Rattle.items.specs.Parts.{markInputs, signature};
+ghost use Rattle.marks.specs.Marking.{markRet, markForm, markArguments, markBody, markItem};
+ghost use Rattle.items.specs.Parts.{signature};
 
 // ---- functions
-
-fn check_argument(s: &[u8], names: &[u32], c: Cursor, items: u32, marks: &mut [u8]) -> Step
-    requires { ⌜ Named (now s) (now names) ⌝ }
-    ensures { λ r. ⌜ Gathers markArgument
-        (argument (namesAt (now (s .entry)) (now (names .entry))) items (now (s .entry)) (c .at))
-        (now (marks .entry)) r (now (marks .exit)) ⌝ }
-{
-    let n = names.len() as u32;
-    let w = width(n);
-    let f = read(s, c, w);
-    match f {
-        Field::Cut => Step::Fault(Refusal::CutSheet),
-        Field::Value(i, next) => {
-            if n <= i {
-                return Step::Fault(Refusal::LooseIndex);
-            }
-            check_type(s, next, items, marks)
-        }
-    }
-}
-
-// Past n arguments, with the position of each in offsets.
-fn check_arguments(
-    s: &[u8],
-    names: &[u32],
-    c: Cursor,
-    items: u32,
-    n: u32,
-    offsets: &mut [u32],
-    marks: &mut [u8],
-) -> Step
-    requires { ⌜ Named (now s) (now names) × (n ≤ length (now offsets)) ⌝ }
-    ensures { λ r. ⌜ Fills
-        (many n (positionOf (argument (namesAt (now (s .entry)) (now (names .entry))) items)) (now (s .entry)) (c .at))
-        r n (now (offsets .exit)) ×
-        Gathers (each markArgument)
-        (many n (argument (namesAt (now (s .entry)) (now (names .entry))) items) (now (s .entry)) (c .at))
-        (now (marks .entry)) r (now (marks .exit)) ⌝ }
-{
-    let mut next = c;
-    let mut i: u32 = 0;
-    while i < n {
-        let r = check_argument(s, names, next, items, marks);
-        match r {
-            Step::At(p) => {
-                let k = i as usize;
-                let here = next.at;
-                offsets[k] = here;
-                next = p;
-            }
-            Step::Fault(e) => {
-                return Step::Fault(e);
-            }
-        }
-        i = i + 1;
-    }
-    Step::At(next)
-}
-
-// Past n arguments, which are judged.
-fn check_inputs(
-    s: &[u8],
-    names: &[u32],
-    digests: &[u32],
-    c: Cursor,
-    items: u32,
-    n: u32,
-    method: bool,
-    throws: bool,
-    marks: &mut [u8],
-) -> Step
-    requires { ⌜ Named (now s) (now names) × (now digests ≡ digestsAt (now s) (now names)) × (n ≤ mostArguments) ⌝ }
-    ensures { λ r. ⌜ Gathers (markInputs method throws)
-        (many n (argument (namesAt (now (s .entry)) (now (names .entry))) items) (now (s .entry)) (c .at))
-        (now (marks .entry)) r (now (marks .exit)) ⌝ }
-{
-    let mut offsets = [0u32; Count::MOST];
-    let r = check_arguments(s, names, c, items, n, &mut offsets, marks);
-    match r {
-        Step::Fault(e) => Step::Fault(e),
-        Step::At(next) => {
-            let k = n as usize;
-            judge_arguments(
-                s,
-                names,
-                digests,
-                items,
-                &offsets[..k],
-                method,
-                throws,
-                marks,
-            );
-            Step::At(next)
-        }
-    }
-}
 
 fn check_form(s: &[u8], c: Cursor, items: u32, marks: &mut [u8]) -> Step
     requires { ⌜ Limited (now s) ⌝ }
@@ -182,7 +83,7 @@ fn check_signature(
     requires { ⌜ Named (now s) (now names) × (now digests ≡ digestsAt (now s) (now names)) ⌝ }
     ensures { λ r. ⌜ ((make : Ret → List Argument → List (List ℕ) → Body) (u : List ℕ) →
         ((x : Ret) (xs : List Argument) (ls : List (List ℕ)) →
-        markBody (make x xs ls) u ≡ markInputs method throws xs (markRet x (now (marks .entry)))) →
+        markBody (make x xs ls) u ≡ markArguments method throws xs (markRet x (now (marks .entry)))) →
         Gathers markBody
         (signature make (namesAt (now (s .entry)) (now (names .entry))) items (now (s .entry)) (c .at))
         u r (now (marks .exit))) ⌝ }
@@ -195,7 +96,18 @@ fn check_signature(
             match f {
                 Field::Cut => Step::Fault(Refusal::CutSheet),
                 Field::Value(n, first) => {
-                    let b = check_inputs(s, names, digests, first, items, n, method, throws, marks);
+                    let r = check_arguments(
+                        s,
+                        names,
+                        digests,
+                        first.at,
+                        items,
+                        n,
+                        method,
+                        throws,
+                        marks,
+                    );
+                    let b = step_in(r);
                     match b {
                         Step::Fault(e) => Step::Fault(e),
                         Step::At(next) => check_comment(s, next),

@@ -13,10 +13,10 @@ use Rattle.lexical.proofs.BoolLaws.{both}
 use Rattle.format.specs.Types.{Ty, atom, named, template, pointer, str, fn, array, Ret, none, gives, Tys, nil, cons}
 use Rattle.format.specs.Sheet.{Form, Argument, Function, Body, struct, enum, cxxType, rustType, function, Item}
 use Rattle.syntax.specs.Items.{selfType}
-use Rattle.rules.specs.Rules.{any, twice, anyNamed, anyNamedRet, anyNamedTys, anyIndex, isMethod}
+use Rattle.rules.specs.Rules.{any, twice, anyNamed, anyNamedRet, anyNamedTys, isMethod}
 use Rattle.marks.specs.Gathering.{each}
-use Rattle.marks.specs.Marking.{mark, markIf, markIndex, markTy, markRet, markTys, markForm, markArgument, unfitNow, errorItem, markError}
-use Rattle.marks.specs.Marking.{judgeArgument, judgeArguments, markFunction, markBody, markItem, markItems}
+use Rattle.marks.specs.Marking.{mark, markIf, markIndex, markTy, markRet, markTys, markForm, unfitNow, errorItem, markError}
+use Rattle.marks.specs.Marking.{judgeArgument, markArgument, markArguments, markFunction, markBody, markItem, markItems}
 use Rattle.marks.specs.Reading.{someFrom, marked}
 use Rattle.marks.proofs.SomeLaws.{same-truth, and-or, and-false, or-assoc, or-false, or-true, some-at, some-is, some-like, some-or, some-none}
 
@@ -55,14 +55,17 @@ pub record Says (test : ℕ → Bool) (unfit repeated : Bool) (error names : ℕ
 
 module _ (unfit repeated : Bool) (error names : ℕ → Bool) where
   abbrev pub hasArgument : Bool → Bool → Argument → Bool
-  hasArgument method throws a = (unfitNow method throws a && unfit) || any error (errorItem throws a)
+  hasArgument method throws a =
+      anyNamed names (a .type) || ((unfitNow method throws a && unfit) || any error (errorItem throws a))
 
   abbrev pub hasArguments : Bool → Bool → List Argument → Bool
   hasArguments method throws xs =
       any (hasArgument method throws) xs || (twice same (map (λ a. a .name) xs) && repeated)
 
   abbrev pub hasFunction : Function → Bool
-  hasFunction f = anyIndex names (function f) || hasArguments (isMethod (f .form)) (f .throws) (f .arguments)
+  hasFunction f =
+      any names (selfType (f .form)) || anyNamedRet names (f .return) ||
+      hasArguments (isMethod (f .form)) (f .throws) (f .arguments)
 
   abbrev pub hasBody : Body → Bool
   hasBody (struct p ts) = any (anyNamed names) ts
@@ -156,10 +159,6 @@ module _ {test : ℕ → Bool} {unfit repeated : Bool} {error names : ℕ → Bo
     tys-adds nil = keep-adds
     tys-adds (cons t ts) = then-adds (ty-adds t) (tys-adds ts)
 
-  pub argument-adds : (a : Argument) → Adds (λ u. markArgument a u) (anyNamed names (a .type))
-  unfolding markArgument
-  argument-adds a = ty-adds (a .type)
-
   pub form-adds : (f : Form) → Adds (λ u. markForm f u) (any names (selfType f))
   unfolding markForm
   form-adds f = each-adds index-adds (selfType f)
@@ -178,19 +177,19 @@ module _ {test : ℕ → Bool} {unfit repeated : Bool} {error names : ℕ → Bo
           by-error true h l = let k = says .few-errors i h in absurd (omega arith)
           by-error false h l = refl
 
-  pub judged-adds : (method throws : Bool) (a : Argument) →
-      Adds (λ u. judgeArgument method throws a u) (hasArgument unfit repeated error names method throws a)
-  unfolding judgeArgument
-  judged-adds method throws a =
-      then-adds
+  pub argument-adds : (method throws : Bool) (a : Argument) →
+      Adds (λ u. markArgument method throws a u) (hasArgument unfit repeated error names method throws a)
+  unfolding markArgument judgeArgument
+  argument-adds method throws a =
+      then-adds (ty-adds (a .type)) (then-adds
       (like-adds (ap (λ (b : Bool). unfitNow method throws a && b) (says .at-unfit)) (if-adds (unfitNow method throws a) 0))
-      (each-adds error-adds (errorItem throws a))
+      (each-adds error-adds (errorItem throws a)))
 
   pub arguments-adds : (method throws : Bool) (xs : List Argument) →
-      Adds (λ u. judgeArguments method throws xs u) (hasArguments unfit repeated error names method throws xs)
-  unfolding judgeArguments
+      Adds (λ u. markArguments method throws xs u) (hasArguments unfit repeated error names method throws xs)
+  unfolding markArguments
   arguments-adds method throws xs =
-      then-adds (each-adds (judged-adds method throws) xs)
+      then-adds (each-adds (argument-adds method throws) xs)
       (like-adds (ap (λ (b : Bool). twice same (map (λ a. a .name) xs) && b) (says .at-repeated))
       (if-adds (twice same (map (λ a. a .name) xs)) 1))
 
@@ -199,7 +198,7 @@ module _ {test : ℕ → Bool} {unfit repeated : Bool} {error names : ℕ → Bo
   pub function-adds : (f : Function) → Adds (λ u. markFunction f u) (hasFunction unfit repeated error names f)
   unfolding markFunction
   function-adds f =
-      then-adds (then-adds (then-adds (form-adds (f .form)) (ret-adds (f .return))) (each-adds argument-adds (f .arguments)))
+      then-adds (then-adds (form-adds (f .form)) (ret-adds (f .return)))
       (arguments-adds (isMethod (f .form)) (f .throws) (f .arguments))
 
   pub body-adds : (b : Body) → Adds (λ u. markBody b u) (hasBody unfit repeated error names b)

@@ -49,14 +49,10 @@ mutual
   tys-never nil = refl
   tys-never (cons t ts) = rw (ty-never t, tys-never ts)
 
-function-never : (f : Function) → anyIndex never (function f) ≡ false
+-- a function's self type and return type
+signature-never : (f : Function) → (any never (selfType (f .form)) || anyNamedRet never (f .return)) ≡ false
 unfolding never
-function-never f =
-    rw (
-      any-none never (selfType (f .form)) (λ i. refl),
-      ret-never (f .return),
-      any-none (λ (x : Argument). anyNamed never (x .type)) (f .arguments) (λ x. ty-never (x .type)),
-    )
+signature-never f = rw (any-none never (selfType (f .form)) (λ i. refl), ret-never (f .return))
 
 -- ---- no item stands past the end
 
@@ -176,14 +172,14 @@ module _ (items : List Item) (few : length items ≤ 255) where
   }
 
   wrong-arguments : (method throws : Bool) (xs : List Argument) →
-      hasArguments false false never functionAt method throws xs ≡ false
+      hasArguments false false never functionAt method throws xs ≡ any (λ x. anyNamed functionAt (x .type)) xs
   unfolding never
   wrong-arguments method throws xs =
-      rw (
-        any-none (hasArgument false false never functionAt method throws) xs
-            (λ a. rw (and-false (unfitNow method throws a) false refl, any-none never (errorItem throws a) (λ i. refl))),
-        and-false (twice same (map (λ a. a .name) xs)) false refl,
-      )
+      rw (and-false (twice same (map (λ a. a .name) xs)) false refl)
+      (or-false (any (hasArgument false false never functionAt method throws) xs) ∙
+      any-like (hasArgument false false never functionAt method throws) (λ (x : Argument). anyNamed functionAt (x .type)) xs
+      (λ a. rw (and-false (unfitNow method throws a) false refl, any-none never (errorItem throws a) (λ i. refl))
+      (or-false (anyNamed functionAt (a .type)))))
 
   wrong-body : (b : Body) → hasBody false false never functionAt b ≡ anyIndex functionAt b
   wrong-body (struct p ts) = refl
@@ -191,9 +187,8 @@ module _ (items : List Item) (few : length items ≤ 255) where
   wrong-body (cxxType p) = refl
   wrong-body (rustType p) = refl
   wrong-body (function f) =
-      ap (λ (b : Bool). anyIndex functionAt (function f) || b)
-      (wrong-arguments (isMethod (f .form)) (f .throws) (f .arguments)) ∙
-      or-false (anyIndex functionAt (function f))
+      ap (λ (b : Bool). any functionAt (selfType (f .form)) || anyNamedRet functionAt (f .return) || b)
+      (wrong-arguments (isMethod (f .form)) (f .throws) (f .arguments))
 
   pub wrong-marks : wrongPart items ≡
       someFrom (λ i. isFunction (itemAt items i .body) && marked (markItems items (replicate 514 0)) (258 + i)) 0 (length items)
@@ -227,14 +222,14 @@ repeated-body (struct p ts) = any-none (anyNamed never) ts ty-never
 repeated-body (enum p a c) = refl
 repeated-body (cxxType p) = refl
 repeated-body (rustType p) = refl
-repeated-body (function f) = rw (function-never f) (by-arguments (isMethod (f .form)) (f .throws))
+repeated-body (function f) = rw (signature-never f) (by-arguments (isMethod (f .form)) (f .throws))
   where
     by-arguments : (method throws : Bool) →
         hasArguments false true never never method throws (f .arguments) ≡ (twice same (argumentNames f) || false)
     by-arguments method throws =
         rw (
           any-none (hasArgument false true never never method throws) (f .arguments)
-              (λ a. rw (and-false (unfitNow method throws a) false refl, any-none never (errorItem throws a) (λ i. refl))),
+              (λ a. rw (ty-never (a .type), and-false (unfitNow method throws a) false refl, any-none never (errorItem throws a) (λ i. refl))),
           and-true (twice same (argumentNames f)),
           or-false (twice same (argumentNames f)),
         )
@@ -341,10 +336,10 @@ module _ (items : List Item) where
     unfit-body (cxxType p) = refl
     unfit-body (rustType p) = refl
     unfit-body (function f) =
-        rw (function-never f, and-false (twice same (argumentNames f)) false refl)
+        rw (signature-never f, and-false (twice same (argumentNames f)) false refl)
         (ap (λ (b : Bool). b || false)
         (sym (any-like (unfit items f) (hasArgument true false pointerAt never (isMethod (f .form)) (f .throws))
-        (f .arguments) (unfit-parts f))))
+        (f .arguments) (λ a. rw (ty-never (a .type)) (unfit-parts f a)))))
 
     pub unfit-marks : unfitArgument items ≡
         (marked (markItems items (replicate 514 0)) 0 ||

@@ -66,9 +66,6 @@ unfoldable mutual
 unfoldable pub markForm : Form → List ℕ → List ℕ
 markForm f u = each markIndex (selfType f) u
 
-unfoldable pub markArgument : Argument → List ℕ → List ℕ
-markArgument a u = markTy (a .type) u
-
 -- ---- arguments
 
 -- a type that is indirect whatever the items are, and not RustString
@@ -111,17 +108,21 @@ markError i u = markIf (ltb i 256) (errorAt i) u
 unfoldable pub judgeArgument : Bool → Bool → Argument → List ℕ → List ℕ
 judgeArgument method throws a u = each markError (errorItem throws a) (markIf (unfitNow method throws a) unfitAt u)
 
-unfoldable pub judgeArguments : Bool → Bool → List Argument → List ℕ → List ℕ
-judgeArguments method throws xs u =
-    markIf (twice same (map (λ a. a .name) xs)) repeatedAt (each (judgeArgument method throws) xs u)
+-- the item indexes of its type, and what it is
+unfoldable pub markArgument : Bool → Bool → Argument → List ℕ → List ℕ
+markArgument method throws a u = judgeArgument method throws a (markTy (a .type) u)
+
+-- one after the other, and then whether two have the same name
+unfoldable pub markArguments : Bool → Bool → List Argument → List ℕ → List ℕ
+markArguments method throws xs u =
+    markIf (twice same (map (λ a. a .name) xs)) repeatedAt (each (markArgument method throws) xs u)
 
 -- ---- items
 
--- the indexes in the order of the fields (self type, return type, arguments), then the arguments
+-- in the order of the fields: self type, return type, arguments
 unfoldable pub markFunction : Function → List ℕ → List ℕ
 markFunction f u =
-    judgeArguments (isMethod (f .form)) (f .throws) (f .arguments)
-    (each markArgument (f .arguments) (markRet (f .return) (markForm (f .form) u)))
+    markArguments (isMethod (f .form)) (f .throws) (f .arguments) (markRet (f .return) (markForm (f .form) u))
 
 unfoldable pub markBody : Body → List ℕ → List ℕ
 markBody (struct p ts) u = each markTy ts u

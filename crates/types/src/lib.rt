@@ -105,8 +105,8 @@ fn walk_index(s: &[u8], at: u32, items: u32, marks: &mut [u8]) -> u32
     end
 }
 
-// Past the type at a position.
-fn walk_type(s: &[u8], at: u32, items: u32, left: u32, marks: &mut [u8]) -> u32
+// Past the type at a position, with so many levels left.
+pub fn walk_type(s: &[u8], at: u32, items: u32, left: u32, marks: &mut [u8]) -> u32
     requires { ⌜ Limited (now s) × (at ≤ mostBits) ⌝ }
     ensures { λ r. ⌜ Gathers markTy (typeAt items left (now (s .entry)) at) (now (marks .entry)) (stepIn r)
         (now (marks .exit)) ⌝ }
