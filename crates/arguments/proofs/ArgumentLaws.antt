@@ -12,7 +12,6 @@ use borrow.Author.Tests.{lt-ltb, le-ltb}
 use Rattle.lexical.specs.Bytes.{bytes, same}
 use Rattle.lexical.proofs.ByteLaws.{same-eq}
 use Rattle.refusal.specs.declared.Refusal.{Refusal}
-use Rattle.refusal.specs.declared.Refusal.the-variants.{CutSheet, LooseIndex}
 use Rattle.format.specs.Bits.{bitsAt, widthOf, index}
 use Rattle.format.specs.Limits.{mostArguments, mostBits}
 use Rattle.format.specs.Decode.{Got, fault, got, many}
@@ -22,8 +21,8 @@ use Rattle.format.specs.declared.TypeKind.{TypeKind}
 use Rattle.format.specs.Decoding.{nameOf, type, argument}
 use Rattle.rules.specs.Rules.{twice, isCxxVector}
 use Rattle.rules.proofs.SearchLaws.{apart-keys, filled-turn}
-use Rattle.cursor.specs.declared.Step.the-variants.{At, Fault}
-use Rattle.cursor.specs.Checking.{refusalOf, stepIn}
+use Rattle.cursor.specs.declared.Step.the-variants.{Fault}
+use Rattle.cursor.specs.Checking.{stepIn}
 use Rattle.cursor.proofs.CodeLaws.{at-in, fault-in, cut-in, loose-in, bits-cut, bits-whole}
 use Rattle.cursor.proofs.YieldLaws.{yields, got-value}
 use Rattle.names.specs.Naming.{nameAt, namesAt}

@@ -1,6 +1,6 @@
 -- bridge/nested.rs: the items of a namespace's level. "Own entries first, then inner namespaces by first appearance".
 use mathlib.Core.List.{List, [], _∷_, _++_}
-use mathlib.Core.Bool.{Bool, true, false, not}
+use mathlib.Core.Bool.{Bool, true, false}
 use Prim.Native.Nat.{ℕ}
 use lib.ListN.{drop}
 use Rattle.lexical.specs.Bytes.{same, member}

@@ -6,7 +6,7 @@ use Rattle.lexical.specs.Bytes.{bytes}
 use Rattle.lexical.specs.Decimal.{pickText}
 use Rattle.format.specs.Decode.{pick}
 use Rattle.format.specs.Sheet.{Name}
-use Rattle.bridge.specs.Block.{Block, userDefinedNamespace, externC, writeBegin, writeEnd, sameBlock}
+use Rattle.bridge.specs.Block.{Block, userDefinedNamespace, writeBegin, writeEnd, sameBlock}
 
 pub data Boundary : Type 0 where
   begin : Block → Boundary

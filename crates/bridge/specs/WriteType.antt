@@ -1,6 +1,6 @@
 -- bridge/write.rs: how types are spelled.
-use mathlib.Core.List.{List, [], _∷_, _++_}
-use mathlib.Core.Bool.{Bool, true, false, not}
+use mathlib.Core.List.{List, [], _++_}
+use mathlib.Core.Bool.{Bool, true, false}
 use Prim.Native.Nat.{ℕ}
 use Rattle.lexical.specs.Bytes.{bytes}
 use Rattle.lexical.specs.Decimal.{pickText, decimal}

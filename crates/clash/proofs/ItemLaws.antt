@@ -1,6 +1,6 @@
 -- The names of a decoded sheet's items keep the name rule.
 use mathlib.Core.Path.{_≡_, refl, sym, ap, _∙_}
-use mathlib.Core.List.{List, [], _∷_, map}
+use mathlib.Core.List.{List, [], _∷_}
 use mathlib.Core.Bool.{Bool, true, false, false≢true}
 use Prim.Native.Nat.{ℕ, zero, suc, _<_}
 use native.Mathlib.Omega.{arith}
@@ -11,7 +11,7 @@ use Rattle.refusal.specs.declared.Refusal.the-variants.{BadName}
 use Rattle.lexical.specs.Bytes.{every}
 use Rattle.lexical.specs.Names.{isName}
 use Rattle.lexical.proofs.BoolLaws.{by-cases}
-use Rattle.format.specs.Decode.{Got, fault, got, pick, many}
+use Rattle.format.specs.Decode.{fault, got, pick, many}
 use Rattle.format.specs.Bits.{bits, index}
 use Rattle.format.specs.Sheet.{Name, Form, Function, Body, struct, enum, cxxType, rustType, function, Item}
 use Rattle.format.specs.Decoding.{name, nameOf, formOf, form, partOf, itemBody}

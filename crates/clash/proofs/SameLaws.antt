@@ -1,17 +1,14 @@
 -- Full names and symbols are equal where the names that they are made of are.
-use mathlib.Core.Path.{_≡_, refl, sym, ap, ap₂, _∙_}
+use mathlib.Core.Path.{_≡_, refl, sym, ap}
 use mathlib.Core.List.{List, [], _∷_, _++_}
 use mathlib.Core.Bool.{Bool, true, false, _&&_, false≢true}
-use Prim.Native.Nat.{ℕ}
-use Rattle.lexical.specs.Bytes.{every, same}
+use Rattle.lexical.specs.Bytes.{same}
 use Rattle.lexical.specs.Names.{isName}
 use Rattle.lexical.proofs.BoolLaws.{both, by-cases}
 use Rattle.lexical.proofs.ByteLaws.{same-eq, same-refl, every-snoc}
-use Rattle.format.specs.Decode.{pick}
 use Rattle.format.specs.Sheet.{Name, Item}
-use Rattle.syntax.specs.Items.{path, fullName, isFunction}
-use Rattle.syntax.specs.Symbol.{join}
-use Rattle.syntax.specs.Mangle.{version, externFn}
+use Rattle.syntax.specs.Items.{fullName, isFunction}
+use Rattle.syntax.specs.Mangle.{externFn}
 use Rattle.view.specs.Values.{functionIn}
 use Rattle.names.specs.Digests.{digest}
 use Rattle.clash.specs.Clashes.{sameNames, ownerNames, itemSymbol, clashes, ownName}

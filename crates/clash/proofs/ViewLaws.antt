@@ -3,15 +3,13 @@ use mathlib.Core.Path.{_≡_, refl, sym, ap, ap₂, _∙_}
 use mathlib.Core.List.{List, [], _∷_}
 use mathlib.Core.Bool.{Bool, true, false, _&&_}
 use Prim.Native.Nat.{ℕ, zero, suc, _+_, _<_, _≤_}
-use native.Mathlib.Omega.{arith}
 use lib.Dec.{eqb}
 use lib.ListN.{length, getD, drop}
 use borrow.Author.Tests.{eqb-true, eqb-false}
 use Rattle.lexical.specs.Bytes.{same}
 use Rattle.lexical.proofs.BoolLaws.{by-cases}
-use Rattle.format.specs.Decode.{pick}
 use Rattle.format.specs.Bits.{bits, widthOf}
-use Rattle.format.specs.Sheet.{Name, Function, Item}
+use Rattle.format.specs.Sheet.{Name, Item}
 use Rattle.format.specs.Decoding.{formOf}
 use Rattle.syntax.specs.Items.{itemAt, fullName, isFunction}
 use Rattle.cursor.specs.declared.Found.{Found}

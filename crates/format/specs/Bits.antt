@@ -1,11 +1,11 @@
 -- Fields of bits, most significant first, and the width of an index (document 01, "The sheet").
-use mathlib.Core.List.{List, [], _∷_}
-use mathlib.Core.Bool.{Bool, true, false}
+use mathlib.Core.List.{List}
+use mathlib.Core.Bool.{Bool}
 use Prim.Native.Nat.{ℕ, zero, suc, _+_, _-_, _*_, _/_, _%_, _^_}
 use lib.ListN.{length, getD}
 use lib.Dec.{leb, ltb, eqb}
 use Rattle.refusal.specs.declared.Refusal.the-variants.{CutSheet, LooseIndex}
-use Rattle.format.specs.Decode.{Got, fault, got, Dec, pick, after, _>>_, pure, unless}
+use Rattle.format.specs.Decode.{fault, got, Dec, pick, _>>_, pure, unless}
 
 -- the bit at a position: bit 0 is the highest of byte 0
 unfoldable pub bitAt : List ℕ → ℕ → ℕ

@@ -1,9 +1,9 @@
 -- From bytes to the value of a sheet, or to the first fault of 1 to 8 (document 01, "The sheet", rules 1 to 4).
 use mathlib.Core.List.{List, [], _∷_}
 use mathlib.Core.Bool.{Bool, true, false, not, _&&_}
-use Prim.Native.Nat.{ℕ, zero, suc, _+_, _-_, _*_, _%_}
+use Prim.Native.Nat.{ℕ, zero, suc, _-_, _*_, _%_}
 use lib.ListN.{length, getD}
-use lib.Dec.{leb, ltb, eqb}
+use lib.Dec.{leb, eqb}
 use Rattle.refusal.specs.declared.Refusal.{Refusal}
 use Rattle.refusal.specs.declared.Refusal.the-variants.{CutSheet, Edition, BadName, BadKind, TooDeep, BadComment, Tail}
 use Rattle.lexical.specs.Bytes.{within, every}
@@ -21,7 +21,7 @@ use Rattle.format.specs.Limits.{mostBytes, mostLevels}
 use Rattle.format.specs.Decode.{Got, fault, got, Dec, pick, after, _>>_, pure, refuse, unless, many}
 use Rattle.format.specs.Bits.{bits, bit, index}
 use Rattle.format.specs.Types.{Ty, atom, named, template, pointer, str, fn, array, Ret, none, gives, tys}
-use Rattle.format.specs.Sheet.{Name, Form, free, constMethod, mutMethod, associated, Argument, Function, Body}
+use Rattle.format.specs.Sheet.{Name, Form, free, constMethod, mutMethod, associated, Argument, Body}
 use Rattle.format.specs.Sheet.{struct, enum, cxxType, rustType, function, Item, Sheet}
 
 -- ---- names

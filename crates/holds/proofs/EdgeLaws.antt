@@ -2,7 +2,7 @@
 use mathlib.Core.Path.{_≡_, refl, sym, ap, _∙_}
 use mathlib.Core.List.{List, [], _∷_, _++_, append-assoc, append-nil}
 use mathlib.Core.Bool.{Bool, true, false}
-use Prim.Native.Nat.{ℕ, zero, suc, _+_, _-_, _*_, _<_, _≤_}
+use Prim.Native.Nat.{ℕ, _+_, _-_, _*_, _<_, _≤_}
 use native.Mathlib.Omega.{arith}
 use native.Mathlib.Numerals.{add-one}
 use lib.ListN.{length, getD, set, take, drop, length-set, length-map, List·getD-eq-default, drop-of-length-le}
@@ -13,8 +13,8 @@ use Rattle.format.specs.Limits.{mostItems, mostFields}
 use Rattle.format.specs.Decode.{pick}
 use Rattle.format.specs.Sheet.{Body, struct, enum, cxxType, rustType, function, Item}
 use Rattle.syntax.specs.Items.{itemAt, isStruct}
-use Rattle.toposort.specs.Graph.{_∈_, Within}
-use Rattle.toposort.specs.Adjacency.{itemNumbers, mostHeld, graphOf, Adjacency}
+use Rattle.toposort.specs.Graph.{_∈_}
+use Rattle.toposort.specs.Adjacency.{itemNumbers, mostHeld, graphOf}
 use Rattle.rules.specs.Rules.{gather, heldBy, fieldsOf, heldStructs, structsFrom, structs}
 use Rattle.rules.proofs.RingRule.{sheet-structs}
 use Rattle.view.specs.Values.{oneItemAt, itemsAt}

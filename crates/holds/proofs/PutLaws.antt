@@ -5,7 +5,7 @@ use mathlib.Core.Bool.{Bool, true, false}
 use Prim.Native.Nat.{ℕ, zero, suc, _+_, _-_, _<_, _≤_}
 use native.Mathlib.Omega.{arith}
 use native.Mathlib.Numerals.{add-one}
-use lib.ListN.{length, take, drop, set, length-append, length-set, length-take}
+use lib.ListN.{length, take, drop, set, length-append, length-set}
 use lib.Seq.{take-suc-set, take-take, take-nil, take-append-seam, length-take-le, take-length, drop-at}
 use Rattle.holds.specs.Edges.{counted, Puts}
 

@@ -2,7 +2,7 @@
 use mathlib.Core.Path.{_≡_, refl, sym}
 use mathlib.Core.List.{List, [], _∷_, _++_, map, append-nil}
 use Prim.Native.Nat.{ℕ, zero, suc, _+_, _<_, _≤_}
-use lib.ListN.{length, getD, take}
+use lib.ListN.{getD, take}
 use Rattle.lexical.specs.Bytes.{bytes}
 use Rattle.format.specs.Sheet.{Name, Function, Item}
 use Rattle.format.specs.Decoding.{formOf}

@@ -11,7 +11,7 @@ use lib.ListN.{set}
 use Rattle.lexical.specs.Bytes.{bytes, same}
 use Rattle.format.specs.Decode.{pick}
 use Rattle.format.specs.Types.{Ty, atom, named, template, pointer, str, fn, array, Ret, none, gives, Tys, nil, cons}
-use Rattle.format.specs.Sheet.{Form, free, constMethod, mutMethod, associated, Argument, Function, Body, struct, enum}
+use Rattle.format.specs.Sheet.{Form, Argument, Function, Body, struct, enum}
 use Rattle.format.specs.Sheet.{cxxType, rustType, function, Item}
 use Rattle.syntax.specs.Items.{selfType}
 use Rattle.syntax.specs.Types.{atomNumber, isIndirectTemplate}

@@ -1,13 +1,13 @@
 -- Laws of digests.
-use mathlib.Core.Path.{_≡_, refl, sym, ap, _∙_}
-use mathlib.Core.List.{List, [], _∷_, map}
+use mathlib.Core.Path.{_≡_, sym, ap, _∙_}
+use mathlib.Core.List.{List, [], map}
 use Prim.Native.Nat.{ℕ, zero, suc, _+_, _<_, _≤_}
 use native.Mathlib.Omega.{arith}
 use native.Mathlib.Numerals.{add-one}
 use lib.ListN.{length, getD, take, drop, drop-of-length-le}
 use lib.Seq.{drop-cons}
 use Rattle.refusal.specs.declared.Refusal.{Refusal}
-use Rattle.format.specs.Decode.{Got, fault, got, Dec, after, many}
+use Rattle.format.specs.Decode.{Got, fault, got, Dec, many}
 use Rattle.format.specs.Sheet.{Name}
 use Rattle.cursor.specs.declared.Cursor.{Cursor}
 use Rattle.cursor.specs.declared.Step.{Step}
@@ -17,7 +17,7 @@ use Rattle.cursor.proofs.TableLaws.{filled-at}
 use Rattle.cursor.proofs.YieldLaws.{in-turn, got-value, got-next}
 use Rattle.names.specs.declared.Digested.{Digested}
 use Rattle.names.specs.declared.Digested.the-variants.{At, Fault}
-use Rattle.names.specs.Digests.{mix, digestFrom, digest, digestOf, digestedOf, Digests}
+use Rattle.names.specs.Digests.{mix, digestFrom, digest, digestOf, Digests}
 
 module _ (w : List ℕ) (i h : ℕ) where
   pub digest-turn : {x y : ℕ} → i < length w → x ≡ getD w i 0 → y ≡ mix h x →

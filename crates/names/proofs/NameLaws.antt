@@ -1,15 +1,15 @@
 -- Laws of names by their indexes.
-use mathlib.Core.Path.{_≡_, refl, sym, ap, _∙_}
+use mathlib.Core.Path.{_≡_, sym, ap, _∙_}
 use mathlib.Core.List.{List, [], _∷_, map, map-map}
-use mathlib.Core.Bool.{Bool, true, false}
-use Prim.Native.Nat.{ℕ, zero, suc, _+_, _*_, _<_, _≤_}
+use mathlib.Core.Bool.{false}
+use Prim.Native.Nat.{ℕ, zero, suc, _+_, _*_, _<_}
 use native.Mathlib.Omega.{arith}
 use native.Mathlib.Nat.{mul-comm}
 use lib.ListN.{length, getD, take, length-map, List·getD-map}
 use Rattle.lexical.specs.Bytes.{same}
 use Rattle.lexical.proofs.ByteLaws.{same-eq}
-use Rattle.lexical.proofs.BoolLaws.{fails-too, by-cases}
-use Rattle.format.specs.Decode.{Got, fault, got, Dec, pick, after, many}
+use Rattle.lexical.proofs.BoolLaws.{by-cases}
+use Rattle.format.specs.Decode.{got, many}
 use Rattle.format.specs.Bits.{bits, widthOf, index}
 use Rattle.format.specs.Sheet.{Name}
 use Rattle.format.specs.Decoding.{name, nameOf}

@@ -1,7 +1,7 @@
 -- The sort of the table that was filled from a sheet is the order of the sheet's structs.
-use mathlib.Core.Path.{_≡_, refl, sym, ap, _∙_, fun-ext}
+use mathlib.Core.Path.{_≡_, refl, sym, ap, fun-ext}
 use mathlib.Core.List.{List, []}
-use mathlib.Core.Bool.{Bool, true, false}
+use mathlib.Core.Bool.{true}
 use Prim.Native.Nat.{ℕ, _≤_}
 use native.Mathlib.Omega.{arith}
 use lib.ListN.{length, take}
@@ -11,13 +11,13 @@ use Rattle.toposort.specs.declared.Traversal.{Traversal}
 use Rattle.toposort.specs.declared.Traversal.the-variants.{Done, Cycle}
 use Rattle.toposort.specs.Graph.{Graph}
 use Rattle.toposort.specs.Sort.{Walk, cycle, done, visitAll, sort, isRing, sortedOf, ringed, order}
-use Rattle.toposort.specs.Adjacency.{graphOf, Sorted, endOf}
+use Rattle.toposort.specs.Adjacency.{graphOf, Sorted}
 use Rattle.toposort.proofs.TableLaws.{told-ring, told-order}
 use Rattle.rules.specs.Rules as rules
 use Rattle.rules.specs.Rules.{heldStructs, structs}
 use Rattle.rules.proofs.RingRule.{sheet-structs}
 use Rattle.holds.specs.Edges.{Edges, StructNumbers}
-use Rattle.order.specs.Ordered.{endsAtRing, Ordered}
+use Rattle.order.specs.Ordered.{Ordered}
 
 -- where the sort meets a ring there is no list
 ringed-none : (g : Graph) (n : ℕ) (js : List ℕ) → ringed g n js ≡ true → [] ≡ order g n js

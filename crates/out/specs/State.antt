@@ -3,7 +3,7 @@ use mathlib.Core.Path.{_≡_}
 use mathlib.Core.List.{List, [], _∷_, _++_}
 use mathlib.Core.Bool.{Bool}
 use Prim.Native.Nat.{ℕ, zero, suc, _+_, _<_, _≤_}
-use lib.ListN.{length, getD, set}
+use lib.ListN.{length, getD}
 use Rattle.format.specs.Limits.{mostBits, mostNamespaces}
 use Rattle.format.specs.Decode.{many}
 use Rattle.format.specs.Sheet.{Name}

@@ -1,5 +1,5 @@
 -- Laws of characters in a row, for the loops that write them.
-use mathlib.Core.Path.{_≡_, refl, sym, ap, _∙_}
+use mathlib.Core.Path.{_≡_, _∙_}
 use mathlib.Core.List.{List, [], _∷_, _++_, append-assoc}
 use mathlib.Core.Bool.{Bool, true, false}
 use Prim.Native.Nat.{ℕ, zero, suc, _+_, _-_, _*_, _/_, _%_, _^_, _<_, _≤_}
@@ -11,17 +11,17 @@ use Rattle.lexical.specs.Names.{isName}
 use Rattle.refusal.specs.declared.Refusal.the-variants.{CutSheet, BadName}
 use Rattle.sink.specs.Sink.{Sink, Wrote}
 use Rattle.sink.proofs.SinkLaws.{_▷_, wrote-nil, wrote-as}
-use Rattle.format.specs.Decode.{Got, fault, got, pick, after, many}
+use Rattle.format.specs.Decode.{Got, fault, got, pick, many}
 use Rattle.format.specs.Bits.{bitsAt, bits}
 use Rattle.format.specs.Decoding.{name}
 use Rattle.cursor.proofs.BitLaws.{bits-split}
 use Rattle.cursor.proofs.FieldLaws.{field-lt, field-next}
 use Rattle.cursor.specs.declared.Found.{Found}
-use Rattle.view.specs.Values.{valueOr, nextOf, Yields, nameAt}
+use Rattle.view.specs.Values.{nextOf, Yields, nameAt}
 use Rattle.view.specs.Views.{Finds}
 use Rattle.cursor.proofs.YieldLaws.{in-turn, passed, got-value, yields, field-end}
 use Rattle.put_name.specs.Chars.{charsAt, fourOf}
-use Rattle.put_name.proofs.RowLaws.{Row, row, row-end}
+use Rattle.put_name.proofs.RowLaws.{row}
 
 -- ---- a field that is there
 

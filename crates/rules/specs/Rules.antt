@@ -1,7 +1,7 @@
 -- Rules 9 to 12 of document 01's table, on the items of a decoded sheet.
 use mathlib.Core.List.{List, [], _∷_, _++_, map}
 use mathlib.Core.Bool.{Bool, true, false, not, _&&_, _||_}
-use Prim.Native.Nat.{ℕ, zero, suc, _+_}
+use Prim.Native.Nat.{ℕ, _+_}
 use lib.ListN.{length}
 use Rattle.lexical.specs.Bytes.{bytes, same}
 use Rattle.format.specs.Decode.{pick}

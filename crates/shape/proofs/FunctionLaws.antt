@@ -1,14 +1,13 @@
 -- Laws of a function's view: what it returns, its receiver, its arguments.
 use mathlib.Core.Path.{_≡_, refl, sym, ap, _∙_}
 use mathlib.Core.List.{List, [], _∷_}
-use mathlib.Core.Bool.{Bool, true, false, _||_, false≢true}
+use mathlib.Core.Bool.{Bool, true, false, false≢true}
 use Prim.Native.Nat.{ℕ, zero, suc}
 use native.Mathlib.Omega.{arith}
-use lib.Dec.{eqb, ltb}
+use lib.Dec.{eqb}
 use lib.ListN.{length}
 use borrow.Author.Tests.{ne-eqb}
 use Rattle.lexical.proofs.BoolLaws.{by-cases}
-use Rattle.format.specs.Decode.{got, pick}
 use Rattle.format.specs.Types.{Ret, none, gives}
 use Rattle.format.specs.Sheet.{Function}
 use Rattle.format.specs.Decoding.{type, formOf}

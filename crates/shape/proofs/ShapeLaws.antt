@@ -8,7 +8,7 @@ use lib.Dec.{eqb}
 use lib.ListN.{length}
 use Rattle.format.specs.Decode.{got, many}
 use Rattle.format.specs.Bits.{bits, bit, index}
-use Rattle.format.specs.Types.{Ty, template, pointer}
+use Rattle.format.specs.Types.{Ty, template}
 use Rattle.format.specs.Decoding.{kindOf, optional, typeBody, typeAt, type}
 use Rattle.format.specs.declared.Template.{Template}
 use Rattle.format.specs.declared.Template.the-variants as Template

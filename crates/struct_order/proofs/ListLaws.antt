@@ -1,10 +1,10 @@
 -- Laws of the list that is written, from the order that was found.
-use mathlib.Core.Path.{_≡_, refl, sym, ap, _∙_}
-use mathlib.Core.List.{List, [], _++_}
-use mathlib.Core.Bool.{true, false}
+use mathlib.Core.Path.{_≡_, sym, ap, _∙_}
+use mathlib.Core.List.{List}
+use mathlib.Core.Bool.{false}
 use Prim.Native.Nat.{ℕ, _≤_, _<_, _^_}
 use native.Mathlib.Omega.{arith}
-use lib.ListN.{length, take, drop}
+use lib.ListN.{length, take}
 use lib.Seq.{length-take-le}
 use borrow.Author.Tests.{le-leb, lt-leb}
 use Rattle.refusal.specs.declared.Refusal.the-variants as Refusal
@@ -13,7 +13,7 @@ use Rattle.toposort.specs.declared.Traversal.{Traversal}
 use Rattle.toposort.specs.declared.Traversal.the-variants.{Done, Cycle}
 use Rattle.rules.specs.Rules.{ring}
 use Rattle.services.specs.declared.Written.the-variants.{Length, Refused}
-use Rattle.sink.specs.Sink.{Sink, sink, Wrote}
+use Rattle.sink.specs.Sink.{sink, Wrote}
 use Rattle.sink.proofs.ServiceLaws.{written}
 use Rattle.order.specs.Ordered.{Ordered}
 use Rattle.order.proofs.OrderLaws.{answered}

@@ -11,8 +11,8 @@ use borrow.Author.Tests.{leb-true}
 use Rattle.refusal.specs.declared.Refusal.{Refusal}
 use Rattle.refusal.specs.declared.Refusal.the-variants.{WrongPart, Taken, UnfitArgument, Ring, Overrun}
 use Rattle.format.specs.Limits.{mostNames, mostItems}
-use Rattle.format.specs.Decode.{fault, got, pick}
-use Rattle.format.specs.Sheet.{Item, Sheet}
+use Rattle.format.specs.Decode.{fault, pick}
+use Rattle.format.specs.Sheet.{Sheet}
 use Rattle.format.specs.Decoding.{decode}
 use Rattle.format.specs.declared.Outline.{Outline}
 use Rattle.decode.specs.Tables.{Tables}
@@ -28,7 +28,7 @@ use Rattle.check_sheet.proofs.CheckLaws.{ready-tables, marked-tables}
 use Rattle.services.specs.declared.Written.{Written}
 use Rattle.services.specs.declared.Written.the-variants as Written
 use Rattle.services.specs.Services.{structOrder, fitted, answerOf, bufferOf, Serves, Orders}
-use Rattle.struct_order.specs.Lists.{orderOf, Lists, Decodes}
+use Rattle.struct_order.specs.Lists.{Lists, Decodes}
 
 -- ---- a sheet that was decoded, with its tables cut to their lengths
 

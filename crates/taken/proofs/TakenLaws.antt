@@ -1,5 +1,5 @@
 -- Rule 10 from its parts.
-use mathlib.Core.Path.{_≡_, refl, sym, ap, _∙_}
+use mathlib.Core.Path.{_≡_}
 use mathlib.Core.List.{List}
 use mathlib.Core.Bool.{Bool, true, false, _||_}
 use Rattle.lexical.specs.Bytes.{same}

@@ -1,13 +1,12 @@
 -- Laws by which a walk marks the items that a type names.
 use mathlib.Core.Path.{_≡_, refl, sym, ap, _∙_}
 use mathlib.Core.List.{List, [], _∷_}
-use mathlib.Core.Bool.{Bool, true, false}
+use mathlib.Core.Bool.{Bool}
 use Prim.Native.Nat.{ℕ, suc, _+_, _-_, _*_, _<_, _≤_}
 use native.Mathlib.Omega.{arith}
 use lib.ListN.{length}
 use borrow.Author.Tests.{lt-ltb, le-ltb, eq-eqb, ne-eqb}
-use Rattle.refusal.specs.declared.Refusal.{Refusal}
-use Rattle.refusal.specs.declared.Refusal.the-variants.{CutSheet, LooseIndex}
+use Rattle.refusal.specs.declared.Refusal.the-variants.{CutSheet}
 use Rattle.format.specs.Decode.{fault, got, many}
 use Rattle.format.specs.Bits.{bitsAt, bits, bit, widthOf, index}
 use Rattle.format.specs.Types.{Ty, named, template, pointer, fn, array, Ret, gives, tys}
@@ -16,7 +15,7 @@ use Rattle.format.specs.declared.TypeKind.{TypeKind}
 use Rattle.format.specs.declared.TypeKind.the-variants as Kind
 use Rattle.cursor.specs.declared.Cursor.{Cursor}
 use Rattle.cursor.specs.declared.Step.{Step}
-use Rattle.cursor.specs.declared.Step.the-variants.{At, Fault}
+use Rattle.cursor.specs.declared.Step.the-variants.{At}
 use Rattle.format.specs.Limits.{mostBits}
 use Rattle.cursor.specs.Checking.{Limited, Checks, stepIn}
 use Rattle.cursor.proofs.CheckLaws.{stepped}

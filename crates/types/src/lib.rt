@@ -22,7 +22,7 @@ ghost use Rattle.format.specs.Bits.{index};
 ghost use Rattle.format.specs.Decoding.{kindOf, tooDeep, typeBody, typeAt, type, optional};
 ghost use Rattle.format.specs.declared.TypeKind.the-variants.{Fn};
 ghost use Rattle.cursor.specs.declared.Step.the-variants.{Fault};
-ghost use Rattle.cursor.specs.Checking.{Limited, Checks, stepIn};
+ghost use Rattle.cursor.specs.Checking.{Limited, stepIn};
 ghost use Rattle.marks.specs.Gathering.{each, Gathers};
 ghost use Rattle.marks.specs.Marking.{markIndex, markTy, markRet};
 

@@ -6,20 +6,19 @@ use native.Mathlib.Omega.{arith}
 use native.Mathlib.Numerals.{add-one}
 use lib.ListN.{length, getD, drop, set}
 use lib.Seq.{drop-cons}
-use Rattle.format.specs.Decode.{Got, got, Dec, many}
+use Rattle.format.specs.Decode.{got, Dec, many}
 use Rattle.format.specs.Bits.{bits, widthOf}
 use Rattle.format.specs.Types.{str}
-use Rattle.format.specs.Sheet.{Name, Argument, Function}
+use Rattle.format.specs.Sheet.{Argument}
 use Rattle.format.specs.Decoding.{nameOf, type, argument}
 use Rattle.cursor.specs.declared.Cursor.{Cursor}
-use Rattle.cursor.specs.declared.Step.the-variants.{At}
-use Rattle.cursor.specs.Checking.{positionOf, Fills, Table}
+use Rattle.cursor.specs.Checking.{positionOf, Table}
 use Rattle.cursor.proofs.CheckLaws.{many-length}
-use Rattle.cursor.proofs.TableLaws.{Filling, fill-none, fill-turn, fill-done, placed-got, Located, located}
+use Rattle.cursor.proofs.TableLaws.{Filling, fill-none, fill-turn, fill-done, placed-got, located}
 use Rattle.cursor.specs.declared.Found.{Found}
 use Rattle.view.specs.declared.FunctionView.{FunctionView}
-use Rattle.view.specs.Values.{nextOf, Yields, namesAt, functionAt, argumentAt}
-use Rattle.view.specs.Views.{Finds, FunctionOf, FunctionAt, ArgumentsAt, ArgumentOf}
+use Rattle.view.specs.Values.{nextOf, namesAt, functionAt, argumentAt}
+use Rattle.view.specs.Views.{Finds, FunctionAt, ArgumentsAt, ArgumentOf}
 use Rattle.cursor.proofs.YieldLaws.{yields, in-turn, got-value, got-next}
 use Rattle.names.proofs.NameLaws.{Read, name-read}
 

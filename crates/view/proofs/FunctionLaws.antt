@@ -1,27 +1,24 @@
 -- Laws of functions by number.
 use mathlib.Core.Path.{_≡_, refl, sym, ap, _∙_}
-use mathlib.Core.List.{List, []}
-use mathlib.Core.Bool.{Bool}
-use Prim.Native.Nat.{ℕ, _<_, _≤_}
+use mathlib.Core.List.{List}
+use Prim.Native.Nat.{ℕ}
 use native.Mathlib.Omega.{arith}
 use lib.ListN.{length}
 use lib.Dec.{eqb}
 use borrow.Author.Tests.{eq-eqb, ne-eqb}
-use Rattle.format.specs.Decode.{Got, got, many}
+use Rattle.format.specs.Decode.{got, many}
 use Rattle.format.specs.Bits.{bits, bit, widthOf, index}
-use Rattle.format.specs.Types.{Ret}
-use Rattle.format.specs.Sheet.{Name, Form, Function, Body, function}
-use Rattle.format.specs.Decoding.{form, formOf, type, optional, argument, line, itemBody, functionBody}
+use Rattle.format.specs.Sheet.{Function, function}
+use Rattle.format.specs.Decoding.{form, formOf, type, optional, argument, itemBody, functionBody}
 use Rattle.format.specs.declared.ItemKind.{ItemKind}
 use Rattle.format.specs.declared.ItemKind.the-variants.{RustFunction}
 use Rattle.syntax.specs.Items.{itemAt}
-use Rattle.cursor.specs.declared.Cursor.{Cursor}
 use Rattle.cursor.proofs.WidthLaws.{index-field, index-lt}
 use Rattle.cursor.specs.declared.Found.{Found}
 use Rattle.view.specs.declared.FormView.{FormView}
 use Rattle.view.specs.declared.ItemView.{ItemView}
-use Rattle.view.specs.Values.{nextOf, Yields, namesAt, itemsAt, functionIn, functionAt, Whole}
-use Rattle.view.specs.Views.{Finds, ItemAt, FormOf, Formed, returnOf, commentLines, FunctionOf, FunctionAt}
+use Rattle.view.specs.Values.{nextOf, namesAt, itemsAt, functionAt}
+use Rattle.view.specs.Views.{Finds, ItemAt, FormOf, Formed, returnOf, commentLines, FunctionOf}
 use Rattle.cursor.proofs.YieldLaws.{yields, in-turn, got-value, got-next, found-value, found-next}
 use Rattle.cursor.proofs.YieldLaws.{bit-value, bit-next}
 use Rattle.view.proofs.PartLaws.{FunctionParts, function-parts}

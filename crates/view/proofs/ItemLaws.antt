@@ -1,12 +1,12 @@
 -- Laws of items by number.
-use mathlib.Core.Path.{_≡_, refl, sym, ap, _∙_}
+use mathlib.Core.Path.{_≡_, sym, ap, _∙_}
 use mathlib.Core.List.{List, []}
 use Prim.Native.Nat.{ℕ, _+_, _*_, _<_, _≤_}
 use native.Mathlib.Omega.{arith}
 use native.Mathlib.Nat.{mul-le-mul-left, mul-comm}
 use lib.ListN.{length, getD}
 use Rattle.format.specs.Limits.{mostNamespaces}
-use Rattle.format.specs.Decode.{Got, got, many}
+use Rattle.format.specs.Decode.{got, many}
 use Rattle.format.specs.Bits.{bits, widthOf}
 use Rattle.format.specs.Sheet.{Name, Item}
 use Rattle.format.specs.Decoding.{nameOf, partOf, itemBody}
@@ -18,7 +18,7 @@ use Rattle.view.specs.Values.{Yields, nameAt, namesAt, itemsAt, Whole}
 use Rattle.view.specs.Views.{Finds, kindOfBody, ViewOf, ItemAt}
 use Rattle.cursor.proofs.YieldLaws.{yields, found-value, found-next}
 use Rattle.view.proofs.PartLaws.{ItemParts, item-parts, body-kind}
-use Rattle.names.proofs.NameLaws.{Read, name-read, spaces-next, spaces-each}
+use Rattle.names.proofs.NameLaws.{name-read, spaces-next, spaces-each}
 
 -- the bits of an item's namespaces
 pub span : (d w : ℕ) → d ≤ mostNamespaces → w ≤ 32 → d * w ≤ 224

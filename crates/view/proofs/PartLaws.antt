@@ -1,16 +1,14 @@
 -- Laws of items and functions: where the whole is decoded, so are its parts.
-use mathlib.Core.Path.{_≡_, refl, sym, ap, _∙_}
-use mathlib.Core.List.{List, [], _∷_}
-use mathlib.Core.Bool.{Bool, true, false, not}
-use Prim.Native.Nat.{ℕ, zero, suc, _+_, _*_, _<_, _≤_}
+use mathlib.Core.Path.{_≡_, sym, ap}
+use mathlib.Core.List.{List}
+use mathlib.Core.Bool.{not}
+use Prim.Native.Nat.{ℕ}
 use native.Mathlib.Omega.{arith}
-use lib.ListN.{length}
 use Rattle.refusal.specs.declared.Refusal.the-variants.{BadKind}
 use Rattle.lexical.specs.Bytes.{within}
-use Rattle.format.specs.Decode.{Got, fault, got, Dec, pick, after, many}
+use Rattle.format.specs.Decode.{got, many}
 use Rattle.format.specs.Bits.{bits, bit}
-use Rattle.format.specs.Types.{Ret}
-use Rattle.format.specs.Sheet.{Name, Form, Argument, Function, Body, struct, enum, cxxType, rustType, function, Item}
+use Rattle.format.specs.Sheet.{Name, Function, Body, function, Item}
 use Rattle.format.specs.Decoding.{nameOf, type, optional, argument, form, line, functionBody, structBody, enumBody}
 use Rattle.format.specs.Decoding.{partOf, isBad, itemBody, namespace, item}
 use Rattle.format.specs.declared.ItemKind.{ItemKind}

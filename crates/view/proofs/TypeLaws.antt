@@ -8,7 +8,7 @@ use lib.ListN.{length, getD}
 use lib.Dec.{leb, eqb}
 use borrow.Author.Tests.{eqb-true}
 use Rattle.lexical.proofs.BoolLaws.{both}
-use Rattle.format.specs.Decode.{Got, got, Dec, many}
+use Rattle.format.specs.Decode.{got, Dec, many}
 use Rattle.format.specs.Bits.{bits, bit, widthOf, index}
 use Rattle.format.specs.Types.{Ty, atom, named, template, pointer, str, fn, array}
 use Rattle.format.specs.Sheet.{Name, Body, struct, enum, cxxType, rustType, function, Item}

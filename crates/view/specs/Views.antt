@@ -1,14 +1,14 @@
 -- What the readers promise of their views.
 use mathlib.Core.Path.{_≡_}
-use mathlib.Core.List.{List, []}
+use mathlib.Core.List.{List}
 use mathlib.Core.Bool.{Bool, true, false}
-use Prim.Native.Nat.{ℕ, _^_, _<_, _≤_}
+use Prim.Native.Nat.{ℕ, _<_, _≤_}
 use lib.ListN.{length, getD}
 use Rattle.format.specs.Limits.{mostBits, mostNamespaces, mostArguments}
-use Rattle.format.specs.Decode.{Got, fault, got, Dec, pick, _>>_, pure, many}
+use Rattle.format.specs.Decode.{Got, got, Dec, pick, _>>_, pure, many}
 use Rattle.format.specs.Bits.{bits}
 use Rattle.format.specs.Types.{Ty, atom, named, template, pointer, str, fn, array, Ret, none, gives}
-use Rattle.format.specs.Sheet.{Name, Form, Argument, Function, Body, struct, enum, cxxType, rustType, function, Item}
+use Rattle.format.specs.Sheet.{Form, Argument, Function, Body, struct, enum, cxxType, rustType, function, Item}
 use Rattle.format.specs.Decoding.{nameOf, type, line, argument, formOf, itemBody}
 use Rattle.format.specs.declared.TypeKind.{TypeKind}
 use Rattle.format.specs.declared.TypeKind.the-variants as Kind
@@ -22,7 +22,7 @@ use Rattle.view.specs.declared.ItemView.{ItemView}
 use Rattle.view.specs.declared.FormView.{FormView}
 use Rattle.view.specs.declared.FunctionView.{FunctionView}
 use Rattle.view.specs.declared.ArgumentView.{ArgumentView}
-use Rattle.view.specs.Values.{nextOf, Yields, nameAt, namesAt, itemsAt, functionAt, argumentAt}
+use Rattle.view.specs.Values.{nextOf, Yields, nameAt, namesAt, itemsAt, functionAt}
 
 -- what a body's kind is
 abbrev pub kindOfBody : Body → ItemKind

@@ -12,7 +12,7 @@ use Rattle.sink.specs.Sink.{Sink, sink, Wrote}
 use Rattle.sink.proofs.SinkLaws.{_▷_, wrote-as}
 use Rattle.format.specs.Decode.{Got, got, Dec, after, many}
 use Rattle.format.specs.Bits.{bits, bit, widthOf, index}
-use Rattle.format.specs.Types.{Ty, atom, named, template, pointer, str, fn, array, none, gives, tys}
+use Rattle.format.specs.Types.{Ty, atom, named, pointer, str, fn, none, gives, tys}
 use Rattle.format.specs.Sheet.{Item}
 use Rattle.format.specs.declared.Template.{Template}
 use Rattle.format.specs.declared.Pointer.{Pointer}
