@@ -1,117 +1,138 @@
--- Laws of the characters of a line: which are bad, in blocks of eight, and the last one.
-use mathlib.Core.Path.{_≡_, refl, sym, ap, _∙_}
+-- Laws of the characters of a line: eight at once, eight by eight, and the last one.
+use mathlib.Core.Path.{_≡_, refl, sym}
 use mathlib.Core.List.{List, [], _∷_, _++_}
-use mathlib.Core.Bool.{Bool, true, false, _&&_}
-use Prim.Native.Nat.{ℕ, _+_, _-_, _*_, _/_, _%_, _^_, _<_, _≤_}
+use mathlib.Core.Bool.{Bool, true, false, _&&_, and-true, and-false, and-assoc}
+use Prim.Native.Nat.{ℕ, zero, suc, _+_, _-_, _*_, _/_, _^_, _<_, _≤_}
 use native.Mathlib.Omega.{arith}
-use lib.Dec.{leb, eqb}
+use native.Mathlib.Numerals.{add-one}
+use lib.Dec.{eqb}
 use lib.ListN.{length, getD}
+use lib.Bits.{bitAnd, bitOr, bitXor, and-block, or-block, xor-block, and-lt, or-lt, xor-lt, and-le-r}
 use lib.Seq.{getD-at}
-use borrow.Author.Tests.{leb-true, leb-false, eqb-true, eqb-false, eq-eqb, ne-eqb}
+use borrow.Author.Tests.{eqb-true, eqb-false, eq-eqb, ne-eqb}
 use Rattle.lexical.specs.Bytes.{within, every}
+use Rattle.lexical.proofs.BoolLaws.{both, by-cases}
 use Rattle.refusal.specs.declared.Refusal.the-variants.{CutSheet, BadComment}
 use Rattle.format.specs.Decode.{got, pick}
 use Rattle.format.specs.Bits.{bitsAt, bits}
 use Rattle.format.specs.Decoding.{lineOk, line}
 use Rattle.cursor.specs.declared.Step.the-variants.{At, Fault}
 use Rattle.cursor.specs.Checking.{Checks}
+use Rattle.cursor.proofs.BitLaws.{bits-split, bits-lt}
 use Rattle.text.specs.Text.{charsAt}
-use Rattle.text.proofs.CharLaws.{field-end, char-in, chars-split, chars-more, chars-length}
-use Rattle.text.proofs.CharLaws.{chars-whole, chars-cut}
-use Rattle.comments.specs.Comments.{badOf, bads}
+use Rattle.text.proofs.CharLaws.{field-end, chars-split, chars-more, chars-length, chars-whole, chars-cut}
 
--- ---- one character
+-- the n characters at a position are those of a line
+abbrev pub lineChars : List ℕ → ℕ → ℕ → Bool
+lineChars s at n = every (within 32 126) (charsAt s at n)
 
-module _ (c : ℕ) (l : c < 128) where
-  pub bad-one : (c + 1) % 128 < 33 → 1 ≡ badOf c
-  unfolding badOf
-  bad-one h = by-tests (leb 32 c) (leb c 126) refl refl
-    where
-      by-tests : (a b : Bool) → leb 32 c ≡ a → leb c 126 ≡ b → 1 ≡ badOf c
-      by-tests true true e f = absurd (omega (arith, leb-true 32 c e, leb-true c 126 f))
-      by-tests true false e f = rw (e, f)
-      by-tests false b e f = rw e
+-- ---- lanes of 7 bits, a character each
 
-  pub good-one : 33 ≤ (c + 1) % 128 → 0 ≡ badOf c
-  unfolding badOf
-  good-one h = by-tests (leb 32 c) (leb c 126) refl refl
-    where
-      by-tests : (a b : Bool) → leb 32 c ≡ a → leb c 126 ≡ b → 0 ≡ badOf c
-      by-tests true true e f = rw (e, f)
-      by-tests true false e f = absurd (omega (arith, leb-false c 126 f))
-      by-tests false b e f = absurd (omega (arith, leb-false 32 c e))
+-- n lanes that hold v each
+unfoldable pub lanes : ℕ → ℕ → ℕ
+lanes zero v = 0
+lanes (suc n) v = lanes n v * 128 + v
 
--- ---- characters in a row
+-- what the code makes of the n lanes of x
+unfoldable pub marks : ℕ → ℕ → ℕ
+marks n x =
+    let low = bitAnd x (lanes n 63) in
+    bitAnd (bitXor (bitOr (low + lanes n 32) x) (bitAnd (low + lanes n 1) x)) (lanes n 64)
 
-bads-append : (a b : List ℕ) → bads (a ++ b) ≡ bads a + bads b
-unfolding bads
-bads-append [] b = omega arith
-bads-append (c ∷ a) b = omega (arith, bads-append a b)
+-- the last lane apart from those before it
+marks-apart : (n x c : ℕ) → c < 128 → marks (suc n) (x * 128 + c) ≡ marks n x * 128 + marks 1 c
+unfolding marks lanes
+marks-apart n x c l =
+    let low = bitAnd x (lanes n 63) in
+    let one = bitAnd c 63 in
+    let h : one ≤ 63 = and-le-r c 63 in
+    let sum : (v : ℕ) → low * 128 + one + (lanes n v * 128 + v) ≡ (low + lanes n v) * 128 + (one + v) = λ v. omega arith in
+    let p = or-lt 7 (one + 32) c (omega arith) l in
+    let q = and-lt 7 (one + 1) c (omega arith) l in
+    rw (
+      and-block 7 x (lanes n 63) c 63 l (omega arith),
+      sum 32,
+      sum 1,
+      or-block 7 (low + lanes n 32) x (one + 32) c (omega arith) l,
+      and-block 7 (low + lanes n 1) x (one + 1) c (omega arith) l,
+      xor-block 7 (bitOr (low + lanes n 32) x) (bitAnd (low + lanes n 1) x) _ _ p q,
+    ) (and-block 7 _ (lanes n 64) _ 64 (xor-lt 7 _ _ p q) (omega arith))
 
--- none is bad
-pub bads-none : (cs : List ℕ) → eqb (bads cs) 0 ≡ every (within 32 126) cs
-unfolding bads badOf every
-bads-none [] = refl
-bads-none (c ∷ cs) = by-test (within 32 126 c) (bads-none cs)
-  where
-    by-test : (b : Bool) → eqb (bads cs) 0 ≡ every (within 32 126) cs →
-        eqb (pick b 0 1 + bads cs) 0 ≡ (b && every (within 32 126) cs)
-    by-test true e = let z : 0 + bads cs ≡ bads cs = omega arith in rw z e
-    by-test false e = ne-eqb (1 + bads cs) 0 (λ q. omega arith)
+-- two functions agree below m, as computing shows
+abbrev agree : (f g : ℕ → ℕ) → ℕ → Bool
+agree f g zero = true
+agree f g (suc m) = eqb (f m) (g m) && agree f g m
+
+agreed : (f g : ℕ → ℕ) (m : ℕ) → agree f g m ≡ true → (c : ℕ) → c < m → f c ≡ g c
+agreed f g zero h c l = absurd (omega arith)
+agreed f g (suc m) h c l =
+    let q = both (eqb (f m) (g m)) (agree f g m) h in
+    by-cases (eqb c m) (λ e. rw (eqb-true c m e) (eqb-true (f m) (g m) (q .0)))
+    (λ e. agreed f g m (q .1) c (let d = eqb-false c m e in omega (arith, d)))
+
+-- a lane by itself: 64 for a character of a line, else 0
+mark-is : (c : ℕ) → c < 128 → marks 1 c ≡ pick (within 32 126 c) 64 0
+unfolding marks lanes
+mark-is = agreed (marks 1) (λ c. pick (within 32 126 c) 64 0) 128 refl
+
+-- the first n of eight lanes
+lanes-shifted : (n : ℕ) → n < 9 → lanes 8 64 / 2 ^ (56 - 7 * n) ≡ lanes n 64
+unfolding lanes
+lanes-shifted = agreed (λ n. lanes 8 64 / 2 ^ (56 - 7 * n)) (λ n. lanes n 64) 9 refl
+
+marks-none : (n : ℕ) → marks n 0 ≡ 0
+unfolding marks lanes
+marks-none zero = refl
+marks-none (suc n) = rw (marks-apart n 0 0 (omega arith), marks-none n)
+
+-- all lanes are 64: the last, and those before it
+last-lane : (a l : ℕ) (b : Bool) → eqb (a * 128 + pick b 64 0) (l * 128 + 64) ≡ (eqb a l && b)
+last-lane a l true =
+    by-cases (eqb a l) (λ e. rw (e, eqb-true a l e) (eq-eqb (l * 128 + 64) _ refl))
+    (λ e. rw e (ne-eqb (a * 128 + 64) (l * 128 + 64) (λ q. eqb-false a l e (omega arith))))
+last-lane a l false = rw (and-false (eqb a l)) (ne-eqb (a * 128 + 0) (l * 128 + 64) (λ q. omega arith))
+
+every-both : (a b : List ℕ) → every (within 32 126) (a ++ b) ≡ (every (within 32 126) a && every (within 32 126) b)
+unfolding every
+every-both [] b = refl
+every-both (c ∷ a) b = rw (every-both a b) (sym (and-assoc (within 32 126 c) _ _))
 
 module _ (s : List ℕ) where
-  pub bads-split : (at k n : ℕ) →
-      bads (charsAt s at (k + n)) ≡ bads (charsAt s at k) + bads (charsAt s (at + 7 * k) n)
-  bads-split at k n =
-      ap bads (chars-split s at k n) ∙ bads-append (charsAt s at k) (charsAt s (at + 7 * k) n)
+  line-split : (at k n : ℕ) → lineChars s at (k + n) ≡ (lineChars s at k && lineChars s (at + 7 * k) n)
+  line-split at k n = rw (chars-split s at k n) (every-both (charsAt s at k) (charsAt s (at + 7 * k) n))
 
-  module _ (at : ℕ) {x n : ℕ} (e : x ≡ bitsAt s at n) where
-    bad-at : (k d : ℕ) {q r : ℕ} → r ≡ badOf (x / 2 ^ d % 128) → n ≡ k + 7 + d → q ≡ at + k → r ≡ badOf (bitsAt s q 7)
-    bad-at k d h z l = h ∙ ap badOf (char-in s at k d e z l)
-
-    -- one more of n
-    pub bads-more : (i d : ℕ) {m r : ℕ} → m ≡ bads (charsAt s at i) → r ≡ badOf (x / 2 ^ d % 128) → n ≡ 7 * i + 7 + d →
-        m + r ≡ bads (charsAt s at (i + 1))
-    unfolding charsAt bads
-    bads-more i d b h z = omega (arith, bads-split at i 1, bad-at (7 * i) d {q = at + 7 * i} h z refl)
-
-  -- eight
-  pub bads-eight : (at : ℕ) {x r₀ r₁ r₂ r₃ r₄ r₅ r₆ r₇ : ℕ} → x ≡ bitsAt s at 56 → r₀ ≡ badOf (x / 2 ^ 49 % 128) →
-      r₁ ≡ badOf (x / 2 ^ 42 % 128) → r₂ ≡ badOf (x / 2 ^ 35 % 128) → r₃ ≡ badOf (x / 2 ^ 28 % 128) →
-      r₄ ≡ badOf (x / 2 ^ 21 % 128) → r₅ ≡ badOf (x / 2 ^ 14 % 128) → r₆ ≡ badOf (x / 2 ^ 7 % 128) →
-      r₇ ≡ badOf (x / 2 ^ 0 % 128) → r₀ + r₁ + r₂ + r₃ + r₄ + r₅ + r₆ + r₇ ≡ bads (charsAt s at 8)
-  unfolding charsAt bads
-  bads-eight at e h₀ h₁ h₂ h₃ h₄ h₅ h₆ h₇ =
-      omega (
-        arith,
-        bad-at at e 0 49 {q = at} h₀ refl (omega arith),
-        bad-at at e 7 42 h₁ refl refl,
-        bad-at at e 14 35 {q = at + 7 + 7} h₂ refl (omega arith),
-        bad-at at e 21 28 {q = at + 7 + 7 + 7} h₃ refl (omega arith),
-        bad-at at e 28 21 {q = at + 7 + 7 + 7 + 7} h₄ refl (omega arith),
-        bad-at at e 35 14 {q = at + 7 + 7 + 7 + 7 + 7} h₅ refl (omega arith),
-        bad-at at e 42 7 {q = at + 7 + 7 + 7 + 7 + 7 + 7} h₆ refl (omega arith),
-        bad-at at e 49 0 {q = at + 7 + 7 + 7 + 7 + 7 + 7 + 7} h₇ refl (omega arith),
+  -- the last n of m lanes, with 0 before them
+  all-lanes : (at n m : ℕ) → n ≤ m → eqb (marks m (bitsAt s at (7 * n))) (lanes n 64) ≡ lineChars s at n
+  unfolding charsAt every lanes bitsAt
+  all-lanes at zero m l = eq-eqb (marks m 0) 0 (marks-none m)
+  all-lanes at (suc n) zero l = absurd (omega arith)
+  all-lanes at (suc n) (suc m) l =
+      let x = bitsAt s at (7 * n) in
+      let c = bitsAt s (at + 7 * n) 7 in
+      let h = bits-lt s (at + 7 * n) 7 in
+      let z : 7 * suc n ≡ 7 * n + 7 = omega arith in
+      rw (
+        z,
+        bits-split s at (7 * n) 7,
+        marks-apart m x c h,
+        mark-is c h,
+        last-lane (marks m x) (lanes n 64) (within 32 126 c),
+        all-lanes at n m (omega arith),
+        rw (add-one n) at (line-split at n 1),
+        and-true (within 32 126 c),
       )
 
-  -- the last eight, and before their end the first i: all are tested
-  pub bads-covered : (at n i : ℕ) {b : ℕ} →
-      b ≡ bads (charsAt s (at + 7 * n) 8) + bads (charsAt s at i) → n ≤ i → i ≤ n + 8 →
-      eqb b 0 ≡ every (within 32 126) (charsAt s at (n + 8))
-  bads-covered at n i {b} e l h =
-      let z : n + (i - n) ≡ i = omega arith in
-      let y : i - n + (8 - (i - n)) ≡ 8 = omega arith in
-      let f = rw z at (bads-split at n (i - n)) in
-      let g = rw y at (bads-split (at + 7 * n) (i - n) (8 - (i - n))) in
-      like b (bads (charsAt s at (n + 8))) (λ q. omega (arith, f, g, bads-split at n 8))
-      (λ q. omega (arith, f, g, bads-split at n 8)) ∙ bads-none (charsAt s at (n + 8))
-    where
-      like : (a b : ℕ) → (a ≡ 0 → b ≡ 0) → (b ≡ 0 → a ≡ 0) → eqb a 0 ≡ eqb b 0
-      like a b f g = by-test (eqb a 0) refl
-        where
-          by-test : (t : Bool) → eqb a 0 ≡ t → eqb a 0 ≡ eqb b 0
-          by-test true t = t ∙ sym (eq-eqb b 0 (f (eqb-true a 0 t)))
-          by-test false t = t ∙ sym (ne-eqb b 0 (λ q. eqb-false a 0 t (g q)))
+  -- at most eight characters
+  pub few-lanes : (at n : ℕ) {x : ℕ} → x ≡ bitsAt s at (7 * n) → n ≤ 8 →
+      eqb (marks 8 x) (lanes 8 64 / 2 ^ (56 - 7 * n)) ≡ lineChars s at n
+  few-lanes at n e l = rw (e, lanes-shifted n (omega arith)) (all-lanes at n 8 l)
+
+  -- eight, and those behind them
+  pub line-turn : (at : ℕ) {n : ℕ} (b : Bool) → 8 < n → lineChars s at 8 ≡ b →
+      lineChars s at n ≡ (b && lineChars s (at + 56) (n - 8))
+  line-turn at {n} b l e =
+      let z : 8 + (n - 8) ≡ n = omega arith in
+      rw (← e) (rw z at (line-split at 8 (n - 8)))
 
   -- ---- the last character
 

@@ -9,7 +9,7 @@ use cursor::read;
 use refusal::Refusal;
 ghost use mathlib.Core.Path.{_≡_};
 ghost use mathlib.Core.List.{List};
-ghost use Prim.Native.Nat.{ℕ, _+_, _*_, _/_, _%_, _^_, _≤_, _<_};
+ghost use Prim.Native.Nat.{ℕ, _+_, _*_, _≤_};
 ghost use lib.ListN.{length};
 ghost use Rattle.lexical.specs.Bytes.{within, every};
 ghost use Rattle.format.specs.Decode.{many};
@@ -17,7 +17,7 @@ ghost use Rattle.format.specs.Sheet.{Body};
 ghost use Rattle.format.specs.Decoding.{lineOk, line};
 ghost use Rattle.cursor.specs.Checking.{Limited, Checks};
 ghost use Rattle.text.specs.Text.{charsAt};
-ghost use Rattle.comments.specs.Comments.{comment, badOf, bads};
+ghost use Rattle.comments.specs.Comments.{comment};
 
 // A line of a comment, by its number of characters.
 pub struct CommentLine {
@@ -31,60 +31,42 @@ impl CommentLine {
     pub const MOST: usize = 31;
 }
 
-// 1 where the character of x that d bits stand behind is 127 or below 32, else 0.
-fn is_bad(x: u64, d: u32) -> u64
-    requires { ⌜ d < 64 ⌝ }
-    ensures { λ r. ⌜ (r ≡ badOf (x / 2 ^ d % 128)) × (r ≤ 1) ⌝ }
+// Eight characters of 7 bits in one number: 1 in each,
+const ONES: u64 = 0x2_0408_1020_4081;
+// 32 in each,
+const HALVES: u64 = 32 * ONES;
+// the six low bits of each,
+const LOWS: u64 = 63 * ONES;
+// the high bit of each.
+const HIGHS: u64 = 64 * ONES;
+
+// Whether the n characters at a position, at most eight, are those of a line: 32 to 126, all tested at once.
+// The two sums tell by each high bit whether the low bits are 32 or more, and whether they are 63.
+fn few_line_chars(s: &[u8], at: u32, n: u32) -> bool
+    requires { ⌜ Limited (now s) × (at + 7 * n ≤ 8 * length (now s)) × (n ≤ 8) ⌝ }
+    ensures { λ r. ⌜ r ≡ every (within 32 126) (charsAt (now (s .entry)) at n) ⌝ }
 {
-    if ((x >> d) % 128 + 1) % 128 < 33 {
-        return 1;
-    }
-    0
+    let x = extract_wide(&s[..], at, 7 * n);
+    let low = x & LOWS;
+    let good = (((low + HALVES) | x) ^ ((low + ONES) & x)) & HIGHS;
+    good == HIGHS >> (56 - 7 * n)
 }
 
-// How many of the eight characters at a position are bad.
-fn eight_bad(s: &[u8], at: u32) -> u64
-    requires { ⌜ Limited (now s) × (at + 56 ≤ 8 * length (now s)) ⌝ }
-    ensures { λ r. ⌜ (r ≡ bads (charsAt (now (s .entry)) at 8)) × (r ≤ 8) ⌝ }
-{
-    let x = extract_wide(s, at, 56);
-    let a = is_bad(x, 49) + is_bad(x, 42) + is_bad(x, 35) + is_bad(x, 28);
-    a + is_bad(x, 21) + is_bad(x, 14) + is_bad(x, 7) + is_bad(x, 0)
-}
-
-// The same of n characters, fewer than eight.
-fn few_bad(s: &[u8], at: u32, n: u32) -> u64
-    requires { ⌜ Limited (now s) × (at + 7 * n ≤ 8 * length (now s)) × (n < 8) ⌝ }
-    ensures { λ r. ⌜ r ≡ bads (charsAt (now (s .entry)) at n) ⌝ }
-{
-    let x = extract_wide(s, at, 7 * n);
-    let mut down = 7 * n;
-    let mut bad: u64 = 0;
-    let mut i: u32 = 0;
-    while i < n {
-        down = down - 7;
-        bad = bad + is_bad(x, down);
-        i = i + 1;
-    }
-    bad
-}
-
-// Whether the n characters at a position are those of a line: eight by eight, the last eight first.
+// The same of any number of characters, eight by eight.
 fn all_line_chars(s: &[u8], at: u32, n: u32) -> bool
     requires { ⌜ Limited (now s) × (at + 7 * n ≤ 8 * length (now s)) ⌝ }
     ensures { λ r. ⌜ r ≡ every (within 32 126) (charsAt (now (s .entry)) at n) ⌝ }
 {
-    if n < 8 {
-        return few_bad(s, at, n) == 0;
+    let mut next = at;
+    let mut left = n;
+    while 8 < left {
+        if !few_line_chars(s, next, 8) {
+            return false;
+        }
+        next = next + 56;
+        left = left - 8;
     }
-    let last = n - 8;
-    let mut bad = eight_bad(s, at + 7 * last);
-    let mut i: u32 = 0;
-    while i < last {
-        bad = bad + eight_bad(s, at + 7 * i);
-        i = i + 8;
-    }
-    bad == 0
+    few_line_chars(s, next, left)
 }
 
 // The line rule, for the n characters at a position.

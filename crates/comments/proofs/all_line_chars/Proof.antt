@@ -1,32 +1,32 @@
--- Written by tools/proofkit from answers/all_line_chars.tpl (322d2fbf e8ddad52).
+-- Written by tools/proofkit from answers/all_line_chars.tpl (be03319a e1ee2fbd).
 use borrow.Author.Needs.{needs}
+use borrow.Author.Tests.{not-true, not-false}
 use native.Mathlib.Omega.{arith}
+use mathlib.Core.Bool.{true, false}
 use mathlib.Core.Path.{_≡_, refl, sym, _∙_}
-use Prim.Native.Nat.{_+_, _*_, _-_, _≤_}
-use Rattle.text.specs.Text.{charsAt}
-use Rattle.comments.specs.Comments.{bads}
-use Rattle.comments.proofs.LineLaws.{bads-none, bads-split, bads-covered}
+use Prim.Native.Nat.{_+_, _*_}
+use Rattle.cursor.proofs.CheckLaws.{known}
+use Rattle.comments.proofs.LineLaws.{lineChars, line-turn}
 use Rattle.comments.proofs.all_line_chars.Statement.{statement}
 use Rattle.comments.proofs.all_line_chars.Tie as tie
 
 abbrev Inv-loop : tie.InvT-loop
-Inv-loop s at n last bad₀ i₀ bad i = (i ≤ last + 8) × (bad ≤ i + 8) × (bad ≡ bads (charsAt s (at + 7 * last) 8) + bads (charsAt s at i))
+Inv-loop s at n next₀ left₀ next left = (next + 7 * left ≡ at + 7 * n) × (lineChars s at n ≡ lineChars s next left)
 
 abbrev μ-loop : tie.MeasureT-loop
-μ-loop s at n last bad₀ i₀ bad i = last + 8 - i
+μ-loop s at n next₀ left₀ next left = left
 
 loop-holds : tie.Need-loop-holds Inv-loop μ-loop
-unfolding charsAt bads
-loop-holds c = (omega arith, omega arith, omega (arith, c .eight-bad .ensures))
-
-loop-again : tie.Need-loop-again Inv-loop μ-loop
-loop-again c = (omega arith, omega arith, omega (arith, c .eight-bad2 .ensures, bads-split (c .before .before .before .before .before .before .args .s .now) (c .before .before .before .before .before .before .args .at) (c .before .before .loop .i) 8))
+loop-holds c = (omega arith, refl)
 
 returns : tie.Need-returns Inv-loop μ-loop
-returns c = rw (c .few-bad .ensures) (bads-none _)
+returns c = sym (c .before .before .before .loop .inv .1 ∙ line-turn _ _ false (c .before .before .loop-test .taken) (known (c .before .few-line-chars .ensures) (not-true _ (c .if1 .taken))))
+
+loop-again : tie.Need-loop-again Inv-loop μ-loop
+loop-again c = (omega arith, c .before .before .before .loop .inv .1 ∙ line-turn _ _ true (c .before .before .loop-test .taken) (known (c .before .few-line-chars .ensures) (not-false _ (c .if1 .left))))
 
 returns-2 : tie.Need-returns-2 Inv-loop μ-loop
-returns-2 c = let z : c .before .before .before .before .before .args .n - 8 + 8 ≡ c .before .before .before .before .before .args .n = omega arith in rw z at (bads-covered _ _ _ _ (c .before .loop .inv .2) (omega arith) (omega arith))
+returns-2 c = c .few-line-chars2 .ensures ∙ sym (c .before .before .loop .inv .1)
 
 pub all-line-chars-spec : {M : Type 1} → statement M
 all-line-chars-spec =
@@ -34,17 +34,12 @@ all-line-chars-spec =
     (tie.spec
     Inv-loop
     μ-loop
+    loop-holds
     (λ c κs. search needs)
     returns
     (λ c. search needs)
     (λ c. search needs)
-    (λ c κs. search needs)
-    loop-holds
-    (λ c. search needs)
-    (λ c. search needs)
-    (λ c κs. search needs)
-    (λ c. search needs)
-    (λ c. search needs)
     (λ c. search needs)
     loop-again
+    (λ c κs. search needs)
     returns-2)
