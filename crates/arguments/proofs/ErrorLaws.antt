@@ -1,23 +1,22 @@
 -- Laws of what rule 11 wants of a type, by its outermost kind.
 use mathlib.Core.Path.{_≡_, refl, sym, ap, _∙_}
-use mathlib.Core.List.{List, [], _∷_}
-use mathlib.Core.Bool.{Bool, true, false, _&&_, false≢true}
-use Prim.Native.Nat.{ℕ, zero, suc, _+_, _*_, _<_, _≤_}
+use mathlib.Core.List.{List}
+use mathlib.Core.Bool.{Bool, true, false, false≢true}
+use Prim.Native.Nat.{ℕ, zero, suc, _+_, _*_, _≤_}
 use native.Mathlib.Omega.{arith}
-use lib.ListN.{length, getD}
+use lib.ListN.{length}
 use lib.Dec.{eqb, ltb}
-use borrow.Author.Tests.{eqb-true, ne-eqb}
-use Rattle.lexical.proofs.BoolLaws.{both}
+use borrow.Author.Tests.{ne-eqb}
 use Rattle.format.specs.Decode.{got}
 use Rattle.format.specs.Bits.{bitsAt, bits, widthOf, index}
 use Rattle.format.specs.Types.{Ty, atom, named, template, pointer, str, fn, array}
 use Rattle.format.specs.declared.Atom.{Atom}
-use Rattle.format.specs.declared.Atom.the-variants as Atom
 use Rattle.format.specs.declared.Template.{Template}
 use Rattle.format.specs.declared.TypeKind.{TypeKind}
 use Rattle.format.specs.declared.TypeKind.the-variants as Kind
-use Rattle.format.specs.Decoding.{kindOf, atoms, atomOf, typeBody, typeAt, type}
-use Rattle.syntax.specs.Types.{atomNumber, isIndirectTemplate}
+use Rattle.format.specs.Decoding.{kindOf, atomOf, typeBody, typeAt, type}
+use Rattle.syntax.specs.Types.{isIndirectTemplate}
+use Rattle.syntax.proofs.AtomLaws.{atom-number}
 use Rattle.rules.specs.Rules.{isCxxVector}
 use Rattle.cursor.specs.Yielding.{nextOf, Yields}
 use Rattle.cursor.proofs.FieldLaws.{field-lt}
@@ -104,22 +103,6 @@ module _ (u : List ℕ) where
   judge-template (array t n) e f h = absurd (let y : _≡_ {A = ℕ} 0 1 = cc in omega arith)
 
 -- ---- atoms and names, by what stands behind the kind
-
--- the atoms of a list have the numbers from k on
-abbrev numbered : List Atom → ℕ → Bool
-numbered [] k = true
-numbered (x ∷ xs) k = eqb (atomNumber x) k && numbered xs (suc k)
-
-number-at : (xs : List Atom) (k i : ℕ) → numbered xs k ≡ true → i < length xs →
-    atomNumber (getD xs i Atom.Bool) ≡ k + i
-number-at [] k i h l = absurd (omega arith)
-number-at (x ∷ xs) k zero h l = eqb-true _ _ (both (eqb (atomNumber x) k) (numbered xs (suc k)) h .0) ∙ omega arith
-number-at (x ∷ xs) k (suc i) h l =
-    number-at xs (suc k) i (both (eqb (atomNumber x) k) (numbered xs (suc k)) h .1) (omega arith) ∙ omega arith
-
-atom-number : (a : ℕ) → a < 16 → atomNumber (atomOf a) ≡ a
-unfolding atomOf
-atom-number a l = number-at atoms 0 a refl l ∙ omega arith
 
 module _ (n : ℕ) (s : List ℕ) (at : ℕ) {t : Ty} (y : Yields (type n s at) t) where
   body-of : {k : TypeKind} → k ≡ kindOfType t → typeBody k n (typeAt n 7) s (at + 4) ≡ got t (nextOf (type n s at))

@@ -1,14 +1,12 @@
 -- Laws of the outermost type at a position.
 use mathlib.Core.Path.{_≡_, refl, sym, ap, _∙_}
-use mathlib.Core.List.{List, [], _∷_}
-use mathlib.Core.Bool.{Bool, true, false, _&&_, false≢true}
-use Prim.Native.Nat.{ℕ, zero, suc, _+_, _<_}
+use mathlib.Core.List.{List}
+use mathlib.Core.Bool.{true, false, false≢true}
+use Prim.Native.Nat.{ℕ, _<_}
 use native.Mathlib.Omega.{arith}
-use lib.ListN.{length, getD}
+use lib.ListN.{length}
 use lib.Dec.{leb, eqb}
-use borrow.Author.Tests.{eqb-true}
-use Rattle.lexical.proofs.BoolLaws.{both}
-use Rattle.format.specs.Decode.{got, Dec, many}
+use Rattle.format.specs.Decode.{got, many}
 use Rattle.format.specs.Bits.{bits, bit, widthOf, index}
 use Rattle.format.specs.Types.{Ty, atom, named, template, pointer, str, fn, array}
 use Rattle.format.specs.Sheet.{Name, Body, struct, enum, cxxType, rustType, function, Item}
@@ -20,32 +18,17 @@ use Rattle.format.specs.declared.ItemKind.{ItemKind}
 use Rattle.format.specs.declared.ItemKind.the-variants as Part
 use Rattle.format.specs.declared.TypeKind.{TypeKind}
 use Rattle.format.specs.declared.TypeKind.the-variants as Kind
-use Rattle.format.specs.Decoding.{atoms, atomOf, kindOf, optional, typeBody, typeAt, type, itemBody, structBody, enumBody}
+use Rattle.format.specs.Decoding.{atomOf, kindOf, typeBody, typeAt, type, itemBody, structBody, enumBody}
 use Rattle.syntax.specs.Types.{pointerBit, atomNumber, needsIndirectAbi, isRustString}
 use Rattle.cursor.proofs.WidthLaws.{index-field, index-lt}
 use Rattle.syntax.specs.Items.{itemAt}
 use Rattle.cursor.specs.declared.Found.{Found}
+use Rattle.syntax.proofs.AtomLaws.{atom-number}
+use Rattle.types.proofs.KindLaws.{body-type}
 use Rattle.view.specs.declared.ItemView.{ItemView}
 use Rattle.view.specs.Values.{nextOf, Yields, namesAt, itemsAt}
 use Rattle.view.specs.Views.{Finds, kindOfBody, ItemAt, isFunctionKind, kindOfType, isAtomKind, isNamedKind, isIndirectKind}
 use Rattle.cursor.proofs.YieldLaws.{in-turn, passed, got-value, found-value, found-next, bit-value}
-
--- what stands behind the kind says it
-pub body-type : (k : TypeKind) (n : ℕ) (ty : Dec Ty) (s : List ℕ) (at : ℕ) {t : Ty} {m : ℕ} →
-    typeBody k n ty s at ≡ got t m → k ≡ kindOfType t
-body-type Kind.Atom n ty s at h = in-turn (bits 4 s at) _ h (λ a b e h₁. ap kindOfType (got-value h₁))
-body-type Kind.Named n ty s at h = in-turn (index n s at) _ h (λ a b e h₁. ap kindOfType (got-value h₁))
-body-type (Kind.Template k) n ty s at h = in-turn (ty s at) _ h (λ a b e h₁. ap kindOfType (got-value h₁))
-body-type (Kind.Pointer k) n ty s at h =
-    in-turn (bit s at) _ h (λ a b e h₁. in-turn (ty s b) _ h₁ (λ c d e₂ h₂. ap kindOfType (got-value h₂)))
-body-type Kind.Str n ty s at h = ap kindOfType (got-value h)
-body-type Kind.Fn n ty s at h =
-    in-turn (optional ty s at) _ h (λ r a e h₁.
-    in-turn (bits 4 s a) _ h₁ (λ k b e₂ h₂.
-    in-turn (many k ty s b) _ h₂ (λ ts c e₃ h₃. ap kindOfType (got-value h₃))))
-body-type Kind.Array n ty s at h =
-    in-turn (ty s at) _ h (λ a b e h₁. in-turn (bits 32 s b) _ h₁ (λ c d e₂ h₂. ap kindOfType (got-value h₂)))
-body-type Kind.Bad n ty s at h = absurd (let z : _≡_ {A = ℕ} 0 1 = cc in omega arith)
 
 module _ (n : ℕ) (s : List ℕ) (at : ℕ) {t : Ty} {k : Found} (y : Yields (type n s at) t) (f : Finds (bits 4 s at) 4 k) where
   pub type-body : typeBody (kindOf (k .value)) n (typeAt n 7) s (k .next .at) ≡ got t (nextOf (type n s at))
@@ -97,22 +80,6 @@ module _ {s names items : List ℕ} {v : ItemView} {i : ℕ} (a : ItemAt s names
       (sym (pointer-type (namesAt s names) (length items) s (v .body .at) f (v .kind) (a .view .body .is) h))
 
 -- ---- atoms and named types
-
--- the atoms of a list have the numbers from k on
-abbrev numbered : List Atom → ℕ → Bool
-numbered [] k = true
-numbered (x ∷ xs) k = eqb (atomNumber x) k && numbered xs (suc k)
-
-number-at : (xs : List Atom) (k i : ℕ) → numbered xs k ≡ true → i < length xs →
-    atomNumber (getD xs i Atom.Bool) ≡ k + i
-number-at [] k i h l = absurd (omega arith)
-number-at (x ∷ xs) k zero h l = eqb-true _ _ (both (eqb (atomNumber x) k) (numbered xs (suc k)) h .0) ∙ omega arith
-number-at (x ∷ xs) k (suc i) h l =
-    number-at xs (suc k) i (both (eqb (atomNumber x) k) (numbered xs (suc k)) h .1) (omega arith) ∙ omega arith
-
-atom-number : (a : ℕ) → a < 16 → atomNumber (atomOf a) ≡ a
-unfolding atomOf
-atom-number a l = number-at atoms 0 a refl l ∙ omega arith
 
 atom-kind : (k : TypeKind) → isAtomKind k ≡ true → k ≡ Kind.Atom
 atom-kind Kind.Atom h = refl

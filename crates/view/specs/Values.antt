@@ -5,13 +5,14 @@ use mathlib.Core.Bool.{false}
 use Prim.Native.Nat.{ℕ, _<_, _≤_}
 use lib.ListN.{length, getD}
 use Rattle.format.specs.Limits.{mostItems}
-use Rattle.format.specs.Types.{Ty, str, none}
+use Rattle.format.specs.Types.{str, none}
 use Rattle.format.specs.Sheet.{free, Argument, Function, Body, struct, enum, cxxType, rustType, function, Item}
 use Rattle.format.specs.Decoding.{item, type}
 use Rattle.syntax.specs.Items.{itemAt}
 pub use Rattle.cursor.specs.Yielding.{valueOr, nextOf, Yields}
 unfoldable pub use Rattle.names.specs.Naming.{nameAt, namesAt}
 pub use Rattle.names.specs.Naming.{Named}
+unfoldable pub use Rattle.types.specs.Kinds.{typeHere}
 use Rattle.names.specs.Digests.{digestsAt}
 
 -- ---- values by position
@@ -47,10 +48,6 @@ functionAt s names items i = functionIn (itemAt (itemsAt s names items) i .body)
 -- its argument j
 unfoldable pub argumentAt : List ℕ → List ℕ → List ℕ → ℕ → ℕ → Argument
 argumentAt s names items i j = getD (functionAt s names items i .arguments) j (record { name = []; type = str })
-
--- the outermost type at a position, in a sheet of n items
-unfoldable pub typeHere : ℕ → List ℕ → ℕ → Ty
-typeHere n s at = valueOr str (type n s at)
 
 -- ---- a decoded sheet
 

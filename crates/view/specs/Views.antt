@@ -7,7 +7,7 @@ use lib.ListN.{length, getD}
 use Rattle.format.specs.Limits.{mostBits, mostNamespaces, mostArguments}
 use Rattle.format.specs.Decode.{Got, got, Dec, pick, _>>_, pure, many}
 use Rattle.format.specs.Bits.{bits}
-use Rattle.format.specs.Types.{Ty, atom, named, template, pointer, str, fn, array, Ret, none, gives}
+use Rattle.format.specs.Types.{Ty, named, Ret, none, gives}
 use Rattle.format.specs.Sheet.{Form, Argument, Function, Body, struct, enum, cxxType, rustType, function, Item}
 use Rattle.format.specs.Decoding.{nameOf, type, line, argument, formOf, itemBody}
 use Rattle.format.specs.declared.TypeKind.{TypeKind}
@@ -18,6 +18,7 @@ use Rattle.syntax.specs.Items.{itemAt}
 use Rattle.syntax.specs.Types.{isIndirectTemplate}
 use Rattle.cursor.specs.Checking.{Table}
 pub use Rattle.cursor.specs.Yielding.{Finds}
+pub use Rattle.types.specs.Kinds.{kindOfType}
 use Rattle.view.specs.declared.ItemView.{ItemView}
 use Rattle.view.specs.declared.FormView.{FormView}
 use Rattle.view.specs.declared.FunctionView.{FunctionView}
@@ -111,15 +112,6 @@ pub record ArgumentOf (s names : List ℕ) (n : ℕ) (x : Argument) (v : Argumen
   pub of : Yields (type n s (v .of .at)) (x .type)
 
 -- ---- types
-
-abbrev pub kindOfType : Ty → TypeKind
-kindOfType (atom a) = Kind.Atom
-kindOfType (named i) = Kind.Named
-kindOfType (template k t) = Kind.Template k
-kindOfType (pointer k m t) = Kind.Pointer k
-kindOfType str = Kind.Str
-kindOfType (fn r ts) = Kind.Fn
-kindOfType (array t n) = Kind.Array
 
 abbrev pub isAtomKind : TypeKind → Bool
 isAtomKind Kind.Atom = true

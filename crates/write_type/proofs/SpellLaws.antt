@@ -28,7 +28,7 @@ use Rattle.cursor.specs.declared.Found.{Found}
 use Rattle.view.specs.Values.{valueOr, nextOf, Yields}
 use Rattle.view.specs.Views.{Finds, kindOfType}
 use Rattle.cursor.proofs.YieldLaws.{yields, in-turn, found, found-value, found-next, bit-value, bit-next}
-use Rattle.view.proofs.TypeLaws.{body-type}
+use Rattle.types.proofs.KindLaws.{body-type}
 use Rattle.write_atom.specs.Texts.{spaceOfKind}
 use Rattle.write_type.specs.TypeAt.{tyAt}
 use Rattle.write_type.proofs.Spelling.{There, Spells}
