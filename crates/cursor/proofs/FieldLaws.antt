@@ -79,10 +79,6 @@ value {p = got x n} {r} {v} {c} h t =
     let d : n ≡ c .at = ap (λ (z : Cursor). z .at) b in
     rw (a, d)
 
--- a field that the definition reads is what the code gets
-pub read-value : {p : Got ℕ} {r : Field} {v m : ℕ} → ReadsField p r → p ≡ got v m → r ≡ Value v (record { at = m })
-read-value h e = h .field ∙ ap fieldOf e
-
 -- ---- a field of one bit
 
 module _ (s : List ℕ) (at : ℕ) where

@@ -3,6 +3,5 @@ pub mod FieldLaws
 pub mod WidthLaws
 pub mod CheckLaws
 pub mod TableLaws
-pub mod ReadLaws
 pub mod CodeLaws
 pub mod YieldLaws

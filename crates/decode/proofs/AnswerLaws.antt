@@ -18,7 +18,7 @@ use Rattle.names.specs.Fetching.{Fetched}
 use Rattle.format.specs.declared.Outline.{Outline}
 use Rattle.decode.specs.declared.Decoded.{Decoded}
 use Rattle.decode.specs.declared.Decoded.the-variants.{Whole, Refused}
-use Rattle.decode.specs.Tables.{Tables, saysOf, Answers}
+use Rattle.decode.specs.Tables.{Tables, Answers}
 
 module _ {s : List ℕ} {p : Got Sheet} {r : Decoded} {b i g m₀ m₁ : List ℕ} where
   -- what an answer says of the definition
@@ -28,23 +28,6 @@ module _ {s : List ℕ} {p : Got Sheet} {r : Decoded} {b i g m₀ m₁ : List �
 
   pub whole : {o : Outline} → Answers s p r b i g m₀ m₁ → r ≡ Whole o → Tables s p o b i g m₀ m₁
   whole {o} a t = rw t at (a .says)
-
-  -- what the definition says of the answer
-
-  pub must-refuse : {e : Refusal} → Answers s p r b i g m₀ m₁ → p ≡ fault e → r ≡ Refused e
-  must-refuse {e} a q = by-answer r (a .says)
-    where
-      by-answer : (u : Decoded) → saysOf (λ o. Tables s p o b i g m₀ m₁) p u → u ≡ Refused e
-      by-answer (Refused f) h = let z : f ≡ e = cc in rw z
-      by-answer (Whole o) h =
-          let d = h .items .decoded in absurd (let z : _≡_ {A = ℕ} 0 1 = cc in omega arith)
-
-  pub must-accept : {x : Sheet} {m : ℕ} → Answers s p r b i g m₀ m₁ → p ≡ got x m → (o : Outline) × (r ≡ Whole o)
-  must-accept {x} {m} a q = by-answer r (a .says)
-    where
-      by-answer : (u : Decoded) → saysOf (λ o. Tables s p o b i g m₀ m₁) p u → (o : Outline) × (u ≡ Whole o)
-      by-answer (Refused f) h = absurd (let z : _≡_ {A = ℕ} 0 1 = cc in omega arith)
-      by-answer (Whole o) h = (o, refl)
 
 -- a sheet that is decoded is not too long
 pub decoded-limited : (s : List ℕ) {x : Sheet} {m : ℕ} → decode s ≡ got x m → Limited s

@@ -113,9 +113,6 @@ module _ {A : Type 0} (P : A → Type 0) (f : A → ℕ) (equal : A → A → Bo
 
 -- for all
 module _ {A : Type 0} (f : A → ℕ) (equal : A → A → Bool) (keyed : (x y : A) → equal x y ≡ true → f x ≡ f y) where
-  pub twice-keys : (xs : List A) → twice equal xs ≡ true → twice eqb (map f xs) ≡ true
-  twice-keys xs = twice-among (λ x. Unit) f equal (λ x y p q. keyed x y) xs (λ z i l. tt)
-
   pub apart-keys : (xs : List A) → twice eqb (map f xs) ≡ false → twice equal xs ≡ false
   apart-keys xs = apart-among (λ x. Unit) f equal (λ x y p q. keyed x y) xs (λ z i l. tt)
 

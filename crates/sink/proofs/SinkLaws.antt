@@ -6,7 +6,7 @@ use Prim.Native.Nat.{ℕ, _+_, _≤_, _<_, min}
 use native.Mathlib.Omega.{arith}
 use native.Mathlib.Numerals.{add-one}
 use lib.ListN.{length, getD, take, length-set}
-use lib.Seq.{take-suc, take-all}
+use lib.Seq.{take-suc}
 use Rattle.lexical.specs.Decimal.{pickText}
 use Rattle.sink.specs.Sink.{Sink, limit, step, emit, Wrote}
 
@@ -40,9 +40,6 @@ pub wrote-more :
     (l : List ℕ) (i : ℕ) {r s t : Sink} →
     i < length l → Wrote r (take i l) s → Wrote s (getD l i 0 ∷ []) t → Wrote r (take (i + 1) l) t
 wrote-more l i h p q = wrote-as (p ▷ q) (rw (add-one, take-suc l i 0))
-
-pub wrote-all : (l : List ℕ) (i : ℕ) {r s : Sink} → length l ≤ i → Wrote r (take i l) s → Wrote r l s
-wrote-all l i h p = wrote-as p (take-all i l h)
 
 length-emit : (t : List ℕ) (s : Sink) → length (emit s t .buf) ≡ length (s .buf)
 unfolding emit

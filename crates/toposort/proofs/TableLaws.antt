@@ -27,9 +27,6 @@ pub all-as : {g : Graph} {levels at : ℕ} {js m o m₁ o₁ : List ℕ} {r s : 
     VisitedAll g levels js m o at r m₁ o₁ → VisitedAll g levels js m o at s m₁ o₁
 all-as {g} {levels} {at} {js} {m} {o} {m₁} {o₁} {r} {s} e a = rw e at a
 
-pub sorted-as : {g : Graph} {js m₁ o₁ : List ℕ} {r s : Traversal} → r ≡ s → Sorted g js r m₁ o₁ → Sorted g js s m₁ o₁
-sorted-as {g} {js} {m₁} {o₁} {r} {s} e a = rw e at a
-
 -- ---- room in the order
 
 -- the room after a walk from m and the order o up to `at`

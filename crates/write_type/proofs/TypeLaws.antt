@@ -22,10 +22,6 @@ module _ (n levels : ℕ) (s : List ℕ) (at : ℕ) {t : Ty} (h : Yields (typeAt
 
 -- an outermost type
 module _ (n : ℕ) (s : List ℕ) (at : ℕ) {t : Ty} (h : Yields (type n s at) t) where
-  pub outermost-is : tyAt n 8 s at ≡ t
-  unfolding type
-  outermost-is = type-is n 8 s at h
-
   pub outermost-yields : Yields (typeAt n 8 s at) (tyAt n 8 s at)
   unfolding type
   outermost-yields = type-yields n 8 s at h
