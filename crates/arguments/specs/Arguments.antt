@@ -41,7 +41,7 @@ judgeError t u = each markError (namedItem t) (markIf (isIndirectNow t) unfitAt 
 abbrev pub argumentOf : List ℕ → List ℕ → ℕ → ℕ → ℕ → Argument
 argumentOf s names items name of = record { name = nameAt s (getD names name 0); type = typeHere items s of }
 
--- the argument of the decoder's p was marked: u and v are the marks before and after, r tells its name and what is behind
+-- the argument of the decoder's p was marked: u and v are the marks before and after, r tells of its name and its end
 pub record Passes (method throws : Bool) (s names : List ℕ) (p : Got Argument) (u : List ℕ) (r : Passed) (v : List ℕ)
     : Type 0 where
   pub marks : Gathers (markArgument method throws) p u (stepIn (r .next)) v

@@ -30,7 +30,8 @@ ghost use Rattle.names.specs.Digests.{digestsAt};
 ghost use Rattle.types.specs.Kinds.{typeHere, kindOfType};
 ghost use Rattle.marks.specs.Gathering.{Gathers};
 ghost use Rattle.marks.specs.Marking.{markIf, judgeArgument, markArguments};
-ghost use Rattle.arguments.specs.Arguments.{isVectorKind, judgeError, argumentOf, namesOf, Indexes, Passes, Notes};
+ghost use Rattle.arguments.specs.Arguments.{isVectorKind, judgeError, argumentOf, Passes};
+ghost use Rattle.arguments.specs.Arguments.{namesOf, Indexes, Notes};
 
 // How many arguments a function has.
 pub struct Count {
@@ -141,8 +142,8 @@ fn judge_argument(
     throws: bool,
     marks: &mut [u8],
 )
-    requires { ⌜ Named (now s) (now names) × (now digests ≡ digestsAt (now s) (now names)) × (name < length (now names)) ×
-        Yields (type items (now s) of) (typeHere items (now s) of) ⌝ }
+    requires { ⌜ Named (now s) (now names) × (now digests ≡ digestsAt (now s) (now names)) ×
+        (name < length (now names)) × Yields (type items (now s) of) (typeHere items (now s) of) ⌝ }
     ensures { λ r. ⌜ now (marks .exit) ≡ judgeArgument method throws
         (argumentOf (now (s .entry)) (now (names .entry)) items name of) (now (marks .entry)) ⌝ }
 {
