@@ -12,7 +12,7 @@ use refusal::number;
 use rules::Checked;
 use services::Written;
 use struct_order::struct_order;
-use text::equal;
+use words::equal;
 use write_sheet::write;
 ghost use Prim.Native.Nat.{_≤_};
 ghost use lib.ListN.{length};

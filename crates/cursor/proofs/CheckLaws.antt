@@ -20,10 +20,6 @@ step-map f (got x n) = refl
 pub tail : {A B : Type 0} (f : A → B) {p : Got A} {r : Step} → Checks p r → Checks (after p (λ x n. got (f x) n)) r
 tail f {p} h = record { step = h .step ∙ sym (step-map f p) }
 
--- a value that the code holds, from what a callee ensures and what a match told
-pub known : {A : Type 0} {a b x : A} → x ≡ a → x ≡ b → a ≡ b
-known e t = sym e ∙ t
-
 module _ {A : Type 0} where
   -- a call that gave a position: its decoder's value
   pub stepped : {p : Got A} {r : Step} {c : Cursor} → Checks p r → r ≡ At c → (x : A) × (p ≡ got x (c .at))

@@ -2,6 +2,10 @@
 use mathlib.Core.Path.{_≡_, refl, sym, _∙_}
 use mathlib.Core.Bool.{Bool, true, false, _&&_, _||_, not, false≢true}
 
+-- a value that the code holds, from what a callee ensures and what a test told
+pub known : {A : Type 0} {a b x : A} → x ≡ a → x ≡ b → a ≡ b
+known e t = sym e ∙ t
+
 pub both : (a b : Bool) → (a && b) ≡ true → (a ≡ true) × (b ≡ true)
 both true b e = (refl, e)
 both false b e = absurd (false≢true e)

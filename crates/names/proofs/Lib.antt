@@ -1,4 +1,3 @@
-pub mod WordLaws
 mod FetchLaws
 pub mod NameLaws
 pub mod DigestLaws

@@ -1,4 +1,3 @@
-pub mod Words
 pub mod Fetching
 pub mod Naming
 pub mod Digests

@@ -1,3 +1,2 @@
-pub mod ByteLoops
 pub mod TextLaws
 pub mod CharLaws

@@ -1,4 +1,4 @@
-// Characters of a sheet, and tests on bytes.
+// Characters of a sheet.
 use cursor::Cursor;
 use cursor::Field;
 use cursor::Step;
@@ -9,37 +9,10 @@ use refusal::Refusal;
 ghost use mathlib.Core.Path.{_≡_};
 ghost use Prim.Native.Nat.{_+_, _*_, _/_, _%_, _^_, _≤_, _<_};
 ghost use lib.ListN.{length};
-ghost use Rattle.lexical.specs.Bytes.{within, same};
 ghost use Rattle.format.specs.Decode.{many};
 ghost use Rattle.format.specs.Bits.{bits};
 ghost use Rattle.cursor.specs.Checking.{Limited, Fills};
 ghost use Rattle.text.specs.Text.{Holds, Spelled};
-
-pub fn in_range(lo: u8, hi: u8, c: u8) -> bool
-    ensures { λ r. ⌜ r ≡ within lo hi c ⌝ }
-{
-    if c < lo {
-        return false;
-    }
-    c <= hi
-}
-
-// Whether two lists of bytes are the same.
-pub fn equal(a: &[u8], b: &[u8]) -> bool
-    ensures { λ r. ⌜ r ≡ same (now (a .entry)) (now (b .entry)) ⌝ }
-{
-    if a.len() != b.len() {
-        return false;
-    }
-    let mut i: usize = 0;
-    while i < a.len() {
-        if a[i] != b[i] {
-            return false;
-        }
-        i = i + 1;
-    }
-    true
-}
 
 // A character of a number, d bits of which stand behind it.
 fn char_in(x: u64, d: u32) -> u8

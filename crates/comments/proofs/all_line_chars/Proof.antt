@@ -1,11 +1,11 @@
--- Written by tools/proofkit from answers/all_line_chars.tpl (be03319a e1ee2fbd).
+-- Written by tools/proofkit from answers/all_line_chars.tpl (f53ec84b bc0060ac).
 use borrow.Author.Needs.{needs}
 use borrow.Author.Tests.{not-true, not-false}
 use native.Mathlib.Omega.{arith}
 use mathlib.Core.Bool.{true, false}
 use mathlib.Core.Path.{_≡_, refl, sym, _∙_}
 use Prim.Native.Nat.{_+_, _*_}
-use Rattle.cursor.proofs.CheckLaws.{known}
+use Rattle.lexical.proofs.BoolLaws.{known}
 use Rattle.comments.proofs.LineLaws.{lineChars, line-turn}
 use Rattle.comments.proofs.all_line_chars.Statement.{statement}
 use Rattle.comments.proofs.all_line_chars.Tie as tie

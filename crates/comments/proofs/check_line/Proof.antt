@@ -1,10 +1,10 @@
--- Written by tools/proofkit from answers/check_line.tpl (4ecfe948 2df3883a).
+-- Written by tools/proofkit from answers/check_line.tpl (06eb7354 4fbb98e3).
 use borrow.Author.Needs.{needs}
 use native.Mathlib.Omega.{arith}
 use mathlib.Core.Bool.{true, false}
 use mathlib.Core.Path.{refl}
 use Rattle.format.specs.Decoding.{line}
-use Rattle.cursor.proofs.CheckLaws.{known}
+use Rattle.lexical.proofs.BoolLaws.{known}
 use Rattle.cursor.proofs.FieldLaws.{value, cut, field-lt}
 use Rattle.text.proofs.CharLaws.{field-end}
 use Rattle.comments.proofs.LineLaws.{line-short, line-whole}

@@ -1,10 +1,10 @@
--- Written by tools/proofkit from answers/is_line.tpl (78034c85 de32bfec).
+-- Written by tools/proofkit from answers/is_line.tpl (1aded7d9 71a12156).
 use borrow.Author.Needs.{needs}
 use borrow.Author.Tests.{not-true, not-false}
 use native.Mathlib.Omega.{arith}
 use mathlib.Core.Path.{_∙_}
 use Rattle.format.specs.Decoding.{lineOk}
-use Rattle.cursor.proofs.CheckLaws.{known}
+use Rattle.lexical.proofs.BoolLaws.{known}
 use Rattle.text.proofs.CharLaws.{chars-length}
 use Rattle.comments.proofs.LineLaws.{chars-last, last-none}
 use Rattle.comments.proofs.is_line.Statement.{statement}

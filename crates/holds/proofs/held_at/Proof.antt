@@ -1,6 +1,6 @@
--- Written by tools/proofkit from answers/held_at.tpl (12af1b97 5d4a3ac1).
+-- Written by tools/proofkit from answers/held_at.tpl (7fb805f0 0855f197).
 use borrow.Author.Needs.{needs}
-use Rattle.cursor.proofs.CheckLaws.{known}
+use Rattle.lexical.proofs.BoolLaws.{known}
 use Rattle.holds.proofs.FieldLaws.{yields-named, tells-by-name, tells-other}
 use Rattle.holds.proofs.held_at.Statement.{statement}
 use Rattle.holds.proofs.held_at.Tie as tie

@@ -1,8 +1,8 @@
--- Written by tools/proofkit from answers/put_item.tpl (6d2e94fb 6f9fb57a).
+-- Written by tools/proofkit from answers/put_item.tpl (6dc8fe3b 67ff5ba0).
 use borrow.Author.Needs.{needs}
 use mathlib.Core.Path.{sym, _∙_}
 use native.Mathlib.Omega.{arith}
-use Rattle.cursor.proofs.CheckLaws.{known}
+use Rattle.lexical.proofs.BoolLaws.{known}
 use Rattle.holds.proofs.FieldLaws.{struct-told, struct-kind}
 use Rattle.holds.proofs.EdgeLaws.{items-passed, holds-none, holds-other, puts-none, puts-item}
 use Rattle.holds.proofs.put_item.Statement.{statement}

@@ -1,10 +1,11 @@
--- Written by tools/proofkit from answers/check_enum.tpl (bf289364 d892ebd2).
+-- Written by tools/proofkit from answers/check_enum.tpl (081934ac e6407d05).
 use borrow.Author.Needs.{needs}
 use mathlib.Core.Path.{refl}
 use native.Mathlib.Omega.{arith}
 use Rattle.format.specs.Decoding.{enumBody}
 use Rattle.cursor.proofs.FieldLaws.{value, cut, field-lt, bit-checks}
-use Rattle.cursor.proofs.CheckLaws.{known, stepped, stopped, tail}
+use Rattle.lexical.proofs.BoolLaws.{known}
+use Rattle.cursor.proofs.CheckLaws.{stepped, stopped, tail}
 use Rattle.items.proofs.check_enum.Statement.{statement}
 use Rattle.items.proofs.check_enum.Tie as tie
 

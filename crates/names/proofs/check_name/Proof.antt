@@ -1,4 +1,4 @@
--- Written by tools/proofkit from answers/check_name.tpl (a90caed7 d81e118b).
+-- Written by tools/proofkit from answers/check_name.tpl (f6c3b4fe 6a66c66e).
 use borrow.Author.Needs.{needs}
 use native.Mathlib.Omega.{arith}
 use mathlib.Core.Path.{refl, sym}
@@ -6,7 +6,7 @@ use lib.Seq.{length-take-le}
 use Rattle.lexical.specs.Names.{isName}
 use Rattle.refusal.specs.declared.Refusal.the-variants.{BadName}
 use Rattle.format.specs.Decoding.{name}
-use Rattle.cursor.proofs.CheckLaws.{known}
+use Rattle.lexical.proofs.BoolLaws.{known}
 use Rattle.text.specs.Text.{ruledText}
 use Rattle.text.proofs.TextLaws.{text-value, text-none, text-lt}
 use Rattle.names.proofs.check_name.Statement.{statement}

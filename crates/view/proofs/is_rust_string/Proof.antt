@@ -1,8 +1,8 @@
--- Written by tools/proofkit from answers/is_rust_string.tpl (b1a6d284 9e06e260).
+-- Written by tools/proofkit from answers/is_rust_string.tpl (2f8a144f f74d0c25).
 use borrow.Author.Needs.{needs}
 use mathlib.Core.Path.{sym, _∙_}
 use native.Mathlib.Omega.{arith}
-use Rattle.cursor.proofs.CheckLaws.{known}
+use Rattle.lexical.proofs.BoolLaws.{known}
 use Rattle.view.proofs.TypeLaws.{string-atom, string-other}
 use Rattle.view.proofs.is_rust_string.Statement.{statement}
 use Rattle.view.proofs.is_rust_string.Tie as tie

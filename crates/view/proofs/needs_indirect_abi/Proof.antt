@@ -1,9 +1,9 @@
--- Written by tools/proofkit from answers/needs_indirect_abi.tpl (e6213ed3 a161e0b5).
+-- Written by tools/proofkit from answers/needs_indirect_abi.tpl (2362ed73 3feb4b5d).
 use borrow.Author.Needs.{needs}
 use mathlib.Core.Path.{sym, _∙_}
 use native.Mathlib.Omega.{arith}
 use Rattle.cursor.proofs.WidthLaws.{width-le}
-use Rattle.cursor.proofs.CheckLaws.{known}
+use Rattle.lexical.proofs.BoolLaws.{known}
 use Rattle.syntax.specs.Types.{needsIndirectAbi}
 use Rattle.view.proofs.TypeLaws.{indirect-atom, named-there, indirect-other}
 use Rattle.view.proofs.needs_indirect_abi.Statement.{statement}

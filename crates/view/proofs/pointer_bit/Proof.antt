@@ -1,9 +1,9 @@
--- Written by tools/proofkit from answers/pointer_bit.tpl (42e82c52 9b1f3488).
+-- Written by tools/proofkit from answers/pointer_bit.tpl (de1cde6f fe1ba64c).
 use borrow.Author.Needs.{needs}
 use mathlib.Core.Path.{sym, _∙_}
 use native.Mathlib.Omega.{arith}
 use lib.ListN.{length}
-use Rattle.cursor.proofs.CheckLaws.{known}
+use Rattle.lexical.proofs.BoolLaws.{known}
 use Rattle.view.specs.Values.{namesAt}
 use Rattle.view.proofs.TypeLaws.{pointer-at, pointer-none}
 use Rattle.view.proofs.pointer_bit.Statement.{statement}
