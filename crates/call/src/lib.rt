@@ -7,44 +7,44 @@ use shape::write_outermost;
 use shape::write_slot_type;
 use sink::put_bytes;
 use sink::put_when;
+use tables::Pool;
+use tables::Table;
 ghost use mathlib.Core.Path.{_≡_};
 ghost use mathlib.Core.List.{[], _++_};
 ghost use mathlib.Core.Bool.{true};
-ghost use lib.ListN.{length};
 ghost use Rattle.lexical.specs.Bytes.{bytes};
 ghost use Rattle.lexical.specs.Decimal.{pickText};
 ghost use Rattle.format.specs.Decoding.{type};
 ghost use Rattle.bridge.specs.Write.{shape as shapeOf, slotType, callBegin, callEnd, slotReturn};
 ghost use Rattle.sink.specs.Sink.{sink, Wrote};
 ghost use Rattle.cursor.specs.Checking.{Limited};
-ghost use Rattle.view.specs.Values.{Yields, itemsAt, typeHere, Whole};
 ghost use Rattle.call.specs.Calls.{isClosed};
+ghost use Rattle.tables.specs.Tables.{itemsOf, Lent, typeOf, Typed};
 
 // ---- the slot
 
 // The slot of the type at c, where the return is indirect.
 pub fn write_slot(
     s: &[u8],
-    names: &[u32],
-    items: &[u32],
+    t: &[u32; Table::PLACES],
+    pool: &[u8; Pool::BYTES],
     c: Cursor,
     indirect: bool,
     out: &mut [u8],
     at: usize,
 ) -> usize
-    requires { ⌜ Whole (now s) (now names) (now items) ×
-        (indirect ≡ true → Yields (type (length (now items)) (now s) (c .at))
-        (typeHere (length (now items)) (now s) (c .at))) ⌝ }
+    requires { ⌜ Lent (now s) (now t) (now pool) ×
+        (indirect ≡ true → Typed (now s) (now t) (c .at)) ⌝ }
     ensures { λ r. ⌜ Wrote (sink (now (out .entry)) at)
         (pickText indirect (bytes "::rust::MaybeUninit<" ++ slotType
-        (itemsAt (now (s .entry)) (now (names .entry)) (now (items .entry)))
-        (typeHere (length (now (items .entry))) (now (s .entry)) (c .at))
-        (shapeOf (typeHere (length (now (items .entry))) (now (s .entry))
-        (c .at))) ++ bytes "> return$;\n" ++ bytes "  ") []) (sink (now (out .exit)) r) ⌝ }
+        (itemsOf (now (s .entry)) (now (t .entry)))
+        (typeOf (now (s .entry)) (now (t .entry)) (c .at))
+        (shapeOf (typeOf (now (s .entry)) (now (t .entry)) (c .at))) ++ bytes "> return$;\n" ++ bytes "  ") [])
+        (sink (now (out .exit)) r) ⌝ }
 {
     if indirect {
         let a = put_bytes(out, at, b"::rust::MaybeUninit<");
-        let b = write_slot_type(s, names, items, c, out, a);
+        let b = write_slot_type(s, t, pool, c, out, a);
         let d = put_bytes(out, b, b"> return$;\n");
         return put_bytes(out, d, b"  ");
     }
@@ -56,35 +56,35 @@ pub fn write_slot(
 // What takes the call's result, of the type at c.
 fn write_call_begin(
     s: &[u8],
-    names: &[u32],
-    items: &[u32],
+    t: &[u32; Table::PLACES],
+    pool: &[u8; Pool::BYTES],
     c: Cursor,
     out: &mut [u8],
     at: usize,
 ) -> usize
-    requires { ⌜ Whole (now s) (now names) (now items) ×
-        Yields (type (length (now items)) (now s) (c .at)) (typeHere (length (now items)) (now s) (c .at)) ⌝ }
+    requires { ⌜ Lent (now s) (now t) (now pool) ×
+        Typed (now s) (now t) (c .at) ⌝ }
     ensures { λ r. ⌜ Wrote (sink (now (out .entry)) at)
-        (callBegin (itemsAt (now (s .entry)) (now (names .entry)) (now (items .entry)))
-        (typeHere (length (now (items .entry))) (now (s .entry)) (c .at))
-        (shapeOf (typeHere (length (now (items .entry))) (now (s .entry)) (c .at)))) (sink (now (out .exit)) r) ⌝ }
+        (callBegin (itemsOf (now (s .entry)) (now (t .entry)))
+        (typeOf (now (s .entry)) (now (t .entry)) (c .at))
+        (shapeOf (typeOf (now (s .entry)) (now (t .entry)) (c .at)))) (sink (now (out .exit)) r) ⌝ }
 {
-    let v = shape(s, items, c);
+    let v = shape(s, t, c);
     let kind = v.kind;
     match kind {
         ShapeKind::RustBox => {
-            let typed = write_outermost(s, names, items, c, out, at);
+            let typed = write_outermost(s, t, pool, c, out, at);
             put_bytes(out, typed, b"::from_raw(")
         }
         ShapeKind::UniquePtr => {
-            let typed = write_outermost(s, names, items, c, out, at);
+            let typed = write_outermost(s, t, pool, c, out, at);
             put_bytes(out, typed, b"(")
         }
         ShapeKind::Ref => put_bytes(out, at, b"*"),
         ShapeKind::Str => put_bytes(out, at, b"::rust::impl<::rust::Str>::new_unchecked("),
         ShapeKind::SliceRef => {
             let begun = put_bytes(out, at, b"::rust::impl<");
-            let typed = write_outermost(s, names, items, c, out, begun);
+            let typed = write_outermost(s, t, pool, c, out, begun);
             put_bytes(out, typed, b">::slice(")
         }
         ShapeKind::Other => at,
@@ -94,26 +94,25 @@ fn write_call_begin(
 // What stands before a call that returns the type at c, where the return is direct.
 pub fn write_return(
     s: &[u8],
-    names: &[u32],
-    items: &[u32],
+    t: &[u32; Table::PLACES],
+    pool: &[u8; Pool::BYTES],
     c: Cursor,
     direct: bool,
     out: &mut [u8],
     at: usize,
 ) -> usize
-    requires { ⌜ Whole (now s) (now names) (now items) ×
-        (direct ≡ true → Yields (type (length (now items)) (now s) (c .at))
-        (typeHere (length (now items)) (now s) (c .at))) ⌝ }
+    requires { ⌜ Lent (now s) (now t) (now pool) ×
+        (direct ≡ true → Typed (now s) (now t) (c .at)) ⌝ }
     ensures { λ r. ⌜ Wrote (sink (now (out .entry)) at)
         (pickText direct (bytes "return " ++ callBegin
-        (itemsAt (now (s .entry)) (now (names .entry)) (now (items .entry)))
-        (typeHere (length (now (items .entry))) (now (s .entry)) (c .at))
-        (shapeOf (typeHere (length (now (items .entry))) (now (s .entry)) (c .at)))) [])
+        (itemsOf (now (s .entry)) (now (t .entry)))
+        (typeOf (now (s .entry)) (now (t .entry)) (c .at))
+        (shapeOf (typeOf (now (s .entry)) (now (t .entry)) (c .at)))) [])
         (sink (now (out .exit)) r) ⌝ }
 {
     if direct {
         let behind = put_bytes(out, at, b"return ");
-        return write_call_begin(s, names, items, c, out, behind);
+        return write_call_begin(s, t, pool, c, out, behind);
     }
     at
 }
@@ -134,20 +133,19 @@ fn is_closed(kind: ShapeKind) -> bool
 // What closes the function that takes the call's result, where the return is direct.
 pub fn put_call_end(
     s: &[u8],
-    items: &[u32],
+    t: &[u32; Table::PLACES],
     c: Cursor,
     direct: bool,
     out: &mut [u8],
     at: usize,
 ) -> usize
-    requires { ⌜ Limited (now s) × (direct ≡ true → Yields (type (length (now items)) (now s) (c .at))
-        (typeHere (length (now items)) (now s) (c .at))) ⌝ }
+    requires { ⌜ Limited (now s) × (direct ≡ true → Typed (now s) (now t) (c .at)) ⌝ }
     ensures { λ r. ⌜ Wrote (sink (now (out .entry)) at)
-        (pickText direct (callEnd (shapeOf (typeHere (length (now (items .entry))) (now (s .entry)) (c .at)))) [])
+        (pickText direct (callEnd (shapeOf (typeOf (now (s .entry)) (now (t .entry)) (c .at)))) [])
         (sink (now (out .exit)) r) ⌝ }
 {
     if direct {
-        let v = shape(s, items, c);
+        let v = shape(s, t, c);
         let kind = v.kind;
         let closed = is_closed(kind);
         return put_when(out, at, closed, b")");
@@ -171,21 +169,20 @@ fn put_slot_value(reference: bool, out: &mut [u8], at: usize) -> usize
 // The return of what the slot of the type at c holds, where the return is indirect.
 pub fn put_slot_return(
     s: &[u8],
-    items: &[u32],
+    t: &[u32; Table::PLACES],
     c: Cursor,
     indirect: bool,
     out: &mut [u8],
     at: usize,
 ) -> usize
-    requires { ⌜ Limited (now s) × (indirect ≡ true → Yields (type (length (now items)) (now s) (c .at))
-        (typeHere (length (now items)) (now s) (c .at))) ⌝ }
+    requires { ⌜ Limited (now s) × (indirect ≡ true → Typed (now s) (now t) (c .at)) ⌝ }
     ensures { λ r. ⌜ Wrote (sink (now (out .entry)) at)
         (pickText indirect (bytes "  return " ++ slotReturn
-        (shapeOf (typeHere (length (now (items .entry))) (now (s .entry)) (c .at))) ++ bytes ";\n") [])
+        (shapeOf (typeOf (now (s .entry)) (now (t .entry)) (c .at))) ++ bytes ";\n") [])
         (sink (now (out .exit)) r) ⌝ }
 {
     if indirect {
-        let v = shape(s, items, c);
+        let v = shape(s, t, c);
         let kind = v.kind;
         let reference = is_ref(kind);
         let a = put_bytes(out, at, b"  return ");

@@ -1,5 +1,6 @@
 -- Rules 9 to 12 on the items of a decoded sheet: "lowest number".
 use mathlib.Core.List.{List}
+use mathlib.Core.Bool.{Bool}
 use Rattle.refusal.specs.declared.Refusal.the-variants.{WrongPart, Taken, UnfitArgument, Ring}
 use Rattle.format.specs.Decode.{pick}
 use Rattle.format.specs.Sheet.{Item}
@@ -14,9 +15,12 @@ ruledParts items =
     (pick (taken items) (Refused Taken)
     (pick (unfitArgument items) (Refused UnfitArgument) Accepted))
 
--- rule 12
+-- rule 12, where there is a ring or none
+abbrev pub ringed : Bool → Checked
+ringed b = pick b (Refused Ring) Accepted
+
 abbrev pub ruledRing : List Item → Checked
-ruledRing items = pick (ring items) (Refused Ring) Accepted
+ruledRing items = ringed (ring items)
 
 -- a refusal, else the next answer
 abbrev pub elseChecked : Checked → Checked → Checked

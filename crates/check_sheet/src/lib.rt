@@ -6,9 +6,11 @@ use judge::unfit_argument;
 use judge::wrong_part;
 use marks::Mark;
 use order::ring;
+use order::ring_in;
 use refusal::Refusal;
 use rules::Checked;
 use taken::taken;
+use toposort::Traversal;
 ghost use mathlib.Core.Path.{_≡_};
 ghost use Prim.Native.Nat.{_≤_};
 ghost use lib.ListN.{length, replicate};
@@ -18,8 +20,8 @@ ghost use Rattle.decode.specs.Tables.{Tables, Answers};
 ghost use Rattle.marks.specs.Marking.{places};
 ghost use Rattle.judge.specs.Marked.{Marked};
 ghost use Rattle.rules.specs.Judge.{check as checkOf};
-ghost use Rattle.view.specs.Values.{itemsAt, Whole, Ready};
-ghost use Rattle.check_sheet.specs.Ruled.{ruledParts, ruledRing, ruledItems};
+ghost use Rattle.view.specs.Values.{itemsAt, Ready};
+ghost use Rattle.check_sheet.specs.Ruled.{ruledParts, ringed, ruledItems};
 
 // Rules 9 to 11, the lowest number first.
 pub fn judge_parts(
@@ -48,13 +50,11 @@ pub fn judge_parts(
     Checked::Accepted
 }
 
-// Rule 12.
-fn judge_ring(s: &[u8], names: &[u32], items: &[u32]) -> Checked
-    requires { ⌜ Whole (now s) (now names) (now items) ⌝ }
-    ensures { λ r. ⌜ r ≡ ruledRing (itemsAt (now (s .entry)) (now (names .entry)) (now (items .entry))) ⌝ }
+// Rule 12, where it is known whether there is a ring.
+fn judge_ring(ring: bool) -> Checked
+    ensures { λ r. ⌜ r ≡ ringed ring ⌝ }
 {
-    let held = ring(s, names, items);
-    if held {
+    if ring {
         return Checked::Refused(Refusal::Ring);
     }
     Checked::Accepted
@@ -75,7 +75,33 @@ pub fn judge(
     let parts = judge_parts(s, names, items, digests, marks);
     match parts {
         Checked::Refused(e) => Checked::Refused(e),
-        Checked::Accepted => judge_ring(s, names, items),
+        Checked::Accepted => {
+            let found = ring(s, names, items);
+            judge_ring(found)
+        }
+    }
+}
+
+// The same, where the bytes for what each struct holds are lent.
+pub fn judge_in(
+    s: &[u8],
+    names: &[u32],
+    items: &[u32],
+    digests: &[u32],
+    marks: &[u8; Mark::PLACES],
+    held: &mut [u8; Traversal::HELD],
+) -> Checked
+    requires { ⌜ Ready (now s) (now names) (now items) (now digests) ×
+        Marked (now s) (now names) (now items) (now marks) ⌝ }
+    ensures { λ r. ⌜ r ≡ ruledItems (itemsAt (now (s .entry)) (now (names .entry)) (now (items .entry))) ⌝ }
+{
+    let parts = judge_parts(s, names, items, digests, marks);
+    match parts {
+        Checked::Refused(e) => Checked::Refused(e),
+        Checked::Accepted => {
+            let found = ring_in(s, names, items, held);
+            judge_ring(found)
+        }
     }
 }
 

@@ -10,6 +10,8 @@ use shape::shape;
 use shape::write_outermost_space;
 use shape::write_pointer;
 use sink::put_bytes;
+use tables::Pool;
+use tables::Table;
 use view::FunctionView;
 use view::ItemView;
 ghost use mathlib.Core.Path.{_≡_};
@@ -20,63 +22,62 @@ ghost use Rattle.syntax.specs.Items.{itemAt};
 ghost use Rattle.bridge.specs.Write.{shape as shapeOf, directReturn, externReturn};
 ghost use Rattle.bridge.specs.Write.{functionDecl, layoutDecl, layoutDefinition};
 ghost use Rattle.sink.specs.Sink.{sink, Wrote};
-ghost use Rattle.view.specs.Values.{Yields, itemsAt, functionAt, typeHere, Whole};
-ghost use Rattle.view.specs.Views.{ItemAt, FunctionAt, ArgumentsAt};
+ghost use Rattle.tables.specs.Tables.{itemsOf, functionOf, Item, Function, Arguments, Lent, typeOf, Typed};
 
 // ---- the return type
 
 // The type at c where it is returned directly.
 fn write_direct_return(
     s: &[u8],
-    names: &[u32],
-    items: &[u32],
+    t: &[u32; Table::PLACES],
+    pool: &[u8; Pool::BYTES],
     c: Cursor,
     out: &mut [u8],
     at: usize,
 ) -> usize
-    requires { ⌜ Whole (now s) (now names) (now items) ×
-        Yields (type (length (now items)) (now s) (c .at)) (typeHere (length (now items)) (now s) (c .at)) ⌝ }
+    requires { ⌜ Lent (now s) (now t) (now pool) ×
+        Typed (now s) (now t) (c .at) ⌝ }
     ensures { λ r. ⌜ Wrote (sink (now (out .entry)) at)
-        (directReturn (itemsAt (now (s .entry)) (now (names .entry)) (now (items .entry)))
-        (typeHere (length (now (items .entry))) (now (s .entry)) (c .at))
-        (shapeOf (typeHere (length (now (items .entry))) (now (s .entry)) (c .at)))) (sink (now (out .exit)) r) ⌝ }
+        (directReturn (itemsOf (now (s .entry)) (now (t .entry)))
+        (typeOf (now (s .entry)) (now (t .entry)) (c .at))
+        (shapeOf (typeOf (now (s .entry)) (now (t .entry)) (c .at)))) (sink (now (out .exit)) r) ⌝ }
 {
-    let v = shape(s, items, c);
+    let v = shape(s, t, c);
     let kind = v.kind;
     match kind {
-        ShapeKind::RustBox => write_pointer(s, names, items, v.inner, true, out, at),
-        ShapeKind::UniquePtr => write_pointer(s, names, items, v.inner, true, out, at),
-        ShapeKind::Ref => write_pointer(s, names, items, v.inner, v.mutable, out, at),
+        ShapeKind::RustBox => write_pointer(s, t, pool, v.inner, true, out, at),
+        ShapeKind::UniquePtr => write_pointer(s, t, pool, v.inner, true, out, at),
+        ShapeKind::Ref => write_pointer(s, t, pool, v.inner, v.mutable, out, at),
         ShapeKind::Str => put_bytes(out, at, b"::rust::repr::Fat "),
         ShapeKind::SliceRef => put_bytes(out, at, b"::rust::repr::Fat "),
-        ShapeKind::Other => write_outermost_space(s, names, items, c, out, at),
+        ShapeKind::Other => write_outermost_space(s, t, pool, c, out, at),
     }
 }
 
 // `write_extern_return_type_space`
 fn write_extern_return(
     s: &[u8],
-    names: &[u32],
-    items: &[u32],
+    t: &[u32; Table::PLACES],
+    pool: &[u8; Pool::BYTES],
     f: FunctionView,
     out: &mut [u8],
     at: usize,
 ) -> usize
-    requires { ⌜ Whole (now s) (now names) (now items) × FunctionAt (now s) (now names) (now items) f ⌝ }
+    requires { ⌜ Lent (now s) (now t) (now pool) × Function (now s) (now t) f ⌝ }
     ensures { λ r. ⌜ Wrote (sink (now (out .entry)) at)
-        (externReturn (itemsAt (now (s .entry)) (now (names .entry)) (now (items .entry)))
-        (functionAt (now (s .entry)) (now (names .entry)) (now (items .entry)) (f .number)))
+        (externReturn (itemsOf (now (s .entry)) (now (t .entry)))
+        (functionOf (now (s .entry)) (now (t .entry)) (f .number)))
         (sink (now (out .exit)) r) ⌝ }
 {
     if f.throws {
         return put_bytes(out, at, b"::rust::repr::PtrLen ");
     }
-    let indirect = indirect_return(s, names, items, f);
+    let indirect = indirect_return(s, t, f);
     if indirect {
         return put_bytes(out, at, b"void ");
     }
     if f.returns {
-        return write_direct_return(s, names, items, f.result, out, at);
+        return write_direct_return(s, t, pool, f.result, out, at);
     }
     put_bytes(out, at, b"void ")
 }
@@ -86,27 +87,27 @@ fn write_extern_return(
 // `write_rust_function_decl_impl`
 pub fn write_function_decl(
     s: &[u8],
-    names: &[u32],
-    items: &[u32],
+    t: &[u32; Table::PLACES],
+    pool: &[u8; Pool::BYTES],
     v: ItemView,
     f: FunctionView,
     offsets: &[u32],
     out: &mut [u8],
     at: usize,
 ) -> usize
-    requires { ⌜ Whole (now s) (now names) (now items) × ItemAt (now s) (now names) (now items) v ×
-        FunctionAt (now s) (now names) (now items) f × (f .number ≡ v .number) ×
-        ArgumentsAt (now s) (now names) (now items) f (now offsets) × (f .arguments ≤ length (now offsets)) ⌝ }
+    requires { ⌜ Lent (now s) (now t) (now pool) × Item (now s) (now t) v ×
+        Function (now s) (now t) f × (f .number ≡ v .number) ×
+        Arguments (now s) (now t) f (now offsets) × (f .arguments ≤ length (now offsets)) ⌝ }
     ensures { λ r. ⌜ Wrote (sink (now (out .entry)) at)
-        (functionDecl (itemsAt (now (s .entry)) (now (names .entry)) (now (items .entry)))
-        (itemAt (itemsAt (now (s .entry)) (now (names .entry)) (now (items .entry))) (v .number))
-        (functionAt (now (s .entry)) (now (names .entry)) (now (items .entry)) (v .number)))
+        (functionDecl (itemsOf (now (s .entry)) (now (t .entry)))
+        (itemAt (itemsOf (now (s .entry)) (now (t .entry))) (v .number))
+        (functionOf (now (s .entry)) (now (t .entry)) (v .number)))
         (sink (now (out .exit)) r) ⌝ }
 {
-    let returned = write_extern_return(s, names, items, f, out, at);
-    let named = write_extern_fn(s, names, items, v, f, out, returned);
+    let returned = write_extern_return(s, t, pool, f, out, at);
+    let named = write_extern_fn(s, t, pool, v, f, out, returned);
     let opened = put_bytes(out, named, b"(");
-    let listed = write_parameters(s, names, items, f, offsets, out, opened);
+    let listed = write_parameters(s, t, pool, f, offsets, out, opened);
     put_bytes(out, listed, b") noexcept;\n")
 }
 
@@ -115,46 +116,46 @@ pub fn write_function_decl(
 // The declaration of an opaque type's size or alignment.
 pub fn write_layout_decl(
     s: &[u8],
-    names: &[u32],
-    items: &[u32],
+    t: &[u32; Table::PLACES],
+    pool: &[u8; Pool::BYTES],
     v: ItemView,
     name: &[u8],
     out: &mut [u8],
     at: usize,
 ) -> usize
-    requires { ⌜ Whole (now s) (now names) (now items) × ItemAt (now s) (now names) (now items) v ⌝ }
+    requires { ⌜ Lent (now s) (now t) (now pool) × Item (now s) (now t) v ⌝ }
     ensures { λ r. ⌜ Wrote (sink (now (out .entry)) at)
-        (layoutDecl (itemAt (itemsAt (now (s .entry)) (now (names .entry)) (now (items .entry))) (v .number))
+        (layoutDecl (itemAt (itemsOf (now (s .entry)) (now (t .entry))) (v .number))
         (now (name .entry))) (sink (now (out .exit)) r) ⌝ }
 {
     let typed = put_bytes(out, at, b"::std::size_t ");
-    let named = write_operator(s, names, items, v, name, out, typed);
+    let named = write_operator(s, t, pool, v, name, out, typed);
     put_bytes(out, named, b"() noexcept;\n")
 }
 
 // Its definition as a member of the type's layout.
 pub fn write_layout_definition(
     s: &[u8],
-    names: &[u32],
-    items: &[u32],
+    t: &[u32; Table::PLACES],
+    pool: &[u8; Pool::BYTES],
     v: ItemView,
     member: &[u8],
     name: &[u8],
     out: &mut [u8],
     at: usize,
 ) -> usize
-    requires { ⌜ Whole (now s) (now names) (now items) × ItemAt (now s) (now names) (now items) v ⌝ }
+    requires { ⌜ Lent (now s) (now t) (now pool) × Item (now s) (now t) v ⌝ }
     ensures { λ r. ⌜ Wrote (sink (now (out .entry)) at)
-        (layoutDefinition (itemAt (itemsAt (now (s .entry)) (now (names .entry)) (now (items .entry))) (v .number))
+        (layoutDefinition (itemAt (itemsOf (now (s .entry)) (now (t .entry))) (v .number))
         (now (member .entry)) (now (name .entry))) (sink (now (out .exit)) r) ⌝ }
 {
     let typed = put_bytes(out, at, b"::std::size_t ");
-    let of = write_cxx_name(s, names, items, v.number, out, typed);
+    let of = write_cxx_name(s, t, pool, v.number, out, typed);
     let inside = put_bytes(out, of, b"::layout::");
     let named = put_bytes(out, inside, member);
     let begun = put_bytes(out, named, b"() noexcept {\n");
     let returned = put_bytes(out, begun, b"  return ");
-    let called = write_operator(s, names, items, v, name, out, returned);
+    let called = write_operator(s, t, pool, v, name, out, returned);
     let ended = put_bytes(out, called, b"();\n");
     put_bytes(out, ended, b"}\n")
 }

@@ -1,11 +1,13 @@
 // The head of a shim.
 use mangle::write_cxx_name;
-use names::name_reads;
-use put_name::put_name_of;
 use shape::write_outermost_space;
 use sink::put_bytes;
 use sink::put_unless;
 use sink::put_when;
+use tables::Pool;
+use tables::Table;
+use tables::put_name_of;
+use tables::reads;
 use view::FunctionView;
 use view::ItemView;
 use view::argument;
@@ -20,8 +22,7 @@ ghost use Rattle.syntax.specs.Items.{itemAt};
 ghost use Rattle.bridge.specs.WriteType.{writeTypeSpace, writeReturnType};
 ghost use Rattle.bridge.specs.Write.{commas, isCxxMain, localName, shimDecl};
 ghost use Rattle.sink.specs.Sink.{sink, Wrote};
-ghost use Rattle.view.specs.Values.{itemsAt, functionAt, argumentAt, Whole};
-ghost use Rattle.view.specs.Views.{ItemAt, FunctionAt, ArgumentsAt};
+ghost use Rattle.tables.specs.Tables.{itemsOf, functionOf, argumentOf, Tabled, Item, Function, Arguments, Lent};
 
 fn both(a: bool, b: bool) -> bool
     ensures { λ r. ⌜ r ≡ a && b ⌝ }
@@ -33,13 +34,13 @@ fn both(a: bool, b: bool) -> bool
 }
 
 // Whether the function is the program's `main`.
-fn is_main(s: &[u8], names: &[u32], items: &[u32], v: ItemView, f: FunctionView) -> bool
-    requires { ⌜ Whole (now s) (now names) (now items) × ItemAt (now s) (now names) (now items) v ×
-        FunctionAt (now s) (now names) (now items) f ⌝ }
-    ensures { λ r. ⌜ r ≡ isCxxMain (itemAt (itemsAt (now (s .entry)) (now (names .entry)) (now (items .entry)))
-        (v .number)) (functionAt (now (s .entry)) (now (names .entry)) (now (items .entry)) (f .number)) ⌝ }
+fn is_main(s: &[u8], t: &[u32; Table::PLACES], v: ItemView, f: FunctionView) -> bool
+    requires { ⌜ Tabled (now s) (now t) × Item (now s) (now t) v ×
+        Function (now s) (now t) f ⌝ }
+    ensures { λ r. ⌜ r ≡ isCxxMain (itemAt (itemsOf (now (s .entry)) (now (t .entry)))
+        (v .number)) (functionOf (now (s .entry)) (now (t .entry)) (f .number)) ⌝ }
 {
-    let named = name_reads(s, names, v.name, b"main");
+    let named = reads(s, t, v.name, b"main");
     let root = both(named, v.depth == 0);
     let free = both(root, f.form == 0);
     let bare = both(free, f.arguments == 0);
@@ -50,28 +51,28 @@ fn is_main(s: &[u8], names: &[u32], items: &[u32], v: ItemView, f: FunctionView)
 // The type that the shim returns: that of the function, but for `main`.
 fn write_shim_type(
     s: &[u8],
-    names: &[u32],
-    items: &[u32],
+    t: &[u32; Table::PLACES],
+    pool: &[u8; Pool::BYTES],
     v: ItemView,
     f: FunctionView,
     out: &mut [u8],
     at: usize,
 ) -> usize
-    requires { ⌜ Whole (now s) (now names) (now items) × ItemAt (now s) (now names) (now items) v ×
-        FunctionAt (now s) (now names) (now items) f ⌝ }
+    requires { ⌜ Lent (now s) (now t) (now pool) × Item (now s) (now t) v ×
+        Function (now s) (now t) f ⌝ }
     ensures { λ r. ⌜ Wrote (sink (now (out .entry)) at)
-        (pickText (isCxxMain (itemAt (itemsAt (now (s .entry)) (now (names .entry)) (now (items .entry))) (v .number))
-        (functionAt (now (s .entry)) (now (names .entry)) (now (items .entry)) (f .number))) (bytes "int ")
-        (writeReturnType (itemsAt (now (s .entry)) (now (names .entry)) (now (items .entry)))
-        (functionAt (now (s .entry)) (now (names .entry)) (now (items .entry)) (f .number) .return)))
+        (pickText (isCxxMain (itemAt (itemsOf (now (s .entry)) (now (t .entry))) (v .number))
+        (functionOf (now (s .entry)) (now (t .entry)) (f .number))) (bytes "int ")
+        (writeReturnType (itemsOf (now (s .entry)) (now (t .entry)))
+        (functionOf (now (s .entry)) (now (t .entry)) (f .number) .return)))
         (sink (now (out .exit)) r) ⌝ }
 {
-    let main = is_main(s, names, items, v, f);
+    let main = is_main(s, t, v, f);
     if main {
         return put_bytes(out, at, b"int ");
     }
     if f.returns {
-        return write_outermost_space(s, names, items, f.result, out, at);
+        return write_outermost_space(s, t, pool, f.result, out, at);
     }
     put_bytes(out, at, b"void ")
 }
@@ -79,67 +80,67 @@ fn write_shim_type(
 // The name that the head defines, behind that of the self type where there is one.
 fn write_local_name(
     s: &[u8],
-    names: &[u32],
-    items: &[u32],
+    t: &[u32; Table::PLACES],
+    pool: &[u8; Pool::BYTES],
     v: ItemView,
     f: FunctionView,
     out: &mut [u8],
     at: usize,
 ) -> usize
-    requires { ⌜ Whole (now s) (now names) (now items) × ItemAt (now s) (now names) (now items) v ×
-        FunctionAt (now s) (now names) (now items) f ⌝ }
+    requires { ⌜ Lent (now s) (now t) (now pool) × Item (now s) (now t) v ×
+        Function (now s) (now t) f ⌝ }
     ensures { λ r. ⌜ Wrote (sink (now (out .entry)) at)
-        (localName (itemsAt (now (s .entry)) (now (names .entry)) (now (items .entry)))
-        (itemAt (itemsAt (now (s .entry)) (now (names .entry)) (now (items .entry))) (v .number))
-        (functionAt (now (s .entry)) (now (names .entry)) (now (items .entry)) (f .number)))
+        (localName (itemsOf (now (s .entry)) (now (t .entry)))
+        (itemAt (itemsOf (now (s .entry)) (now (t .entry))) (v .number))
+        (functionOf (now (s .entry)) (now (t .entry)) (f .number)))
         (sink (now (out .exit)) r) ⌝ }
 {
     if f.form == 0 {
-        return put_name_of(s, names, v.name, out, at);
+        return put_name_of(s, t, pool, v.name, out, at);
     }
-    let owned = write_cxx_name(s, names, items, f.owner, out, at);
+    let owned = write_cxx_name(s, t, pool, f.owner, out, at);
     let behind = put_bytes(out, owned, b"::");
-    put_name_of(s, names, v.name, out, behind)
+    put_name_of(s, t, pool, v.name, out, behind)
 }
 
 // Parameter j.
 fn write_parameter(
     s: &[u8],
-    names: &[u32],
-    items: &[u32],
+    t: &[u32; Table::PLACES],
+    pool: &[u8; Pool::BYTES],
     f: FunctionView,
     offsets: &[u32],
     j: u32,
     out: &mut [u8],
     at: usize,
 ) -> usize
-    requires { ⌜ Whole (now s) (now names) (now items) × ArgumentsAt (now s) (now names) (now items) f (now offsets) ×
+    requires { ⌜ Lent (now s) (now t) (now pool) × Arguments (now s) (now t) f (now offsets) ×
         (j < f .arguments) × (f .arguments ≤ length (now offsets)) ⌝ }
     ensures { λ r. ⌜ Wrote (sink (now (out .entry)) at)
-        (writeTypeSpace (itemsAt (now (s .entry)) (now (names .entry)) (now (items .entry)))
-        (argumentAt (now (s .entry)) (now (names .entry)) (now (items .entry)) (f .number) j .type) ++ argumentAt
-        (now (s .entry)) (now (names .entry)) (now (items .entry)) (f .number) j .name) (sink (now (out .exit)) r) ⌝ }
+        (writeTypeSpace (itemsOf (now (s .entry)) (now (t .entry)))
+        (argumentOf (now (s .entry)) (now (t .entry)) (f .number) j .type) ++
+        argumentOf (now (s .entry)) (now (t .entry)) (f .number) j .name) (sink (now (out .exit)) r) ⌝ }
 {
-    let a = argument(s, names, items, f, offsets, j);
-    let behind = write_outermost_space(s, names, items, a.of, out, at);
-    put_name_of(s, names, a.name, out, behind)
+    let a = argument(offsets, j);
+    let behind = write_outermost_space(s, t, pool, a.of, out, at);
+    put_name_of(s, t, pool, a.name, out, behind)
 }
 
 // The parameters.
 fn write_parameters(
     s: &[u8],
-    names: &[u32],
-    items: &[u32],
+    t: &[u32; Table::PLACES],
+    pool: &[u8; Pool::BYTES],
     f: FunctionView,
     offsets: &[u32],
     out: &mut [u8],
     at: usize,
 ) -> usize
-    requires { ⌜ Whole (now s) (now names) (now items) × ArgumentsAt (now s) (now names) (now items) f (now offsets) ×
+    requires { ⌜ Lent (now s) (now t) (now pool) × Arguments (now s) (now t) f (now offsets) ×
         (f .arguments ≤ length (now offsets)) ⌝ }
     ensures { λ r. ⌜ Wrote (sink (now (out .entry)) at)
-        (commas false (map (λ a. writeTypeSpace (itemsAt (now (s .entry)) (now (names .entry)) (now (items .entry)))
-        (a .type) ++ a .name) (functionAt (now (s .entry)) (now (names .entry)) (now (items .entry))
+        (commas false (map (λ a. writeTypeSpace (itemsOf (now (s .entry)) (now (t .entry)))
+        (a .type) ++ a .name) (functionOf (now (s .entry)) (now (t .entry))
         (f .number) .arguments))) (sink (now (out .exit)) r) ⌝ }
 {
     let mut here = at;
@@ -147,7 +148,7 @@ fn write_parameters(
     let mut j: u32 = 0;
     while j < f.arguments {
         let behind = put_when(out, here, comma, b", ");
-        here = write_parameter(s, names, items, f, offsets, j, out, behind);
+        here = write_parameter(s, t, pool, f, offsets, j, out, behind);
         comma = true;
         j = j + 1;
     }
@@ -157,27 +158,27 @@ fn write_parameters(
 // The head of the function's shim.
 pub fn write_shim_decl(
     s: &[u8],
-    names: &[u32],
-    items: &[u32],
+    t: &[u32; Table::PLACES],
+    pool: &[u8; Pool::BYTES],
     v: ItemView,
     f: FunctionView,
     offsets: &[u32],
     out: &mut [u8],
     at: usize,
 ) -> usize
-    requires { ⌜ Whole (now s) (now names) (now items) × ItemAt (now s) (now names) (now items) v ×
-        FunctionAt (now s) (now names) (now items) f × (f .number ≡ v .number) ×
-        ArgumentsAt (now s) (now names) (now items) f (now offsets) × (f .arguments ≤ length (now offsets)) ⌝ }
+    requires { ⌜ Lent (now s) (now t) (now pool) × Item (now s) (now t) v ×
+        Function (now s) (now t) f × (f .number ≡ v .number) ×
+        Arguments (now s) (now t) f (now offsets) × (f .arguments ≤ length (now offsets)) ⌝ }
     ensures { λ r. ⌜ Wrote (sink (now (out .entry)) at)
-        (shimDecl (itemsAt (now (s .entry)) (now (names .entry)) (now (items .entry)))
-        (itemAt (itemsAt (now (s .entry)) (now (names .entry)) (now (items .entry))) (v .number))
-        (functionAt (now (s .entry)) (now (names .entry)) (now (items .entry)) (f .number)))
+        (shimDecl (itemsOf (now (s .entry)) (now (t .entry)))
+        (itemAt (itemsOf (now (s .entry)) (now (t .entry))) (v .number))
+        (functionOf (now (s .entry)) (now (t .entry)) (f .number)))
         (sink (now (out .exit)) r) ⌝ }
 {
-    let a = write_shim_type(s, names, items, v, f, out, at);
-    let b = write_local_name(s, names, items, v, f, out, a);
+    let a = write_shim_type(s, t, pool, v, f, out, at);
+    let b = write_local_name(s, t, pool, v, f, out, a);
     let c = put_bytes(out, b, b"(");
-    let d = write_parameters(s, names, items, f, offsets, out, c);
+    let d = write_parameters(s, t, pool, f, offsets, out, c);
     let e = put_bytes(out, d, b")");
     let g = put_when(out, e, f.form == 1, b" const");
     put_unless(out, g, f.throws, b" noexcept")

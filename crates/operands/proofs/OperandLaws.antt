@@ -1,10 +1,10 @@
 -- Laws of the arguments of a shim's call.
 use mathlib.Core.Path.{_≡_, refl, sym, ap, _∙_}
 use mathlib.Core.List.{List, [], _∷_, _++_, map}
-use mathlib.Core.Bool.{Bool, true, false, _||_}
+use mathlib.Core.Bool.{Bool, true, false, _||_, not, _&&_}
 use Prim.Native.Nat.{ℕ}
 use lib.Dec.{ltb}
-use lib.ListN.{getD}
+use lib.ListN.{length, getD}
 use Rattle.lexical.specs.Bytes.{bytes}
 use Rattle.lexical.specs.Decimal.{pickText}
 use Rattle.sink.specs.Sink.{Sink, Wrote}
@@ -20,7 +20,7 @@ use Rattle.bridge.specs.Write.{commas, shape, indirectReturn, isHeld, heldLocal
 use Rattle.view.specs.declared.FunctionView.{FunctionView}
 use Rattle.view.specs.declared.ArgumentView.{ArgumentView}
 use Rattle.view.specs.Values.{nameAt, itemsAt, functionAt, typeHere}
-use Rattle.view.specs.Views.{FunctionAt, ArgumentOf, ArgumentsAt}
+use Rattle.view.specs.Views.{FunctionAt, ArgumentOf, FactsOf, ArgumentsAt}
 use Rattle.shape.specs.declared.ShapeKind.{ShapeKind}
 use Rattle.shape.specs.declared.ShapeKind.the-variants.{RustBox, UniquePtr, Ref, Str, SliceRef, Other}
 use Rattle.shape.specs.declared.ShapeView.{ShapeView}
@@ -36,26 +36,22 @@ end-by-kind held e p = rw e p
 
 -- ---- held arguments
 
-module _ (items : List Item) (t : Ty) {string : Bool} (e : string ≡ isRustString t) where
-  pub held-string : string ≡ true → false ≡ isHeld items t
-  unfolding isHeld
-  held-string h = rw (← e, h)
-
-  pub held-other : {b : Bool} → string ≡ false → b ≡ needsIndirectAbi items t → b ≡ isHeld items t
-  unfolding isHeld
-  held-other h q = q ∙ rw (← e, h)
+pub held-is : {s names items : List ℕ} {v : ArgumentView} {b : Bool} → FactsOf s names items v →
+    b ≡ (not (v .string) && v .indirect) → b ≡ isHeld (itemsAt s names items) (typeHere (length items) s (v .of .at))
+unfolding isHeld
+held-is f e = e ∙ rw (f .string, f .indirect)
 
 module _ (items : List Item) {s names : List ℕ} {n : ℕ} {x : Argument} {v : ArgumentView} (a : ArgumentOf s names n x v)
     {held : Bool} (h : held ≡ isHeld items (typeHere n s (v .of .at))) where
   type-is : typeHere n s (v .of .at) ≡ x .type
   type-is = here-is n s (v .of .at) (a .of)
 
-  held-is : held ≡ isHeld items (x .type)
-  held-is = h ∙ ap (isHeld items) type-is
+  held-by : held ≡ isHeld items (x .type)
+  held-by = h ∙ ap (isHeld items) type-is
 
   pub local-none : (r : Sink) → held ≡ false → Wrote r (heldLocal items x) r
   unfolding heldLocal
-  local-none r e = rw (← held-is, e) (wrote-nil r)
+  local-none r e = rw (← held-by, e) (wrote-nil r)
 
   pub local-written : {r t : Sink} → held ≡ true →
       Wrote r (bytes "  ::rust::ManuallyDrop<" ++ writeType items (typeHere n s (v .of .at)) ++ bytes "> "
@@ -63,7 +59,7 @@ module _ (items : List Item) {s names : List ℕ} {n : ℕ} {x : Argument} {v : 
       ++ bytes "));\n") t →
       Wrote r (heldLocal items x) t
   unfolding heldLocal
-  local-written e p = wrote-as p (rw (← held-is, e, type-is, a .name))
+  local-written e p = wrote-as p (rw (← held-by, e, type-is, a .name))
 
   -- ---- operands
 
@@ -86,7 +82,7 @@ module _ (items : List Item) {s names : List ℕ} {n : ℕ} {x : Argument} {v : 
       wrote-as p (ap (λ (b : Bool). pickText b (bytes "&") []) (i ∙ ap (needsIndirectAbi items) type-is)) ▷
       wrote-as q (a .name) ▷
       wrote-as z
-      (end-of (k .kind) _ _ ∙ ap (λ y. operandEnd y held) (sym (o .is)) ∙ rw (type-is, held-is))
+      (end-of (k .kind) _ _ ∙ ap (λ y. operandEnd y held) (sym (o .is)) ∙ rw (type-is, held-by))
 
 -- ---- the operands of a call
 

@@ -1,7 +1,7 @@
 -- The sort of the table that was filled from a sheet is the order of the sheet's structs.
 use mathlib.Core.Path.{_≡_, refl, sym, ap, fun-ext}
 use mathlib.Core.List.{List, []}
-use mathlib.Core.Bool.{true}
+use mathlib.Core.Bool.{true, false}
 use Prim.Native.Nat.{ℕ, _≤_}
 use native.Mathlib.Omega.{arith}
 use lib.ListN.{length, take}
@@ -64,3 +64,7 @@ ordered-none {items} {numbers} {out} {n} l e =
 
 pub answered : {items : List Item} {r s : Traversal} {out : List ℕ} → Ordered items r out → r ≡ s → Ordered items s out
 answered {items} {r} {s} {out} o e = rw e at o
+
+-- without structs there is no ring
+pub ring-none : {items : List Item} {numbers : List ℕ} {n : ℕ} → StructNumbers items n numbers → n ≡ 0 → false ≡ rules.ring items
+ring-none p e = answered (ordered-none {out = []} p e) refl .rings

@@ -4,7 +4,7 @@ use cursor::Cursor;
 use cursor::fields::field;
 use cursor::width;
 use names::same_name;
-use put_name::put_name_of;
+use put_name::put_name;
 use sink::put_bytes;
 use sink::put_when;
 use view::ItemView;
@@ -44,7 +44,8 @@ fn write_common(s: &[u8], names: &[u32], b: Block, out: &mut [u8], at: usize) ->
     match b {
         Block::UserDefinedNamespace(name) => {
             let next = put_bytes(out, at, b"namespace ");
-            put_name_of(s, names, name, out, next)
+            let k = name as usize;
+            put_name(s, names[k], out, next)
         }
         Block::ExternC => put_bytes(out, at, b"extern \"C\""),
     }

@@ -1,7 +1,6 @@
 // The parameters of a Rust function's declaration in C++ (bridge/write.rs `write_rust_function_decl_impl`).
 use cursor::Cursor;
 use mangle::write_full_name;
-use put_name::put_name_of;
 use shape::ShapeKind;
 use shape::indirect_return;
 use shape::is_method;
@@ -12,10 +11,12 @@ use shape::write_pointer;
 use shape::write_slot_type;
 use sink::put_bytes;
 use sink::put_when;
+use tables::Pool;
+use tables::Table;
+use tables::put_name_of;
+use tables::type_kind;
 use view::FunctionView;
 use view::argument;
-use view::needs_indirect_abi;
-use view::type_kind;
 use write_atom::write_space_after_type;
 ghost use mathlib.Core.Bool.{false};
 ghost use mathlib.Core.List.{map};
@@ -25,30 +26,29 @@ ghost use Rattle.format.specs.Decoding.{type};
 ghost use Rattle.bridge.specs.Write.{commas, shape as shapeOf, externArgType, externArg};
 ghost use Rattle.bridge.specs.Write.{receiver, slot, externParameters};
 ghost use Rattle.sink.specs.Sink.{sink, Wrote};
-ghost use Rattle.view.specs.Values.{Yields, itemsAt, functionAt, argumentAt, typeHere, Whole};
-ghost use Rattle.view.specs.Views.{FunctionAt, ArgumentsAt};
 ghost use Rattle.parameters.specs.Parts.{slotParameter};
+ghost use Rattle.tables.specs.Tables.{itemsOf, functionOf, argumentOf, Function, Arguments, Lent, typeOf, Typed};
 
 // ---- the receiver
 
 // The receiver's parameter, where there is one.
 fn write_receiver(
     s: &[u8],
-    names: &[u32],
-    items: &[u32],
+    t: &[u32; Table::PLACES],
+    pool: &[u8; Pool::BYTES],
     f: FunctionView,
     out: &mut [u8],
     at: usize,
 ) -> usize
-    requires { ⌜ Whole (now s) (now names) (now items) × FunctionAt (now s) (now names) (now items) f ⌝ }
+    requires { ⌜ Lent (now s) (now t) (now pool) × Function (now s) (now t) f ⌝ }
     ensures { λ r. ⌜ Wrote (sink (now (out .entry)) at)
-        (commas false (receiver (itemsAt (now (s .entry)) (now (names .entry)) (now (items .entry)))
-        (functionAt (now (s .entry)) (now (names .entry)) (now (items .entry)) (f .number) .form)))
+        (commas false (receiver (itemsOf (now (s .entry)) (now (t .entry)))
+        (functionOf (now (s .entry)) (now (t .entry)) (f .number) .form)))
         (sink (now (out .exit)) r) ⌝ }
 {
     let method = is_method(f);
     if method {
-        let named = write_full_name(s, names, items, f.owner, out, at);
+        let named = write_full_name(s, t, pool, f.owner, out, at);
         let shared = f.form == 1;
         let qualified = put_when(out, named, shared, b" const");
         return put_bytes(out, qualified, b" &self");
@@ -61,72 +61,71 @@ fn write_receiver(
 // The type at c as an argument has it.
 fn write_extern_arg_type(
     s: &[u8],
-    names: &[u32],
-    items: &[u32],
+    t: &[u32; Table::PLACES],
+    pool: &[u8; Pool::BYTES],
     c: Cursor,
     out: &mut [u8],
     at: usize,
 ) -> usize
-    requires { ⌜ Whole (now s) (now names) (now items) ×
-        Yields (type (length (now items)) (now s) (c .at)) (typeHere (length (now items)) (now s) (c .at)) ⌝ }
+    requires { ⌜ Lent (now s) (now t) (now pool) ×
+        Typed (now s) (now t) (c .at) ⌝ }
     ensures { λ r. ⌜ Wrote (sink (now (out .entry)) at)
-        (externArgType (itemsAt (now (s .entry)) (now (names .entry)) (now (items .entry)))
-        (typeHere (length (now (items .entry))) (now (s .entry)) (c .at))
-        (shapeOf (typeHere (length (now (items .entry))) (now (s .entry)) (c .at)))) (sink (now (out .exit)) r) ⌝ }
+        (externArgType (itemsOf (now (s .entry)) (now (t .entry)))
+        (typeOf (now (s .entry)) (now (t .entry)) (c .at))
+        (shapeOf (typeOf (now (s .entry)) (now (t .entry)) (c .at)))) (sink (now (out .exit)) r) ⌝ }
 {
-    let v = shape(s, items, c);
+    let v = shape(s, t, c);
     let kind = v.kind;
     match kind {
-        ShapeKind::RustBox => write_pointer(s, names, items, v.inner, true, out, at),
-        ShapeKind::UniquePtr => write_pointer(s, names, items, v.inner, true, out, at),
-        ShapeKind::Ref => write_outermost_space(s, names, items, c, out, at),
-        ShapeKind::Str => write_outermost_space(s, names, items, c, out, at),
-        ShapeKind::SliceRef => write_outermost_space(s, names, items, c, out, at),
-        ShapeKind::Other => write_outermost_space(s, names, items, c, out, at),
+        ShapeKind::RustBox => write_pointer(s, t, pool, v.inner, true, out, at),
+        ShapeKind::UniquePtr => write_pointer(s, t, pool, v.inner, true, out, at),
+        ShapeKind::Ref => write_outermost_space(s, t, pool, c, out, at),
+        ShapeKind::Str => write_outermost_space(s, t, pool, c, out, at),
+        ShapeKind::SliceRef => write_outermost_space(s, t, pool, c, out, at),
+        ShapeKind::Other => write_outermost_space(s, t, pool, c, out, at),
     }
 }
 
 // `write_extern_arg`, for argument j
 fn write_extern_arg(
     s: &[u8],
-    names: &[u32],
-    items: &[u32],
+    t: &[u32; Table::PLACES],
+    pool: &[u8; Pool::BYTES],
     f: FunctionView,
     offsets: &[u32],
     j: u32,
     out: &mut [u8],
     at: usize,
 ) -> usize
-    requires { ⌜ Whole (now s) (now names) (now items) × ArgumentsAt (now s) (now names) (now items) f (now offsets) ×
+    requires { ⌜ Lent (now s) (now t) (now pool) × Arguments (now s) (now t) f (now offsets) ×
         (j < f .arguments) × (f .arguments ≤ length (now offsets)) ⌝ }
     ensures { λ r. ⌜ Wrote (sink (now (out .entry)) at)
-        (externArg (itemsAt (now (s .entry)) (now (names .entry)) (now (items .entry)))
-        (argumentAt (now (s .entry)) (now (names .entry)) (now (items .entry)) (f .number) j))
+        (externArg (itemsOf (now (s .entry)) (now (t .entry)))
+        (argumentOf (now (s .entry)) (now (t .entry)) (f .number) j))
         (sink (now (out .exit)) r) ⌝ }
 {
-    let a = argument(s, names, items, f, offsets, j);
-    let typed = write_extern_arg_type(s, names, items, a.of, out, at);
-    let indirect = needs_indirect_abi(s, names, items, a.of);
-    let marked = put_when(out, typed, indirect, b"*");
-    put_name_of(s, names, a.name, out, marked)
+    let a = argument(offsets, j);
+    let typed = write_extern_arg_type(s, t, pool, a.of, out, at);
+    let marked = put_when(out, typed, a.indirect, b"*");
+    put_name_of(s, t, pool, a.name, out, marked)
 }
 
 // Every argument; a comma before the first if `before`.
 fn write_extern_args(
     s: &[u8],
-    names: &[u32],
-    items: &[u32],
+    t: &[u32; Table::PLACES],
+    pool: &[u8; Pool::BYTES],
     f: FunctionView,
     offsets: &[u32],
     before: bool,
     out: &mut [u8],
     at: usize,
 ) -> usize
-    requires { ⌜ Whole (now s) (now names) (now items) × ArgumentsAt (now s) (now names) (now items) f (now offsets) ×
+    requires { ⌜ Lent (now s) (now t) (now pool) × Arguments (now s) (now t) f (now offsets) ×
         (f .arguments ≤ length (now offsets)) ⌝ }
     ensures { λ r. ⌜ Wrote (sink (now (out .entry)) at)
-        (commas before (map (externArg (itemsAt (now (s .entry)) (now (names .entry)) (now (items .entry))))
-        (functionAt (now (s .entry)) (now (names .entry)) (now (items .entry)) (f .number) .arguments)))
+        (commas before (map (externArg (itemsOf (now (s .entry)) (now (t .entry))))
+        (functionOf (now (s .entry)) (now (t .entry)) (f .number) .arguments)))
         (sink (now (out .exit)) r) ⌝ }
 {
     let mut here = at;
@@ -134,7 +133,7 @@ fn write_extern_args(
     let mut j: u32 = 0;
     while j < f.arguments {
         let next = put_when(out, here, comma, b", ");
-        here = write_extern_arg(s, names, items, f, offsets, j, out, next);
+        here = write_extern_arg(s, t, pool, f, offsets, j, out, next);
         comma = true;
         j = j + 1;
     }
@@ -146,25 +145,25 @@ fn write_extern_args(
 // The slot's parameter, where there is one; a comma before it if `before`.
 fn write_slot(
     s: &[u8],
-    names: &[u32],
-    items: &[u32],
+    t: &[u32; Table::PLACES],
+    pool: &[u8; Pool::BYTES],
     f: FunctionView,
     before: bool,
     out: &mut [u8],
     at: usize,
 ) -> usize
-    requires { ⌜ Whole (now s) (now names) (now items) × FunctionAt (now s) (now names) (now items) f ⌝ }
+    requires { ⌜ Lent (now s) (now t) (now pool) × Function (now s) (now t) f ⌝ }
     ensures { λ r. ⌜ Wrote (sink (now (out .entry)) at)
-        (commas before (map (slotParameter (itemsAt (now (s .entry)) (now (names .entry)) (now (items .entry))))
-        (slot (itemsAt (now (s .entry)) (now (names .entry)) (now (items .entry)))
-        (functionAt (now (s .entry)) (now (names .entry)) (now (items .entry)) (f .number)))))
+        (commas before (map (slotParameter (itemsOf (now (s .entry)) (now (t .entry))))
+        (slot (itemsOf (now (s .entry)) (now (t .entry)))
+        (functionOf (now (s .entry)) (now (t .entry)) (f .number)))))
         (sink (now (out .exit)) r) ⌝ }
 {
-    let indirect = indirect_return(s, names, items, f);
+    let indirect = indirect_return(s, t, f);
     if indirect {
         let next = put_when(out, at, before, b", ");
-        let typed = write_slot_type(s, names, items, f.result, out, next);
-        let kind = type_kind(s, items, f.result);
+        let typed = write_slot_type(s, t, pool, f.result, out, next);
+        let kind = type_kind(s, t, f.result);
         let spaced = write_space_after_type(kind, out, typed);
         return put_bytes(out, spaced, b"*return$");
     }
@@ -176,23 +175,23 @@ fn write_slot(
 // The parameters: the receiver, the arguments, the slot.
 pub fn write_parameters(
     s: &[u8],
-    names: &[u32],
-    items: &[u32],
+    t: &[u32; Table::PLACES],
+    pool: &[u8; Pool::BYTES],
     f: FunctionView,
     offsets: &[u32],
     out: &mut [u8],
     at: usize,
 ) -> usize
-    requires { ⌜ Whole (now s) (now names) (now items) × FunctionAt (now s) (now names) (now items) f ×
-        ArgumentsAt (now s) (now names) (now items) f (now offsets) × (f .arguments ≤ length (now offsets)) ⌝ }
+    requires { ⌜ Lent (now s) (now t) (now pool) × Function (now s) (now t) f ×
+        Arguments (now s) (now t) f (now offsets) × (f .arguments ≤ length (now offsets)) ⌝ }
     ensures { λ r. ⌜ Wrote (sink (now (out .entry)) at)
-        (commas false (externParameters (itemsAt (now (s .entry)) (now (names .entry)) (now (items .entry)))
-        (functionAt (now (s .entry)) (now (names .entry)) (now (items .entry)) (f .number))))
+        (commas false (externParameters (itemsOf (now (s .entry)) (now (t .entry)))
+        (functionOf (now (s .entry)) (now (t .entry)) (f .number))))
         (sink (now (out .exit)) r) ⌝ }
 {
     let method = is_method(f);
-    let received = write_receiver(s, names, items, f, out, at);
-    let listed = write_extern_args(s, names, items, f, offsets, method, out, received);
+    let received = write_receiver(s, t, pool, f, out, at);
+    let listed = write_extern_args(s, t, pool, f, offsets, method, out, received);
     let comma = needs_comma(method, f.arguments);
-    write_slot(s, names, items, f, comma, out, listed)
+    write_slot(s, t, pool, f, comma, out, listed)
 }

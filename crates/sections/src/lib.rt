@@ -1,20 +1,22 @@
 // Declarations, layouts and shims, each in its namespace and section: the port of the parts of write.rs that write an
-// item. Every function is lent the sheet, the tables of the positions of its names and items, the digests of the names,
-// and the buffer; a function's writer also room for the positions of the arguments.
+// item. Every function is lent the sheet, the table and the pool, the digests of the names, and the buffer; a
+// function's writer also room for the views of its arguments.
+use content::begin_extern_c;
+use content::end_extern_c;
+use content::prepare;
+use content::set_namespace;
 use declaration::write_function_decl;
 use declaration::write_layout_decl;
 use declaration::write_layout_definition;
 use out::Content;
-use out::begin_extern_c;
-use out::end_extern_c;
 use out::next_section;
 use out::placed;
-use out::prepare;
-use out::set_namespace;
 use shim::write_function_shim;
+use tables::Pool;
+use tables::Table;
+use tables::fill_arguments;
+use tables::function;
 use view::ItemView;
-use view::fill_arguments;
-use view::function;
 ghost use mathlib.Core.Path.{_≡_};
 ghost use mathlib.Core.Bool.{false};
 ghost use Prim.Native.Nat.{_≤_};
@@ -24,64 +26,63 @@ ghost use Rattle.format.specs.declared.ItemKind.the-variants.{RustFunction};
 ghost use Rattle.syntax.specs.Items.{itemAt};
 ghost use Rattle.bridge.specs.Write.{writeRustFunctionDecl, writeOpaqueTypeLayoutDecls, layoutDefinition};
 ghost use Rattle.bridge.specs.Write.{writeOpaqueTypeLayout};
-ghost use Rattle.view.specs.Values.{functionAt, itemsAt, Whole};
 ghost use Rattle.names.specs.Digests.{digestsAt};
-ghost use Rattle.view.specs.Views.{ItemAt};
 ghost use Rattle.sections.specs.Runs.{Representing, Runs, hiddenForm, sectionOf, shimSection, sheetOf};
+ghost use Rattle.tables.specs.Tables.{namesIn, itemsOf, functionOf, Item, Lent};
 
 // ---- declarations
 
 pub fn write_rust_function_decl(
     s: &[u8],
-    names: &[u32],
-    items: &[u32],
+    t: &[u32; Table::PLACES],
+    pool: &[u8; Pool::BYTES],
     digests: &[u32],
     v: ItemView,
     offsets: &mut [u32],
     c: Content,
     out: &mut [u8],
 ) -> Content
-    requires { ⌜ Whole (now s) (now names) (now items) × (now digests ≡ digestsAt (now s) (now names)) ×
-        ItemAt (now s) (now names) (now items) v × (v .kind ≡ RustFunction) × (mostArguments ≤ length (now offsets)) ×
-        Representing (now s) (now names) (now out) c ⌝ }
-    ensures { λ r. ⌜ Runs (now (s .entry)) (now (names .entry)) (now (out .entry)) (now (out .exit))
-        (writeRustFunctionDecl (itemsAt (now (s .entry)) (now (names .entry)) (now (items .entry)))
-        (itemAt (itemsAt (now (s .entry)) (now (names .entry)) (now (items .entry))) (v .number))
-        (functionAt (now (s .entry)) (now (names .entry)) (now (items .entry)) (v .number))) c r ⌝ }
+    requires { ⌜ Lent (now s) (now t) (now pool) × (now digests ≡ digestsAt (now s) (namesIn (now t))) ×
+        Item (now s) (now t) v × (v .kind ≡ RustFunction) × (mostArguments ≤ length (now offsets)) ×
+        Representing (now s) (namesIn (now t)) (now out) c ⌝ }
+    ensures { λ r. ⌜ Runs (now (s .entry)) (namesIn (now (t .entry))) (now (out .entry)) (now (out .exit))
+        (writeRustFunctionDecl (itemsOf (now (s .entry)) (now (t .entry)))
+        (itemAt (itemsOf (now (s .entry)) (now (t .entry))) (v .number))
+        (functionOf (now (s .entry)) (now (t .entry)) (v .number))) c r ⌝ }
 {
-    let f = function(s, names, items, v);
-    fill_arguments(s, names, items, f, offsets);
-    let inside = set_namespace(s, names, items, digests, c, v);
-    let begun = begin_extern_c(s, names, digests, inside);
+    let f = function(s, t, v);
+    fill_arguments(s, t, f, offsets);
+    let inside = set_namespace(s, t, digests, c, v);
+    let begun = begin_extern_c(s, t, digests, inside);
     let asked = next_section(begun);
-    let ready = prepare(s, names, asked, out);
-    let at = write_function_decl(s, names, items, v, f, offsets, out, ready.at);
+    let ready = prepare(s, t, asked, out);
+    let at = write_function_decl(s, t, pool, v, f, offsets, out, ready.at);
     let written = placed(ready, at);
-    end_extern_c(s, names, digests, written)
+    end_extern_c(s, t, digests, written)
 }
 
 pub fn write_opaque_type_layout_decls(
     s: &[u8],
-    names: &[u32],
-    items: &[u32],
+    t: &[u32; Table::PLACES],
+    pool: &[u8; Pool::BYTES],
     digests: &[u32],
     v: ItemView,
     c: Content,
     out: &mut [u8],
 ) -> Content
-    requires { ⌜ Whole (now s) (now names) (now items) × (now digests ≡ digestsAt (now s) (now names)) ×
-        ItemAt (now s) (now names) (now items) v × Representing (now s) (now names) (now out) c ⌝ }
-    ensures { λ r. ⌜ Runs (now (s .entry)) (now (names .entry)) (now (out .entry)) (now (out .exit))
+    requires { ⌜ Lent (now s) (now t) (now pool) × (now digests ≡ digestsAt (now s) (namesIn (now t))) ×
+        Item (now s) (now t) v × Representing (now s) (namesIn (now t)) (now out) c ⌝ }
+    ensures { λ r. ⌜ Runs (now (s .entry)) (namesIn (now (t .entry))) (now (out .entry)) (now (out .exit))
         (writeOpaqueTypeLayoutDecls
-        (itemAt (itemsAt (now (s .entry)) (now (names .entry)) (now (items .entry))) (v .number))) c r ⌝ }
+        (itemAt (itemsOf (now (s .entry)) (now (t .entry))) (v .number))) c r ⌝ }
 {
-    let inside = set_namespace(s, names, items, digests, c, v);
-    let begun = begin_extern_c(s, names, digests, inside);
-    let ready = prepare(s, names, begun, out);
-    let next = write_layout_decl(s, names, items, v, b"sizeof", out, ready.at);
-    let at = write_layout_decl(s, names, items, v, b"alignof", out, next);
+    let inside = set_namespace(s, t, digests, c, v);
+    let begun = begin_extern_c(s, t, digests, inside);
+    let ready = prepare(s, t, begun, out);
+    let next = write_layout_decl(s, t, pool, v, b"sizeof", out, ready.at);
+    let at = write_layout_decl(s, t, pool, v, b"alignof", out, next);
     let written = placed(ready, at);
-    end_extern_c(s, names, digests, written)
+    end_extern_c(s, t, digests, written)
 }
 
 // ---- definitions
@@ -89,45 +90,45 @@ pub fn write_opaque_type_layout_decls(
 // The definition of one of the two, where the type's namespace is set.
 fn write_layout(
     s: &[u8],
-    names: &[u32],
-    items: &[u32],
+    t: &[u32; Table::PLACES],
+    pool: &[u8; Pool::BYTES],
     v: ItemView,
     member: &[u8],
     name: &[u8],
     c: Content,
     out: &mut [u8],
 ) -> Content
-    requires { ⌜ Whole (now s) (now names) (now items) × ItemAt (now s) (now names) (now items) v ×
-        Representing (now s) (now names) (now out) c ⌝ }
-    ensures { λ r. ⌜ Runs (now (s .entry)) (now (names .entry)) (now (out .entry)) (now (out .exit))
+    requires { ⌜ Lent (now s) (now t) (now pool) × Item (now s) (now t) v ×
+        Representing (now s) (namesIn (now t)) (now out) c ⌝ }
+    ensures { λ r. ⌜ Runs (now (s .entry)) (namesIn (now (t .entry))) (now (out .entry)) (now (out .exit))
         (sectionOf (layoutDefinition
-        (itemAt (itemsAt (now (s .entry)) (now (names .entry)) (now (items .entry))) (v .number))
+        (itemAt (itemsOf (now (s .entry)) (now (t .entry))) (v .number))
         (now (member .entry)) (now (name .entry)))) c r ⌝ }
 {
     let asked = next_section(c);
-    let ready = prepare(s, names, asked, out);
-    let at = write_layout_definition(s, names, items, v, member, name, out, ready.at);
+    let ready = prepare(s, t, asked, out);
+    let at = write_layout_definition(s, t, pool, v, member, name, out, ready.at);
     placed(ready, at)
 }
 
 pub fn write_opaque_type_layout(
     s: &[u8],
-    names: &[u32],
-    items: &[u32],
+    t: &[u32; Table::PLACES],
+    pool: &[u8; Pool::BYTES],
     digests: &[u32],
     v: ItemView,
     c: Content,
     out: &mut [u8],
 ) -> Content
-    requires { ⌜ Whole (now s) (now names) (now items) × (now digests ≡ digestsAt (now s) (now names)) ×
-        ItemAt (now s) (now names) (now items) v × Representing (now s) (now names) (now out) c ⌝ }
-    ensures { λ r. ⌜ Runs (now (s .entry)) (now (names .entry)) (now (out .entry)) (now (out .exit))
+    requires { ⌜ Lent (now s) (now t) (now pool) × (now digests ≡ digestsAt (now s) (namesIn (now t))) ×
+        Item (now s) (now t) v × Representing (now s) (namesIn (now t)) (now out) c ⌝ }
+    ensures { λ r. ⌜ Runs (now (s .entry)) (namesIn (now (t .entry))) (now (out .entry)) (now (out .exit))
         (writeOpaqueTypeLayout false
-        (itemAt (itemsAt (now (s .entry)) (now (names .entry)) (now (items .entry))) (v .number))) c r ⌝ }
+        (itemAt (itemsOf (now (s .entry)) (now (t .entry))) (v .number))) c r ⌝ }
 {
-    let inside = set_namespace(s, names, items, digests, c, v);
-    let size = write_layout(s, names, items, v, b"size", b"sizeof", inside, out);
-    write_layout(s, names, items, v, b"align", b"alignof", size, out)
+    let inside = set_namespace(s, t, digests, c, v);
+    let size = write_layout(s, t, pool, v, b"size", b"sizeof", inside, out);
+    write_layout(s, t, pool, v, b"align", b"alignof", size, out)
 }
 
 fn is_hidden(header: bool, form: u32) -> bool
@@ -142,8 +143,8 @@ fn is_hidden(header: bool, form: u32) -> bool
 // Behind a section.
 pub fn write_rust_function_shim(
     s: &[u8],
-    names: &[u32],
-    items: &[u32],
+    t: &[u32; Table::PLACES],
+    pool: &[u8; Pool::BYTES],
     digests: &[u32],
     header: bool,
     doxygen: bool,
@@ -152,28 +153,28 @@ pub fn write_rust_function_shim(
     c: Content,
     out: &mut [u8],
 ) -> Content
-    requires { ⌜ Whole (now s) (now names) (now items) × (now digests ≡ digestsAt (now s) (now names)) ×
-        ItemAt (now s) (now names) (now items) v × (v .kind ≡ RustFunction) × (mostArguments ≤ length (now offsets)) ×
-        Representing (now s) (now names) (now out) c ⌝ }
-    ensures { λ r. ⌜ Runs (now (s .entry)) (now (names .entry)) (now (out .entry)) (now (out .exit))
+    requires { ⌜ Lent (now s) (now t) (now pool) × (now digests ≡ digestsAt (now s) (namesIn (now t))) ×
+        Item (now s) (now t) v × (v .kind ≡ RustFunction) × (mostArguments ≤ length (now offsets)) ×
+        Representing (now s) (namesIn (now t)) (now out) c ⌝ }
+    ensures { λ r. ⌜ Runs (now (s .entry)) (namesIn (now (t .entry))) (now (out .entry)) (now (out .exit))
         (shimSection
-        (sheetOf header doxygen (itemsAt (now (s .entry)) (now (names .entry)) (now (items .entry))))
-        (itemAt (itemsAt (now (s .entry)) (now (names .entry)) (now (items .entry))) (v .number))
-        (functionAt (now (s .entry)) (now (names .entry)) (now (items .entry)) (v .number))) c r ⌝ }
+        (sheetOf header doxygen (itemsOf (now (s .entry)) (now (t .entry))))
+        (itemAt (itemsOf (now (s .entry)) (now (t .entry))) (v .number))
+        (functionOf (now (s .entry)) (now (t .entry)) (v .number))) c r ⌝ }
 {
-    let f = function(s, names, items, v);
-    let comment = fill_arguments(s, names, items, f, offsets);
+    let f = function(s, t, v);
+    let comment = fill_arguments(s, t, f, offsets);
     let asked = next_section(c);
-    let inside = set_namespace(s, names, items, digests, asked, v);
+    let inside = set_namespace(s, t, digests, asked, v);
     let hidden = is_hidden(header, f.form);
     if hidden {
         return inside;
     }
-    let ready = prepare(s, names, inside, out);
+    let ready = prepare(s, t, inside, out);
     let at = write_function_shim(
         s,
-        names,
-        items,
+        t,
+        pool,
         header,
         doxygen,
         v,

@@ -1,8 +1,9 @@
 -- Loops over the arguments of a function.
+use mathlib.Core.Path.{_≡_}
 use mathlib.Core.List.{List, [], map}
 use mathlib.Core.Bool.{Bool, true}
 use Prim.Native.Nat.{ℕ, _+_, _<_, _≤_}
-use lib.ListN.{length}
+use lib.ListN.{length, getD}
 use Rattle.lexical.specs.Bytes.{bytes}
 use Rattle.lexical.specs.Decimal.{pickText}
 use Rattle.format.specs.Types.{str}
@@ -12,7 +13,8 @@ use Rattle.bridge.specs.Write.{commas}
 use Rattle.sink.specs.Sink.{Sink, Wrote}
 use Rattle.view.specs.declared.FunctionView.{FunctionView}
 use Rattle.view.specs.Values.{functionAt, argumentAt}
-use Rattle.view.specs.Views.{ArgumentsAt}
+use Rattle.view.specs.declared.ArgumentView.{ArgumentView}
+use Rattle.view.specs.Views.{ArgumentOf, FactsOf, unpacked, ArgumentsAt}
 use Rattle.shape.proofs.FunctionLaws.{arguments-count}
 use Rattle.shape.proofs.CommaLaws.{Listed, listed-turn, listed-all, Gathered, gathered-turn, gathered-all}
 
@@ -43,3 +45,9 @@ module _ (g : Argument → List ℕ) {s names items offsets : List ℕ} {f : Fun
 
     pub gathered-arguments : {r t : Sink} → Gathered g arguments j r t → Wrote r (gather g arguments) t
     gathered-arguments p = gathered-all g arguments (rw (arguments-count a) h) p
+
+-- the view of argument j
+pub argument-at : {s names items offsets : List ℕ} {f : FunctionView} {j : ℕ} {v : ArgumentView} →
+    ArgumentsAt s names items f offsets → j < f .arguments → v ≡ unpacked (getD offsets j 0) →
+    ArgumentOf s names (length items) (argumentAt s names items (f .number) j) v × FactsOf s names items v
+argument-at {j = j} a h e = rw e (a .each j h)

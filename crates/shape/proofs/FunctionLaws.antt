@@ -102,7 +102,7 @@ module _ {s names items : List ℕ} {f : FunctionView} (a : FunctionAt s names i
 -- as many as the view says
 pub arguments-count : {s names items offsets : List ℕ} {f : FunctionView} → ArgumentsAt s names items f offsets →
     length (functionAt s names items (f .number) .arguments) ≡ f .arguments
-arguments-count a = a .table .count
+arguments-count a = a .count
 
 pub method-const : (k i : ℕ) → k ≡ 1 → true ≡ isMethod (formOf k i)
 method-const k i e = rw e

@@ -6,10 +6,12 @@ use format::Template;
 use format::TypeKind;
 use sink::put_bytes;
 use sink::put_unless;
+use tables::Pool;
+use tables::Table;
+use tables::needs_indirect_abi;
 use types::Levels;
 use types::kind_of;
 use view::FunctionView;
-use view::needs_indirect_abi;
 use write_type::write_type;
 use write_type::write_type_space;
 ghost use mathlib.Core.Path.{_≡_};
@@ -22,10 +24,10 @@ ghost use Rattle.bridge.specs.WriteType.{writeType, writeTypeSpace};
 ghost use Rattle.bridge.specs.Write.{indirectReturn, writePointer, shape as shapeOf, slotType};
 ghost use Rattle.sink.specs.Sink.{sink, Wrote};
 ghost use Rattle.cursor.specs.Checking.{Limited};
-ghost use Rattle.view.specs.Values.{Yields, itemsAt, functionAt, typeHere, Whole};
-ghost use Rattle.view.specs.Views.{FunctionAt};
+ghost use Rattle.view.specs.Values.{Yields};
 ghost use Rattle.write_type.specs.TypeAt.{tyAt};
 ghost use Rattle.shape.specs.Shapes.{innerLevels, templateKind, pointerKind, shapeKind, isRef, ShapeOf};
+ghost use Rattle.tables.specs.Tables.{itemsIn, itemsOf, functionOf, Tabled, Function, Lent, typeOf, Typed};
 
 // ---- shapes
 
@@ -98,11 +100,11 @@ pub fn is_ref(kind: ShapeKind) -> bool
 }
 
 // The shape of the outermost type at c.
-pub fn shape(s: &[u8], items: &[u32], c: Cursor) -> ShapeView
+pub fn shape(s: &[u8], t: &[u32; Table::PLACES], c: Cursor) -> ShapeView
     requires { ⌜ Limited (now s) ×
-        Yields (type (length (now items)) (now s) (c .at)) (typeHere (length (now items)) (now s) (c .at)) ⌝ }
-    ensures { λ r. ⌜ ShapeOf (length (now (items .entry))) (now (s .entry))
-        (shapeOf (typeHere (length (now (items .entry))) (now (s .entry)) (c .at))) r ⌝ }
+        Typed (now s) (now t) (c .at) ⌝ }
+    ensures { λ r. ⌜ ShapeOf (length (itemsIn (now (t .entry)))) (now (s .entry))
+        (shapeOf (typeOf (now (s .entry)) (now (t .entry)) (c .at))) r ⌝ }
 {
     let k = field(s, c, 4);
     let kind = shape_kind(kind_of(k.value));
@@ -130,59 +132,60 @@ pub fn shape(s: &[u8], items: &[u32], c: Cursor) -> ShapeView
 // The outermost type at c.
 pub fn write_outermost(
     s: &[u8],
-    names: &[u32],
-    items: &[u32],
+    t: &[u32; Table::PLACES],
+    pool: &[u8; Pool::BYTES],
     c: Cursor,
     out: &mut [u8],
     at: usize,
 ) -> usize
-    requires { ⌜ Whole (now s) (now names) (now items) ×
-        Yields (type (length (now items)) (now s) (c .at)) (typeHere (length (now items)) (now s) (c .at)) ⌝ }
+    requires { ⌜ Lent (now s) (now t) (now pool) ×
+        Typed (now s) (now t) (c .at) ⌝ }
     ensures { λ r. ⌜ Wrote (sink (now (out .entry)) at)
-        (writeType (itemsAt (now (s .entry)) (now (names .entry)) (now (items .entry)))
-        (typeHere (length (now (items .entry))) (now (s .entry)) (c .at))) (sink (now (out .exit)) r) ⌝ }
+        (writeType (itemsOf (now (s .entry)) (now (t .entry)))
+        (typeOf (now (s .entry)) (now (t .entry)) (c .at))) (sink (now (out .exit)) r) ⌝ }
 {
-    let walked = write_type(s, names, items, c, Levels::MOST, out, at);
+    let walked = write_type(s, t, pool, c, Levels::MOST, out, at);
     walked.at
 }
 
 // The same with a space behind it, where one belongs.
 pub fn write_outermost_space(
     s: &[u8],
-    names: &[u32],
-    items: &[u32],
+    t: &[u32; Table::PLACES],
+    pool: &[u8; Pool::BYTES],
     c: Cursor,
     out: &mut [u8],
     at: usize,
 ) -> usize
-    requires { ⌜ Whole (now s) (now names) (now items) ×
-        Yields (type (length (now items)) (now s) (c .at)) (typeHere (length (now items)) (now s) (c .at)) ⌝ }
+    requires { ⌜ Lent (now s) (now t) (now pool) ×
+        Typed (now s) (now t) (c .at) ⌝ }
     ensures { λ r. ⌜ Wrote (sink (now (out .entry)) at)
-        (writeTypeSpace (itemsAt (now (s .entry)) (now (names .entry)) (now (items .entry)))
-        (typeHere (length (now (items .entry))) (now (s .entry)) (c .at))) (sink (now (out .exit)) r) ⌝ }
+        (writeTypeSpace (itemsOf (now (s .entry)) (now (t .entry)))
+        (typeOf (now (s .entry)) (now (t .entry)) (c .at))) (sink (now (out .exit)) r) ⌝ }
 {
-    let walked = write_type_space(s, names, items, c, Levels::MOST, out, at);
+    let walked = write_type_space(s, t, pool, c, Levels::MOST, out, at);
     walked.at
 }
 
 // The pointer that stands for a reference to the type at inner.
 pub fn write_pointer(
     s: &[u8],
-    names: &[u32],
-    items: &[u32],
+    t: &[u32; Table::PLACES],
+    pool: &[u8; Pool::BYTES],
     inner: Cursor,
     mutable: bool,
     out: &mut [u8],
     at: usize,
 ) -> usize
-    requires { ⌜ Whole (now s) (now names) (now items) ×
-        Yields (typeAt (length (now items)) innerLevels (now s) (inner .at))
-        (tyAt (length (now items)) innerLevels (now s) (inner .at)) ⌝ }
+    requires { ⌜ Lent (now s) (now t) (now pool) ×
+        Yields (typeAt (length (itemsIn (now t))) innerLevels (now s) (inner .at))
+        (tyAt (length (itemsIn (now t))) innerLevels (now s) (inner .at)) ⌝ }
     ensures { λ r. ⌜ Wrote (sink (now (out .entry)) at)
-        (writePointer (itemsAt (now (s .entry)) (now (names .entry)) (now (items .entry))) mutable
-        (tyAt (length (now (items .entry))) innerLevels (now (s .entry)) (inner .at))) (sink (now (out .exit)) r) ⌝ }
+        (writePointer (itemsOf (now (s .entry)) (now (t .entry))) mutable
+        (tyAt (length (itemsIn (now (t .entry)))) innerLevels (now (s .entry)) (inner .at)))
+        (sink (now (out .exit)) r) ⌝ }
 {
-    let walked = write_type_space(s, names, items, inner, Levels::MOST - 1, out, at);
+    let walked = write_type_space(s, t, pool, inner, Levels::MOST - 1, out, at);
     let behind = put_unless(out, walked.at, mutable, b"const ");
     put_bytes(out, behind, b"*")
 }
@@ -190,28 +193,28 @@ pub fn write_pointer(
 // What the return slot holds for the type at c.
 pub fn write_slot_type(
     s: &[u8],
-    names: &[u32],
-    items: &[u32],
+    t: &[u32; Table::PLACES],
+    pool: &[u8; Pool::BYTES],
     c: Cursor,
     out: &mut [u8],
     at: usize,
 ) -> usize
-    requires { ⌜ Whole (now s) (now names) (now items) ×
-        Yields (type (length (now items)) (now s) (c .at)) (typeHere (length (now items)) (now s) (c .at)) ⌝ }
+    requires { ⌜ Lent (now s) (now t) (now pool) ×
+        Typed (now s) (now t) (c .at) ⌝ }
     ensures { λ r. ⌜ Wrote (sink (now (out .entry)) at)
-        (slotType (itemsAt (now (s .entry)) (now (names .entry)) (now (items .entry)))
-        (typeHere (length (now (items .entry))) (now (s .entry)) (c .at))
-        (shapeOf (typeHere (length (now (items .entry))) (now (s .entry)) (c .at)))) (sink (now (out .exit)) r) ⌝ }
+        (slotType (itemsOf (now (s .entry)) (now (t .entry)))
+        (typeOf (now (s .entry)) (now (t .entry)) (c .at))
+        (shapeOf (typeOf (now (s .entry)) (now (t .entry)) (c .at)))) (sink (now (out .exit)) r) ⌝ }
 {
-    let v = shape(s, items, c);
+    let v = shape(s, t, c);
     let kind = v.kind;
     match kind {
-        ShapeKind::Ref => write_pointer(s, names, items, v.inner, v.mutable, out, at),
-        ShapeKind::RustBox => write_outermost(s, names, items, c, out, at),
-        ShapeKind::UniquePtr => write_outermost(s, names, items, c, out, at),
-        ShapeKind::Str => write_outermost(s, names, items, c, out, at),
-        ShapeKind::SliceRef => write_outermost(s, names, items, c, out, at),
-        ShapeKind::Other => write_outermost(s, names, items, c, out, at),
+        ShapeKind::Ref => write_pointer(s, t, pool, v.inner, v.mutable, out, at),
+        ShapeKind::RustBox => write_outermost(s, t, pool, c, out, at),
+        ShapeKind::UniquePtr => write_outermost(s, t, pool, c, out, at),
+        ShapeKind::Str => write_outermost(s, t, pool, c, out, at),
+        ShapeKind::SliceRef => write_outermost(s, t, pool, c, out, at),
+        ShapeKind::Other => write_outermost(s, t, pool, c, out, at),
     }
 }
 
@@ -238,17 +241,17 @@ pub fn needs_comma(others: bool, count: u32) -> bool
 }
 
 // Whether a function returns by a slot.
-pub fn indirect_return(s: &[u8], names: &[u32], items: &[u32], f: FunctionView) -> bool
-    requires { ⌜ Whole (now s) (now names) (now items) × FunctionAt (now s) (now names) (now items) f ⌝ }
-    ensures { λ r. ⌜ r ≡ indirectReturn (itemsAt (now (s .entry)) (now (names .entry)) (now (items .entry)))
-        (functionAt (now (s .entry)) (now (names .entry)) (now (items .entry)) (f .number))
-        (functionAt (now (s .entry)) (now (names .entry)) (now (items .entry)) (f .number) .return) ⌝ }
+pub fn indirect_return(s: &[u8], t: &[u32; Table::PLACES], f: FunctionView) -> bool
+    requires { ⌜ Tabled (now s) (now t) × Function (now s) (now t) f ⌝ }
+    ensures { λ r. ⌜ r ≡ indirectReturn (itemsOf (now (s .entry)) (now (t .entry)))
+        (functionOf (now (s .entry)) (now (t .entry)) (f .number))
+        (functionOf (now (s .entry)) (now (t .entry)) (f .number) .return) ⌝ }
 {
     if f.returns {
         if f.throws {
             return true;
         }
-        return needs_indirect_abi(s, names, items, f.result);
+        return needs_indirect_abi(s, t, f.result);
     }
     false
 }

@@ -12,6 +12,8 @@ use operands::write_operands;
 use shape::indirect_return;
 use sink::put_bytes;
 use sink::put_when;
+use tables::Pool;
+use tables::Table;
 use view::FunctionView;
 use view::ItemView;
 ghost use mathlib.Core.Path.{_≡_};
@@ -20,13 +22,10 @@ ghost use mathlib.Core.Bool.{not, _&&_};
 ghost use Prim.Native.Nat.{_≤_};
 ghost use lib.ListN.{length};
 ghost use Rattle.lexical.specs.Decimal.{pickText};
-ghost use Rattle.format.specs.Decode.{many};
-ghost use Rattle.format.specs.Decoding.{argument};
 ghost use Rattle.syntax.specs.Items.{itemAt};
 ghost use Rattle.bridge.specs.Write.{isFree, shimBody, writeDoc, functionShim};
 ghost use Rattle.sink.specs.Sink.{sink, Wrote};
-ghost use Rattle.view.specs.Values.{nextOf, namesAt, itemsAt, functionAt, Whole};
-ghost use Rattle.view.specs.Views.{ItemAt, FunctionAt, ArgumentsAt};
+ghost use Rattle.tables.specs.Tables.{itemsOf, functionOf, Item, Function, Arguments, behindArguments, Lent};
 
 // ---- the body
 
@@ -43,36 +42,36 @@ fn is_direct(returns: bool, indirect: bool) -> bool
 // The body of the function's shim.
 fn write_shim_body(
     s: &[u8],
-    names: &[u32],
-    items: &[u32],
+    t: &[u32; Table::PLACES],
+    pool: &[u8; Pool::BYTES],
     v: ItemView,
     f: FunctionView,
     offsets: &[u32],
     out: &mut [u8],
     at: usize,
 ) -> usize
-    requires { ⌜ Whole (now s) (now names) (now items) × ItemAt (now s) (now names) (now items) v ×
-        FunctionAt (now s) (now names) (now items) f × (f .number ≡ v .number) ×
-        ArgumentsAt (now s) (now names) (now items) f (now offsets) × (f .arguments ≤ length (now offsets)) ⌝ }
+    requires { ⌜ Lent (now s) (now t) (now pool) × Item (now s) (now t) v ×
+        Function (now s) (now t) f × (f .number ≡ v .number) ×
+        Arguments (now s) (now t) f (now offsets) × (f .arguments ≤ length (now offsets)) ⌝ }
     ensures { λ r. ⌜ Wrote (sink (now (out .entry)) at)
-        (shimBody (itemsAt (now (s .entry)) (now (names .entry)) (now (items .entry)))
-        (itemAt (itemsAt (now (s .entry)) (now (names .entry)) (now (items .entry))) (v .number))
-        (functionAt (now (s .entry)) (now (names .entry)) (now (items .entry)) (f .number)))
+        (shimBody (itemsOf (now (s .entry)) (now (t .entry)))
+        (itemAt (itemsOf (now (s .entry)) (now (t .entry))) (v .number))
+        (functionOf (now (s .entry)) (now (t .entry)) (f .number)))
         (sink (now (out .exit)) r) ⌝ }
 {
-    let indirect = indirect_return(s, names, items, f);
+    let indirect = indirect_return(s, t, f);
     let direct = is_direct(f.returns, indirect);
     let begun = put_bytes(out, at, b" {\n");
-    let held = write_held_locals(s, names, items, f, offsets, out, begun);
+    let held = write_held_locals(s, t, pool, f, offsets, out, begun);
     let indented = put_bytes(out, held, b"  ");
-    let slotted = write_slot(s, names, items, f.result, indirect, out, indented);
-    let returned = write_return(s, names, items, f.result, direct, out, slotted);
+    let slotted = write_slot(s, t, pool, f.result, indirect, out, indented);
+    let returned = write_return(s, t, pool, f.result, direct, out, slotted);
     let guarded = put_when(out, returned, f.throws, b"::rust::repr::PtrLen error$ = ");
-    let named = write_extern_fn(s, names, items, v, f, out, guarded);
+    let named = write_extern_fn(s, t, pool, v, f, out, guarded);
     let opened = put_bytes(out, named, b"(");
-    let listed = write_operands(s, names, items, f, offsets, indirect, out, opened);
+    let listed = write_operands(s, t, pool, f, offsets, indirect, out, opened);
     let closed = put_bytes(out, listed, b")");
-    let taken = put_call_end(s, items, f.result, direct, out, closed);
+    let taken = put_call_end(s, t, f.result, direct, out, closed);
     let called = put_bytes(out, taken, b";\n");
     let tested = put_when(
         out,
@@ -80,7 +79,7 @@ fn write_shim_body(
         f.throws,
         b"  if (error$.ptr) {\n    throw ::rust::impl<::rust::Error>::error(error$);\n  }\n",
     );
-    let given = put_slot_return(s, items, f.result, indirect, out, tested);
+    let given = put_slot_return(s, t, f.result, indirect, out, tested);
     put_bytes(out, given, b"}\n")
 }
 
@@ -89,20 +88,19 @@ fn write_shim_body(
 // The comment of a function that is no member.
 fn write_shim_doc(
     s: &[u8],
-    names: &[u32],
-    items: &[u32],
+    t: &[u32; Table::PLACES],
+    pool: &[u8; Pool::BYTES],
     doxygen: bool,
     f: FunctionView,
     comment: Cursor,
     out: &mut [u8],
     at: usize,
 ) -> usize
-    requires { ⌜ Whole (now s) (now names) (now items) × FunctionAt (now s) (now names) (now items) f ×
-        (comment .at ≡ nextOf (many (f .arguments) (argument (namesAt (now s) (now names)) (length (now items)))
-        (now s) (f .first .at))) ⌝ }
+    requires { ⌜ Lent (now s) (now t) (now pool) × Function (now s) (now t) f ×
+        (comment .at ≡ behindArguments (now s) (now t) f) ⌝ }
     ensures { λ r. ⌜ Wrote (sink (now (out .entry)) at)
-        (pickText (isFree (functionAt (now (s .entry)) (now (names .entry)) (now (items .entry)) (f .number) .form))
-        (writeDoc doxygen (functionAt (now (s .entry)) (now (names .entry)) (now (items .entry))
+        (pickText (isFree (functionOf (now (s .entry)) (now (t .entry)) (f .number) .form))
+        (writeDoc doxygen (functionOf (now (s .entry)) (now (t .entry))
         (f .number) .comment)) []) (sink (now (out .exit)) r) ⌝ }
 {
     if f.form == 0 {
@@ -114,8 +112,8 @@ fn write_shim_doc(
 // The shim of a function: its comment, its head, and its body where it is no header.
 pub fn write_function_shim(
     s: &[u8],
-    names: &[u32],
-    items: &[u32],
+    t: &[u32; Table::PLACES],
+    pool: &[u8; Pool::BYTES],
     header: bool,
     doxygen: bool,
     v: ItemView,
@@ -125,25 +123,24 @@ pub fn write_function_shim(
     out: &mut [u8],
     at: usize,
 ) -> usize
-    requires { ⌜ Whole (now s) (now names) (now items) × ItemAt (now s) (now names) (now items) v ×
-        FunctionAt (now s) (now names) (now items) f × (f .number ≡ v .number) ×
-        ArgumentsAt (now s) (now names) (now items) f (now offsets) × (f .arguments ≤ length (now offsets)) ×
-        (comment .at ≡ nextOf (many (f .arguments) (argument (namesAt (now s) (now names)) (length (now items)))
-        (now s) (f .first .at))) ⌝ }
+    requires { ⌜ Lent (now s) (now t) (now pool) × Item (now s) (now t) v ×
+        Function (now s) (now t) f × (f .number ≡ v .number) ×
+        Arguments (now s) (now t) f (now offsets) × (f .arguments ≤ length (now offsets)) ×
+        (comment .at ≡ behindArguments (now s) (now t) f) ⌝ }
     ensures { λ r. ⌜ Wrote (sink (now (out .entry)) at)
         (functionShim (record {
           header = header;
           doxygen = doxygen;
-          items = itemsAt (now (s .entry)) (now (names .entry)) (now (items .entry));
+          items = itemsOf (now (s .entry)) (now (t .entry));
         })
-        (itemAt (itemsAt (now (s .entry)) (now (names .entry)) (now (items .entry))) (v .number))
-        (functionAt (now (s .entry)) (now (names .entry)) (now (items .entry)) (f .number)))
+        (itemAt (itemsOf (now (s .entry)) (now (t .entry))) (v .number))
+        (functionOf (now (s .entry)) (now (t .entry)) (f .number)))
         (sink (now (out .exit)) r) ⌝ }
 {
-    let a = write_shim_doc(s, names, items, doxygen, f, comment, out, at);
-    let b = write_shim_decl(s, names, items, v, f, offsets, out, a);
+    let a = write_shim_doc(s, t, pool, doxygen, f, comment, out, at);
+    let b = write_shim_decl(s, t, pool, v, f, offsets, out, a);
     if header {
         return put_bytes(out, b, b";\n");
     }
-    write_shim_body(s, names, items, v, f, offsets, out, b)
+    write_shim_body(s, t, pool, v, f, offsets, out, b)
 }

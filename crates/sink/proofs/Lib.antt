@@ -1,4 +1,5 @@
 pub mod SinkLaws
-mod StoreLaws
+pub mod StoreLaws
 mod DigitLaws
 pub mod ServiceLaws
+pub mod CopyLaws

@@ -6,7 +6,7 @@ use native.Mathlib.Omega.{arith}
 use lib.ListN.{length, drop}
 use lib.Seq.{sets-eq}
 use Rattle.sink.specs.Sink.{Sink, sink, limit, Wrote}
-use Rattle.sink.proofs.SinkLaws.{wrote-place, wrote-length}
+use Rattle.sink.proofs.SinkLaws.{wrote-place, wrote-length, wrote-whole}
 use Rattle.sink.proofs.StoreLaws.{buffer-emit}
 
 -- a measuring pass
@@ -27,7 +27,7 @@ pub written :
 written {text} l p h g =
     let z : 0 + length text ≡ length text = omega arith in
     let fits : 0 + length text ≤ length l = omega arith in
-    ap (λ (x : Sink). x .buf) (p .is)
+    ap (λ (x : Sink). x .buf) (wrote-whole p (omega arith))
     ∙ buffer-emit text (sink l 0) (omega arith) (omega arith)
     ∙ sets-eq text l 0 fits
     ∙ rw z

@@ -1,15 +1,20 @@
 -- A text written by stores: the loops of `put_bytes` and `put_repeat`.
 use mathlib.Core.Path.{_≡_, refl, sym, ap, _∙_}
 use mathlib.Core.Logic.{by-cases}
-use mathlib.Core.List.{List, [], _∷_, _++_}
+use mathlib.Core.List.{List, [], _∷_, _++_, append-assoc}
+use mathlib.Core.Bool.{Bool, true, false}
 use Prim.Native.Nat.{ℕ, suc, _+_, _-_, _≤_, _<_, min}
 use native.Mathlib.Omega.{arith}
 use native.Mathlib.Decide.{decLt}
 use native.Mathlib.Numerals.{add-one}
+use lib.Dec.{leb}
+use borrow.Rule.Slice.PartMut.{putMid}
+use borrow.Author.Tests.{leb-true, leb-false, le-leb, lt-leb}
 use lib.ListN.{length, getD, set, take, drop, replicate, length-set, take-append-drop, length-replicate, getD-replicate}
-use lib.Seq.{sets, set-out, take-suc, take-all, length-sets, length-take-le}
-use Rattle.sink.specs.Sink.{Sink, sink, limit, step, emit, Wrote}
-use Rattle.sink.proofs.SinkLaws.{place-emit}
+use lib.Seq.{sets, set-out, take-suc, take-all, length-sets, length-take-le, sets-eq, drop-drop}
+use Rattle.sink.specs.Sink.{Sink, sink, limit, step, emit, hasRoom, seen, Wrote}
+use Rattle.sink.specs.Copying.{Fits}
+use Rattle.sink.proofs.SinkLaws.{place-emit, wrote-by}
 
 sets-append : (a b l : List ℕ) (i : ℕ) → sets l i (a ++ b) ≡ sets (sets l i a) (i + length a) b
 sets-append [] b l i = let e : i + 0 ≡ i = omega arith in rw e
@@ -67,46 +72,58 @@ pub repeated-next :
 repeated-next count b {i = i} p h =
     stored-next p (omega (arith, length-replicate count b)) (sym (getD-replicate count i b 0 h))
 
--- the bytes behind the buffer's end are not missed
-sets-fitting :
-    (l text : List ℕ) (at n : ℕ) → n ≡ min (length text) (length l - at) → sets l at (take n text) ≡ sets l at text
-sets-fitting l text at n e =
-    by-cases
-    (decLt n (length text))
-    (λ clipped.
-    let k : length (take n text) ≡ n = length-take-le n text (omega arith) in
-    let past : length (sets l at (take n text)) ≤ at + length (take n text) =
-    omega (arith, length-sets l at (take n text)) in
-    sym
-    (ap (λ (t : List ℕ). sets l at t) (sym (take-append-drop n text))
-    ∙ sets-append (take n text) (drop n text) l at
-    ∙ sets-past (drop n text) (sets l at (take n text)) (at + length (take n text)) past))
-    (λ whole. ap (λ (t : List ℕ). sets l at t) (take-all n text (omega arith)))
+-- ---- a text that has room, and one that has none
 
--- all that fits is stored
-pub stored-wrote :
-    (n : ℕ) {l text now : List ℕ} {at r : ℕ} →
-    now ≡ sets l at (take n text) →
-    n ≡ min (length text) (length l - at) →
-    r ≡ min limit (at + length text) →
-    length l ≤ limit →
-    at ≤ limit →
-    Wrote (sink l at) text (sink now r)
-stored-wrote n {l} {text} {now} {at} {r} p e f h g =
-    let after : Sink = emit (sink l at) text in
-    let b : now ≡ after .buf = p ∙ sets-fitting l text at n e ∙ sym (buffer-emit text (sink l at) h g) in
-    let a : r ≡ after .at = f ∙ sym (place-emit text (sink l at) g) in
-    record { is = ap (λ (x : List ℕ). sink x r) b ∙ ap (λ (k : ℕ). sink (after .buf) k) a }
+module _ {at count size : ℕ} {b : Bool} (f : Fits at count size b) where
+  pub room : b ≡ true → at + count ≤ size
+  room t = leb-true (at + count) size (sym (f .is) ∙ t)
 
--- one byte, within the buffer and past it
-pub wrote-within :
-    (l : List ℕ) (at b : ℕ) → at < limit → Wrote (sink l at) (b ∷ []) (sink (set l at b) (at + 1))
-unfolding emit
-wrote-within l at b h =
-    let e : min limit (at + 1) ≡ at + 1 = omega arith in
-    record { is = rw e }
+  pub no-room : b ≡ false → size < at + count
+  no-room t = leb-false (at + count) size (sym (f .is) ∙ t)
 
-pub wrote-past :
-    (l : List ℕ) (at b r : ℕ) → length l ≤ at → r ≡ min limit (at + 1) → Wrote (sink l at) (b ∷ []) (sink l r)
-unfolding emit
-wrote-past l at b r h e = record { is = rw (e, set-out l at b h) }
+pub fits-past : (at count size : ℕ) → size < at → Fits at count size false
+fits-past at count size h = record { is = sym (lt-leb (at + count) size (omega arith)) }
+
+pub fits-within : (at count size : ℕ) → at ≤ size → Fits at count size (leb count (size - at))
+fits-within at count size h = record {
+  is = by-cases
+      (decLt size (at + count))
+      (λ past. lt-leb count (size - at) (omega arith) ∙ sym (lt-leb (at + count) size past))
+      (λ within. le-leb count (size - at) (omega arith) ∙ sym (le-leb (at + count) size (omega arith)));
+}
+
+module _ {l text : List ℕ} {at : ℕ} where
+  -- all of it is stored
+  wrote-stored : {now : List ℕ} → now ≡ sets l at text → at + length text ≤ length l → length l ≤ limit →
+      Wrote (sink l at) text (sink now (at + length text))
+  wrote-stored {now} p h g =
+      let after : Sink = emit (sink l at) text in
+      let b : now ≡ after .buf = p ∙ sym (buffer-emit text (sink l at) g (omega arith)) in
+      let a : at + length text ≡ after .at = omega (arith, place-emit text (sink l at) (omega arith)) in
+      record { is = ap (seen (hasRoom (sink l at) text)) (rw (b, a)) }
+
+  pub wrote-copied : {now : List ℕ} → now ≡ sets l at (take (length text) text) → at + length text ≤ length l →
+      length l ≤ limit → Wrote (sink l at) text (sink now (at + length text))
+  wrote-copied p = wrote-stored (p ∙ ap (sets l at) (take-all (length text) text (omega arith)))
+
+  -- in the part of the buffer that it takes, of n bytes
+  pub wrote-part : {n : ℕ} {part : List ℕ} → part ≡ text → length text ≡ n → at + n ≤ length l → length l ≤ limit →
+      Wrote (sink l at) text (sink (putMid at (at + n - at) l part) (at + n))
+  wrote-part {n} p k h =
+      let e : at + (at + n - at) ≡ at + length text = omega arith in
+      let f : at + n ≡ at + length text = omega arith in
+      let g : at + length text ≤ length l = omega arith in
+      rw f (wrote-stored (rw (p, ← f, drop-drop (at + n - at) at l, e) (rw append-assoc at (sym (sets-eq text l at g)))) g)
+
+  -- none of it
+  pub wrote-none : {n r : ℕ} → length text ≡ n → length l < at + n → at ≤ limit → r ≡ min limit (at + n) →
+      Wrote (sink l at) text (sink l r)
+  wrote-none k h g e =
+      wrote-by (omega (arith, place-emit text (sink l at) g)) refl (λ room. absurd (omega arith))
+
+pub wrote-repeated : (count b : ℕ) {l now : List ℕ} {at i : ℕ} → Stored l at (replicate count b) i now → count ≤ i →
+    at + count ≤ length l → length l ≤ limit → Wrote (sink l at) (replicate count b) (sink now (at + count))
+wrote-repeated count b {l} {at = at} {i} p h g k =
+    let n = length-replicate count b in
+    let all = take-all i (replicate count b) (omega (arith, n)) in
+    rw n at (wrote-stored {l = l} {text = replicate count b} {at = at} (p .is ∙ ap (sets l at) all) (rw n g) k)

@@ -1,18 +1,19 @@
-// Writers of bytes into a lent buffer. Each takes the buffer and the place of its first byte, stores what the buffer
-// has room for, and answers the place behind its text. On an empty slice the same call measures.
+// Writers of bytes into a lent buffer. Each takes the buffer and the place of its first byte, stores its text if the
+// buffer has room for it, and answers the place behind it. On an empty slice the same call measures.
 ghost use mathlib.Core.List.{[], _∷_};
 ghost use mathlib.Core.Path.{_≡_};
-ghost use Prim.Native.Nat.{_+_, _-_, _≤_, min};
+ghost use Prim.Native.Nat.{_+_, _≤_, min};
 ghost use lib.ListN.{length, take, replicate};
 ghost use lib.Seq.{sets};
 ghost use Rattle.lexical.specs.Decimal.{digits, decimal, pickText};
 ghost use Rattle.sink.specs.Sink.{limit, sink, Wrote};
+ghost use Rattle.sink.specs.Copying.{Fits, Copied};
 
 // The largest place: no buffer reaches it.
 const LIMIT: usize = 0xffff_ffff_ffff_ffff;
 
 // The place `count` bytes on.
-fn advance(at: usize, count: usize) -> usize
+pub fn advance(at: usize, count: usize) -> usize
     ensures { λ r. ⌜ r ≡ min limit (at + count) ⌝ }
 {
     if count <= LIMIT - at {
@@ -21,34 +22,19 @@ fn advance(at: usize, count: usize) -> usize
     LIMIT
 }
 
-// How many of `count` bytes from the place on lie within a buffer of length `len`.
-fn fitting(len: usize, at: usize, count: usize) -> usize
-    ensures { λ r. ⌜ r ≡ min count (len - at) ⌝ }
+// Whether a buffer of length `len` has room for `count` bytes from the place on.
+pub fn has_room(len: usize, at: usize, count: usize) -> bool
+    ensures { λ r. ⌜ Fits at count len r ⌝ }
 {
-    if len <= at {
-        return 0;
+    if len < at {
+        return false;
     }
-    let room = len - at;
-    if count <= room {
-        return count;
-    }
-    room
-}
-
-// One byte.
-pub fn put_byte(out: &mut [u8], at: usize, byte: u8) -> usize
-    ensures { λ r. ⌜ Wrote (sink (now (out .entry)) at) (byte ∷ []) (sink (now (out .exit)) r) ⌝ }
-{
-    if at < out.len() {
-        out[at] = byte;
-        return at + 1;
-    }
-    advance(at, 1)
+    count <= len - at
 }
 
 // The first `count` bytes of a text, all within the buffer.
 fn copy_at(out: &mut [u8], at: usize, text: &[u8], count: usize)
-    requires { ⌜ (count ≤ length (now text)) × (count ≤ length (now out) - at) ⌝ }
+    requires { ⌜ (count ≤ length (now text)) × (at + count ≤ length (now out)) ⌝ }
     ensures { λ _. ⌜ now (out .exit) ≡ sets (now (out .entry)) at (take count (now (text .entry))) ⌝ }
 {
     let mut i = 0;
@@ -58,18 +44,93 @@ fn copy_at(out: &mut [u8], at: usize, text: &[u8], count: usize)
     }
 }
 
-// The bytes of a text. One that fits is copied by its own length, a constant where the text is a literal.
+// The bytes of a text, copied by its own length, a constant where the text is a literal.
 pub fn put_bytes(out: &mut [u8], at: usize, text: &[u8]) -> usize
     ensures { λ r. ⌜ Wrote (sink (now (out .entry)) at) (now (text .entry)) (sink (now (out .exit)) r) ⌝ }
 {
     let count = text.len();
-    let stored = fitting(out.len(), at, count);
-    if stored < count {
-        copy_at(out, at, text, stored);
-        return advance(at, count);
+    let room = has_room(out.len(), at, count);
+    if room {
+        copy_at(out, at, text, count);
+        return at + count;
     }
-    copy_at(out, at, text, count);
-    at + count
+    advance(at, count)
+}
+
+// One byte.
+pub fn put_byte(out: &mut [u8], at: usize, byte: u8) -> usize
+    ensures { λ r. ⌜ Wrote (sink (now (out .entry)) at) (byte ∷ []) (sink (now (out .exit)) r) ⌝ }
+{
+    put_bytes(out, at, &[byte])
+}
+
+// Eight bytes of a text, behind its first i in buf.
+fn copy_eight(text: &[u8], i: usize, buf: &mut [u8])
+    requires { ⌜ (i + 8 ≤ length (now text)) × Copied (now text) i (now buf) ⌝ }
+    ensures { λ _. ⌜ Copied (now (text .entry)) (i + 8) (now (buf .exit)) ⌝ }
+{
+    let a = text[i];
+    let b = text[i + 1];
+    let c = text[i + 2];
+    let d = text[i + 3];
+    let e = text[i + 4];
+    let f = text[i + 5];
+    let g = text[i + 6];
+    let h = text[i + 7];
+    buf[i] = a;
+    buf[i + 1] = b;
+    buf[i + 2] = c;
+    buf[i + 3] = d;
+    buf[i + 4] = e;
+    buf[i + 5] = f;
+    buf[i + 6] = g;
+    buf[i + 7] = h;
+}
+
+// A text of fewer than eight bytes into a buffer of its length.
+fn copy_few(text: &[u8], buf: &mut [u8])
+    requires { ⌜ length (now buf) ≡ length (now text) ⌝ }
+    ensures { λ _. ⌜ now (buf .exit) ≡ now (text .entry) ⌝ }
+{
+    let n = text.len();
+    let mut i = 0;
+    while i < n {
+        buf[i] = text[i];
+        i += 1;
+    }
+}
+
+// A text into a buffer of its length: eight bytes by eight, and the last eight once more.
+fn copy(text: &[u8], buf: &mut [u8])
+    requires { ⌜ length (now buf) ≡ length (now text) ⌝ }
+    ensures { λ _. ⌜ now (buf .exit) ≡ now (text .entry) ⌝ }
+{
+    let n = text.len();
+    if n < 8 {
+        copy_few(text, buf);
+        return;
+    }
+    let last = n - 8;
+    let mut i = 0;
+    while i < last {
+        copy_eight(text, i, buf);
+        i += 8;
+    }
+    copy_eight(text, last, buf);
+}
+
+// The bytes of a text whose length is no constant.
+pub fn put_text(out: &mut [u8], at: usize, text: &[u8]) -> usize
+    ensures { λ r. ⌜ Wrote (sink (now (out .entry)) at) (now (text .entry)) (sink (now (out .exit)) r) ⌝ }
+{
+    let count = text.len();
+    let room = has_room(out.len(), at, count);
+    if room {
+        let end = at + count;
+        copy(text, &mut out[at..end]);
+        return end;
+    }
+    advance(at, count)
 }
 
 // The bytes of a text where `yes`, or else nothing.
@@ -98,11 +159,14 @@ pub fn put_unless(out: &mut [u8], at: usize, no: bool, text: &[u8]) -> usize
 pub fn put_repeat(out: &mut [u8], at: usize, count: usize, byte: u8) -> usize
     ensures { λ r. ⌜ Wrote (sink (now (out .entry)) at) (replicate count byte) (sink (now (out .exit)) r) ⌝ }
 {
-    let stored = fitting(out.len(), at, count);
-    let mut i = 0;
-    while i < stored {
-        out[at + i] = byte;
-        i += 1;
+    let room = has_room(out.len(), at, count);
+    if room {
+        let mut i = 0;
+        while i < count {
+            out[at + i] = byte;
+            i += 1;
+        }
+        return at + count;
     }
     advance(at, count)
 }

@@ -27,7 +27,8 @@ pub fn list_order(s: &[u8], names: &[u32], items: &[u32], buf: &mut [u8]) -> Wri
         (now (buf .exit)) ⌝ }
 {
     let mut out = [0u8; Traversal::NUMBERS];
-    let r = order_of(s, names, items, &mut out);
+    let mut held = [0u8; Traversal::HELD];
+    let r = order_of(s, names, items, &mut held, &mut out);
     match r {
         Traversal::Cycle => Written::Refused(Refusal::Ring),
         Traversal::Done(end) => {

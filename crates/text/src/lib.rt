@@ -71,6 +71,18 @@ fn put_many(s: &[u8], at: u32, n: u32, buf: &mut [u8])
     put_eight(s, at, last, buf);
 }
 
+// The n characters at a position, all of them in the sheet, into the front of buf.
+pub fn unpack(s: &[u8], at: u32, n: u32, buf: &mut [u8])
+    requires { ⌜ Limited (now s) × (at + 7 * n ≤ 8 * length (now s)) × (n ≤ length (now buf)) ⌝ }
+    ensures { λ r. ⌜ Holds (now (s .entry)) at n (now (buf .exit)) ⌝ }
+{
+    if n < 8 {
+        put_few(s, at, n, buf);
+        return;
+    }
+    put_many(s, at, n, buf);
+}
+
 // The n characters at c, into the front of buf.
 fn chars(s: &[u8], c: Cursor, n: u32, buf: &mut [u8]) -> Step
     requires { ⌜ Limited (now s) × (c .at ≤ 8 * length (now s)) × (n ≤ length (now buf)) ⌝ }
@@ -82,11 +94,7 @@ fn chars(s: &[u8], c: Cursor, n: u32, buf: &mut [u8]) -> Step
         return Step::Fault(Refusal::CutSheet);
     }
     let next = Cursor { at: at + 7 * n };
-    if n < 8 {
-        put_few(s, at, n, buf);
-        return Step::At(next);
-    }
-    put_many(s, at, n, buf);
+    unpack(s, at, n, buf);
     Step::At(next)
 }
 

@@ -1,76 +1,73 @@
 -- Laws of the arguments of a function by number.
-use mathlib.Core.Path.{_≡_, refl, sym, ap, _∙_}
+use mathlib.Core.Path.{_≡_, sym, ap, subst, _∙_}
 use mathlib.Core.List.{List, [], _∷_}
-use Prim.Native.Nat.{ℕ, suc, _+_, _-_, _<_, _≤_}
+use mathlib.Core.Bool.{Bool}
+use Prim.Native.Nat.{ℕ, suc, _+_, _*_, _-_, _/_, _%_, _<_, _≤_}
 use native.Mathlib.Omega.{arith}
 use native.Mathlib.Numerals.{add-one}
+use lib.Dec.{eqb}
 use lib.ListN.{length, getD, drop, set}
-use lib.Seq.{drop-cons}
+use lib.Seq.{drop-cons, getD-set-same, getD-set-other}
+use borrow.Author.Tests.{eqb-true, eqb-false}
+use Rattle.lexical.proofs.BoolLaws.{by-cases}
+use Rattle.format.specs.Limits.{mostNames}
 use Rattle.format.specs.Decode.{got, Dec, many}
 use Rattle.format.specs.Bits.{bits, widthOf}
 use Rattle.format.specs.Types.{str}
 use Rattle.format.specs.Sheet.{Argument}
 use Rattle.format.specs.Decoding.{nameOf, type, argument}
+use Rattle.syntax.specs.Types.{needsIndirectAbi, isRustString}
 use Rattle.cursor.specs.declared.Cursor.{Cursor}
-use Rattle.cursor.specs.Checking.{positionOf, Table}
 use Rattle.cursor.proofs.CheckLaws.{many-length}
-use Rattle.cursor.proofs.TableLaws.{Filling, fill-none, fill-turn, fill-done, placed-got, located}
 use Rattle.cursor.specs.declared.Found.{Found}
-use Rattle.view.specs.declared.FunctionView.{FunctionView}
-use Rattle.view.specs.Values.{nextOf, namesAt, functionAt, argumentAt}
-use Rattle.view.specs.Views.{Finds, FunctionAt, ArgumentsAt, ArgumentOf}
-use Rattle.cursor.proofs.YieldLaws.{yields, in-turn, got-value, got-next}
+use Rattle.cursor.proofs.YieldLaws.{yields, yielded, in-turn, got-value, got-next}
 use Rattle.names.proofs.NameLaws.{Read, name-read}
+use Rattle.view.specs.declared.FunctionView.{FunctionView}
+use Rattle.view.specs.declared.ArgumentView.{ArgumentView}
+use Rattle.view.specs.Values.{nextOf, Yields, namesAt, itemsAt, functionAt, argumentAt, typeHere}
+use Rattle.view.specs.Views.{Finds, FunctionAt, ArgumentsAt, ArgumentOf, FactsOf, unpacked}
 
--- ---- a table of positions, filled where all values are known to be there
+-- ---- an entry of a table
 
-module _ {A : Type 0} (d : Dec A) (s : List ℕ) (n at₀ : ℕ) (xs : List A) (e : ℕ) where
-  -- i positions stand in b, and the rest of the values stands at the position
-  pub record Placing (i : ℕ) (b : List ℕ) (at : ℕ) : Type 0 where
-    pub filling : Filling (positionOf d) s n at₀ i b at
-    pub rest : many (n - i) d s at ≡ got (drop i xs) e
+last-bit : (x k : ℕ) → k < 2 → (x * 2 + k) % 2 ≡ k
+last-bit x k h = omega arith
 
-  pub place-none : (b : List ℕ) → many n d s at₀ ≡ got xs e → Placing 0 b at₀
-  place-none b h = record {
-    filling = fill-none (positionOf d) s n at₀ b;
-    rest = (let z : n - 0 ≡ n = omega arith in rw z h);
-  }
+pub packed : (name : ℕ) (of : Cursor) {indirect string : Bool} (low high : ℕ) → name ≤ mostNames →
+    (low < 2) × (eqb low 1 ≡ indirect) → (high < 2) × (eqb high 1 ≡ string) →
+    unpacked (of .at * 4096 + name * 4 + high * 2 + low) ≡
+    record { name = name; of = of; indirect = indirect; string = string }
+packed name of low high h a b =
+    let e = of .at * 4096 + name * 4 + high * 2 + low in
+    let x = of .at * 1024 + name in
+    let four : e / 4 ≡ x = omega arith in
+    let n : e / 4 % 1024 ≡ name = omega arith in
+    let p : e / 4096 ≡ of .at = omega arith in
+    let i : e % 2 ≡ low = omega arith in
+    let two : e / 2 ≡ x * 2 + high = omega arith in
+    let j : e / 2 % 2 ≡ high = rw two (last-bit x high (b .0)) in
+    rw (n, p, i, j, a .1, b .1)
 
+-- ---- values in a row, where all of them are known to be there
+
+module _ {A : Type 0} (d : Dec A) (s : List ℕ) (n : ℕ) (xs : List A) (e : ℕ) where
   next-value : (i : ℕ) (z : A) → i < length xs → drop i xs ≡ getD xs i z ∷ drop (i + 1) xs
   next-value i z k = rw (add-one i) (drop-cons xs i z k)
 
-  -- the value at the position
-  pub ahead : {i : ℕ} {b : List ℕ} (at : ℕ) (z : A) → length xs ≡ n → Placing i b at → i < n →
+  -- value i at the position, and the rest behind it
+  ahead : (i at : ℕ) (z : A) → length xs ≡ n → many (n - i) d s at ≡ got (drop i xs) e → i < n →
       (d s at ≡ got (getD xs i z) (nextOf (d s at))) × (many (n - (i + 1)) d s (nextOf (d s at)) ≡ got (drop (i + 1) xs) e)
   unfolding many
-  ahead {i} at z q p l =
+  ahead i at z q p l =
       let y : n - i ≡ suc (n - (i + 1)) = omega arith in
       let k : i < length xs = omega arith in
       let h : many (suc (n - (i + 1))) d s at ≡ got (getD xs i z ∷ drop (i + 1) xs) e =
-      ap (λ (j : ℕ). many j d s at) (sym y) ∙ p .rest ∙ ap (λ (l : List A). got l e) (next-value i z k) in
+      ap (λ (j : ℕ). many j d s at) (sym y) ∙ p ∙ ap (λ (l : List A). got l e) (next-value i z k) in
       in-turn (d s at) _ h (λ x m e₁ h₁.
       in-turn (many (n - (i + 1)) d s m) _ h₁ (λ ys a e₂ h₂.
       let u : x ∷ ys ≡ getD xs i z ∷ drop (i + 1) xs = got-value h₂ in
       let v : x ≡ getD xs i z = cc in
       let w : ys ≡ drop (i + 1) xs = cc in
       (rw (e₁, v), rw (e₁, e₂, w, got-next h₂))))
-
-  pub place-turn : {i : ℕ} {b : List ℕ} (at : ℕ) {m : ℕ} → A → length xs ≡ n → Placing i b at → i < n → i < length b →
-      m ≡ nextOf (d s at) → Placing (i + 1) (set b i at) m
-  place-turn {i} {b} at {m} z q p l k h =
-      let a = ahead at z q p l in
-      record {
-        filling = rw h (fill-turn (positionOf d) s n at₀ (p .filling) l k (placed-got d (a .0)));
-        rest = rw h (a .1);
-      }
-
-  pub place-done : {i : ℕ} {b : List ℕ} {c : Cursor} → many n d s at₀ ≡ got xs e → Placing i b (c .at) → i ≤ n → n ≤ i →
-      Table d s n b xs × (c .at ≡ e)
-  unfolding many
-  place-done {i} {b} {c} h p l k =
-      let t = located d s n at₀ {b = b} {c = c} (fill-done (positionOf d) s n at₀ {c = c} (p .filling) l k) refl in
-      let v : t .values ≡ xs = got-value (sym (t .decoded) ∙ h) in
-      (rw (← v) (t .table), got-next (sym (t .decoded) ∙ h))
 
 -- ---- an argument
 
@@ -90,18 +87,15 @@ module _ (s names : List ℕ) (n at : ℕ) {x : Argument} {m w : ℕ} {r : Found
   typed : type n s (r .next .at) ≡ got (x .type) m
   typed = ap (λ (a : ℕ). type n s a) (sym (name .next)) ∙ parts .2
 
-  pub argument-of : ArgumentOf s names n x (record { name = r .value; of = r .next })
-  argument-of = record { named = name .there; name = name .name; of = yields typed }
+  argument-of : (b c : Bool) → ArgumentOf s names n x (record { name = r .value; of = r .next; indirect = b; string = c })
+  argument-of b c = record { named = name .there; name = name .name; of = yields typed }
 
-  pub argument-next : {k : ℕ} → k ≡ nextOf (type n s (r .next .at)) → k ≡ nextOf (argument (namesAt s names) n s at)
+  type-there : Yields (type n s (r .next .at)) (typeHere n s (r .next .at))
+  unfolding typeHere
+  type-there = let y = yields typed in rw (yielded str y) y
+
+  argument-next : {k : ℕ} → k ≡ nextOf (type n s (r .next .at)) → k ≡ nextOf (argument (namesAt s names) n s at)
   argument-next e = e ∙ ap nextOf typed ∙ sym (ap nextOf h)
-
-pub argument-there : (s names items : List ℕ) (v : FunctionView) {offsets : List ℕ} (j : ℕ) →
-    ArgumentsAt s names items v offsets → j < v .arguments →
-    (m : ℕ) ×
-    (argument (namesAt s names) (length items) s (getD offsets j 0) ≡ got (argumentAt s names items (v .number) j) m)
-unfolding argumentAt
-argument-there s names items v j a h = a .table .each j (record { name = []; type = str }) h
 
 -- ---- the arguments of a function's view
 
@@ -109,29 +103,68 @@ module _ (s names items : List ℕ) (v : FunctionView) where
   abbrev d : Dec Argument
   d = argument (namesAt s names) (length items)
 
-  -- the positions of i arguments stand in b, and the next argument stands at the position
-  abbrev pub Arguments : ℕ → List ℕ → ℕ → Type 0
-  Arguments i b at =
-      Placing d s (v .arguments) (v .first .at) (functionAt s names items (v .number) .arguments)
-      (nextOf (many (v .arguments) d s (v .first .at))) i b at
+  abbrev xs : List Argument
+  xs = functionAt s names items (v .number) .arguments
+
+  -- entry j of the table b holds a view of argument j
+  abbrev Entry : List ℕ → ℕ → Type 0
+  Entry b j =
+      ArgumentOf s names (length items) (argumentAt s names items (v .number) j) (unpacked (getD b j 0)) ×
+      FactsOf s names items (unpacked (getD b j 0))
+
+  -- views of i arguments stand in b, and the next argument stands at the position
+  pub record Arguments (i : ℕ) (b : List ℕ) (at : ℕ) : Type 0 where
+    pub each : (j : ℕ) → j < i → Entry b j
+    pub rest : many (v .arguments - i) d s at ≡ got (drop i xs) (nextOf (many (v .arguments) d s (v .first .at)))
 
   module _ (f : FunctionAt s names items v) where
-    count : length (functionAt s names items (v .number) .arguments) ≡ v .arguments
+    count : length xs ≡ v .arguments
     count = many-length d s (v .arguments) (v .first .at) (f .view .arguments .is)
 
     pub arguments-none : (b : List ℕ) → Arguments 0 b (v .first .at)
-    arguments-none b = place-none d s (v .arguments) (v .first .at) _ _ b (f .view .arguments .is)
+    arguments-none b = record {
+      each = λ j h. absurd (omega arith);
+      rest = (let z : v .arguments - 0 ≡ v .arguments = omega arith in rw z (f .view .arguments .is));
+    }
 
-    pub arguments-turn : {i : ℕ} {b : List ℕ} (at : ℕ) {m w : ℕ} {r : Found} → Arguments i b at → i < v .arguments →
-        i < length b → w ≡ widthOf (length names) → Finds (bits w s at) w r →
-        m ≡ nextOf (type (length items) s (r .next .at)) → Arguments (i + 1) (set b i at) m
-    arguments-turn at p l k z g e =
-        let a = ahead d s (v .arguments) (v .first .at) _ _ at (record { name = []; type = str }) count p l in
-        place-turn d s (v .arguments) (v .first .at) _ _ at (record { name = []; type = str }) count p l k
-        (argument-next s names (length items) at (a .0) z g e)
+    module _ {i : ℕ} {b : List ℕ} (at : ℕ) {w : ℕ} {r : Found} (p : Arguments i b at) (l : i < v .arguments)
+        (z : w ≡ widthOf (length names)) (g : Finds (bits w s at) w r) where
+      here : (d s at ≡ got (argumentAt s names items (v .number) i) (nextOf (d s at))) ×
+          (many (v .arguments - (i + 1)) d s (nextOf (d s at)) ≡
+          got (drop (i + 1) xs) (nextOf (many (v .arguments) d s (v .first .at))))
+      unfolding argumentAt
+      here = ahead d s (v .arguments) xs _ i at (record { name = []; type = str }) count (p .rest) l
+
+      -- its type, and the index of its name
+      pub argument-type : Yields (type (length items) s (r .next .at)) (typeHere (length items) s (r .next .at))
+      argument-type = type-there s names (length items) at (here .0) z g
+
+      pub argument-named : r .value < length names
+      argument-named = name s names (length items) at (here .0) z g .there
+
+      pub arguments-turn : {m : ℕ} {b₁ b₂ : Bool} (e : ℕ) → i < length b →
+          b₁ ≡ needsIndirectAbi (itemsAt s names items) (typeHere (length items) s (r .next .at)) →
+          b₂ ≡ isRustString (typeHere (length items) s (r .next .at)) →
+          unpacked e ≡ record { name = r .value; of = r .next; indirect = b₁; string = b₂ } →
+          m ≡ nextOf (type (length items) s (r .next .at)) → Arguments (i + 1) (set b i e) m
+      arguments-turn {m} {b₁} {b₂} e k h₁ h₂ u q = record {
+        each = λ j h. by-cases (eqb j i)
+            (λ t. let y : j ≡ i = eqb-true j i t in rw (y, getD-set-same b i e 0 k) new)
+            (λ t. rw (getD-set-other b i j e 0 (eqb-false j i t))
+            (p .each j (let y = eqb-false j i t in omega arith)));
+        rest = rw (argument-next s names (length items) at (here .0) z g q) (here .1);
+      }
+        where
+          new : ArgumentOf s names (length items) (argumentAt s names items (v .number) i) (unpacked e) ×
+              FactsOf s names items (unpacked e)
+          new = subst (λ (a : ArgumentView). ArgumentOf s names (length items) (argumentAt s names items (v .number) i) a ×
+              FactsOf s names items a) (sym u)
+              (argument-of s names (length items) at (here .0) z g b₁ b₂, record { indirect = h₁; string = h₂ })
 
     pub arguments-done : {i : ℕ} {b : List ℕ} (c : Cursor) → Arguments i b (c .at) → i ≤ v .arguments → v .arguments ≤ i →
         ArgumentsAt s names items v b × (c .at ≡ nextOf (many (v .arguments) d s (v .first .at)))
-    arguments-done c p l k =
-        let q = place-done d s (v .arguments) (v .first .at) _ _ {c = c} (f .view .arguments .is) p l k in
-        (record { table = q .0 }, q .1)
+    unfolding many
+    arguments-done {i} c p l k =
+        let y : v .arguments ≡ i = omega arith in
+        let z : v .arguments - i ≡ 0 = omega arith in
+        (record { count = count; each = rw y (p .each) }, got-next (rw z at (p .rest)))

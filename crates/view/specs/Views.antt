@@ -2,7 +2,8 @@
 use mathlib.Core.Path.{_≡_}
 use mathlib.Core.List.{List}
 use mathlib.Core.Bool.{Bool, true, false}
-use Prim.Native.Nat.{ℕ, _<_, _≤_}
+use Prim.Native.Nat.{ℕ, _/_, _%_, _<_, _≤_}
+use lib.Dec.{eqb}
 use lib.ListN.{length, getD}
 use Rattle.format.specs.Limits.{mostBits, mostNamespaces, mostArguments}
 use Rattle.format.specs.Decode.{Got, got, Dec, pick, _>>_, pure, many}
@@ -15,15 +16,14 @@ use Rattle.format.specs.declared.TypeKind.the-variants as Kind
 use Rattle.format.specs.declared.ItemKind.{ItemKind}
 use Rattle.format.specs.declared.ItemKind.the-variants.{Struct, Enum, CxxType, RustType, RustFunction, Bad}
 use Rattle.syntax.specs.Items.{itemAt}
-use Rattle.syntax.specs.Types.{isIndirectTemplate}
-use Rattle.cursor.specs.Checking.{Table}
+use Rattle.syntax.specs.Types.{isIndirectTemplate, needsIndirectAbi, isRustString}
 pub use Rattle.cursor.specs.Yielding.{Finds}
 pub use Rattle.types.specs.Kinds.{kindOfType}
 use Rattle.view.specs.declared.ItemView.{ItemView}
 use Rattle.view.specs.declared.FormView.{FormView}
 use Rattle.view.specs.declared.FunctionView.{FunctionView}
 use Rattle.view.specs.declared.ArgumentView.{ArgumentView}
-use Rattle.view.specs.Values.{nextOf, Yields, nameAt, namesAt, itemsAt, functionAt}
+use Rattle.view.specs.Values.{nextOf, Yields, nameAt, namesAt, itemsAt, functionAt, argumentAt, typeHere}
 
 -- what a body's kind is
 abbrev pub kindOfBody : Body → ItemKind
@@ -99,17 +99,32 @@ pub record FunctionAt (s names items : List ℕ) (v : FunctionView) : Type 0 whe
   pub body : itemAt (itemsAt s names items) (v .number) .body ≡ function (functionAt s names items (v .number))
   pub view : FunctionOf s names (length items) (functionAt s names items (v .number)) v
 
--- at each of the offsets stands an argument of v
-pub record ArgumentsAt (s names items : List ℕ) (v : FunctionView) (offsets : List ℕ) : Type 0 where
-  pub table :
-      Table (argument (namesAt s names) (length items)) s (v .arguments) offsets
-      (functionAt s names items (v .number) .arguments)
-
 -- v is a view of the argument x, in a sheet of n items
 pub record ArgumentOf (s names : List ℕ) (n : ℕ) (x : Argument) (v : ArgumentView) : Type 0 where
   pub named : v .name < length names
   pub name : nameAt s (getD names (v .name) 0) ≡ x .name
   pub of : Yields (type n s (v .of .at)) (x .type)
+
+-- v's two bits are those of the type that stands at its position
+pub record FactsOf (s names items : List ℕ) (v : ArgumentView) : Type 0 where
+  pub indirect : v .indirect ≡ needsIndirectAbi (itemsAt s names items) (typeHere (length items) s (v .of .at))
+  pub string : v .string ≡ isRustString (typeHere (length items) s (v .of .at))
+
+-- the view that an entry of a table of arguments holds
+abbrev pub unpacked : ℕ → ArgumentView
+unpacked e = record {
+  name = e / 4 % 1024;
+  of = record { at = e / 4096 };
+  indirect = eqb (e % 2) 1;
+  string = eqb (e / 2 % 2) 1;
+}
+
+-- the front of offsets holds views of the arguments of v
+pub record ArgumentsAt (s names items : List ℕ) (v : FunctionView) (offsets : List ℕ) : Type 0 where
+  pub count : length (functionAt s names items (v .number) .arguments) ≡ v .arguments
+  pub each : (j : ℕ) → j < v .arguments →
+      ArgumentOf s names (length items) (argumentAt s names items (v .number) j) (unpacked (getD offsets j 0)) ×
+      FactsOf s names items (unpacked (getD offsets j 0))
 
 -- ---- types
 

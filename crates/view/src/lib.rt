@@ -13,17 +13,18 @@ use types::check_type;
 ghost use mathlib.Core.Path.{_≡_};
 ghost use mathlib.Core.List.{[]};
 ghost use Prim.Native.Nat.{_≤_, _<_};
+ghost use lib.Dec.{eqb};
 ghost use lib.ListN.{length, getD};
-ghost use Rattle.format.specs.Limits.{mostArguments};
+ghost use Rattle.format.specs.Limits.{mostNames, mostBits, mostArguments};
 ghost use Rattle.format.specs.Decode.{many};
 ghost use Rattle.format.specs.Decoding.{name, type, optional, argument as argumentOf, form};
 ghost use Rattle.format.specs.declared.ItemKind.the-variants.{RustFunction};
 ghost use Rattle.syntax.specs.Items.{itemAt};
 ghost use Rattle.syntax.specs.Types.{pointerBit, isIndirectTemplate, needsIndirectAbi, isRustString};
 ghost use Rattle.cursor.specs.Checking.{Limited};
-ghost use Rattle.view.specs.Values.{nextOf, Yields, nameAt, namesAt, itemsAt, argumentAt, typeHere};
+ghost use Rattle.view.specs.Values.{nextOf, Yields, nameAt, namesAt, itemsAt, typeHere};
 ghost use Rattle.view.specs.Values.{Named, Whole};
-ghost use Rattle.view.specs.Views.{kindOfBody, ItemAt, Formed, FunctionAt, ArgumentsAt, ArgumentOf};
+ghost use Rattle.view.specs.Views.{kindOfBody, ItemAt, Formed, FunctionAt, ArgumentsAt, unpacked};
 ghost use Rattle.view.specs.Views.{isFunctionKind, kindOfType, isAtomKind, isNamedKind, isIndirectKind};
 
 // ---- items
@@ -219,7 +220,35 @@ pub fn function(s: &[u8], names: &[u32], items: &[u32], v: ItemView) -> Function
     }
 }
 
-// The position of each argument, into the front of offsets; the answer is the position behind the last.
+// An argument: the index of its name, where its type stands, whether that needs an indirect ABI, and whether it is
+// RustString.
+pub struct ArgumentView {
+    pub name: u32,
+    pub of: Cursor,
+    pub indirect: bool,
+    pub string: bool,
+}
+
+fn one_if(b: bool) -> u32
+    ensures { λ r. ⌜ (r < 2) × (eqb r 1 ≡ b) ⌝ }
+{
+    if b {
+        return 1;
+    }
+    0
+}
+
+// An argument's view as one entry of a table (`unpacked` of specs/Views.antt).
+fn pack(name: u32, of: Cursor, indirect: bool, string: bool) -> u32
+    requires { ⌜ (name ≤ mostNames) × (of .at ≤ mostBits) ⌝ }
+    ensures { λ r. ⌜ unpacked r ≡ record { name = name; of = of; indirect = indirect; string = string } ⌝ }
+{
+    let low = one_if(indirect);
+    let high = one_if(string);
+    of.at * 4096 + name * 4 + high * 2 + low
+}
+
+// Each argument's view, packed, into the front of offsets; the answer is the position behind the last.
 pub fn fill_arguments(
     s: &[u8],
     names: &[u32],
@@ -240,42 +269,30 @@ pub fn fill_arguments(
     let mut i: u32 = 0;
     while i < v.arguments {
         let k = i as usize;
-        let here = next.at;
-        offsets[k] = here;
         let name = field(s, next, w);
-        next = past_type(s, name.next, n);
+        let of = name.next;
+        let indirect = needs_indirect_abi(s, names, items, of);
+        let string = is_rust_string(s, items, of);
+        offsets[k] = pack(name.value, of, indirect, string);
+        next = past_type(s, of, n);
         i = i + 1;
     }
     next
 }
 
-// An argument: the index of its name, and where its type stands.
-pub struct ArgumentView {
-    pub name: u32,
-    pub of: Cursor,
-}
-
-// Argument j of a function.
-pub fn argument(
-    s: &[u8],
-    names: &[u32],
-    items: &[u32],
-    v: FunctionView,
-    offsets: &[u32],
-    j: u32,
-) -> ArgumentView
-    requires { ⌜ Whole (now s) (now names) (now items) × ArgumentsAt (now s) (now names) (now items) v (now offsets) ×
-        (j < v .arguments) × (v .arguments ≤ length (now offsets)) ⌝ }
-    ensures { λ r. ⌜ ArgumentOf (now (s .entry)) (now (names .entry)) (length (now (items .entry)))
-        (argumentAt (now (s .entry)) (now (names .entry)) (now (items .entry)) (v .number) j) r ⌝ }
+// Argument j of the table that `fill_arguments` fills.
+pub fn argument(offsets: &[u32], j: u32) -> ArgumentView
+    requires { ⌜ j < length (now offsets) ⌝ }
+    ensures { λ r. ⌜ r ≡ unpacked (getD (now (offsets .entry)) j 0) ⌝ }
 {
     let k = j as usize;
-    let at = offsets[k];
-    let name = field(s, Cursor::new(at), width(names.len() as u32));
-    let of = name.next;
+    let e = offsets[k];
+    let of = Cursor::new(e / 4096);
     ArgumentView {
-        name: name.value,
+        name: e / 4 % 1024,
         of,
+        indirect: e % 2 == 1,
+        string: e / 2 % 2 == 1,
     }
 }
 

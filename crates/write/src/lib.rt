@@ -1,17 +1,19 @@
-// The text of a sheet: the port of write.rs' two passes. Every function is lent the sheet, the tables of the positions
-// of its names and items, the digests of the names, room for the positions of a function's arguments, and the buffer.
+// The text of a sheet: the port of write.rs' two passes. Every function is lent the sheet, the table and the
+// pool, the digests of the names, room for the views of a function's arguments, and the buffer.
+use content::flush;
 use format::ItemKind;
 use forward::write_forward_declarations;
 use out::Content;
-use out::flush;
 use out::next_section;
 use out::placed;
 use sections::write_opaque_type_layout;
 use sections::write_opaque_type_layout_decls;
 use sections::write_rust_function_decl;
 use sections::write_rust_function_shim;
+use tables::Pool;
+use tables::Table;
+use tables::item;
 use view::FunctionView;
-use view::item;
 ghost use mathlib.Core.Path.{_≡_};
 ghost use Prim.Native.Nat.{_≤_, _<_};
 ghost use lib.ListN.{length};
@@ -19,38 +21,38 @@ ghost use Rattle.sink.specs.Sink.{sink, Wrote};
 ghost use Rattle.format.specs.Limits.{mostArguments};
 ghost use Rattle.syntax.specs.Items.{itemAt};
 ghost use Rattle.bridge.specs.Write.{forEach, writeFunctions, text};
-ghost use Rattle.view.specs.Values.{itemsAt, Whole};
 ghost use Rattle.names.specs.Digests.{digestsAt};
 ghost use Rattle.sections.specs.Runs.{Representing, Runs, sheetOf};
 ghost use Rattle.write.specs.Passes.{declareItem, defineItem, Begins, Ends};
+ghost use Rattle.tables.specs.Tables.{namesIn, itemsIn, itemsOf, Item, Lent};
 
 // ---- the two passes
 
 // Item i in the first pass.
 fn declare(
     s: &[u8],
-    names: &[u32],
-    items: &[u32],
+    t: &[u32; Table::PLACES],
+    pool: &[u8; Pool::BYTES],
     digests: &[u32],
     i: u32,
     offsets: &mut [u32],
     c: Content,
     out: &mut [u8],
 ) -> Content
-    requires { ⌜ Whole (now s) (now names) (now items) × (now digests ≡ digestsAt (now s) (now names)) ×
-        (i < length (now items)) × (mostArguments ≤ length (now offsets)) ×
-        Representing (now s) (now names) (now out) c ⌝ }
-    ensures { λ r. ⌜ Runs (now (s .entry)) (now (names .entry)) (now (out .entry)) (now (out .exit))
-        (declareItem (itemsAt (now (s .entry)) (now (names .entry)) (now (items .entry)))
-        (itemAt (itemsAt (now (s .entry)) (now (names .entry)) (now (items .entry))) i)) c r ⌝ }
+    requires { ⌜ Lent (now s) (now t) (now pool) × (now digests ≡ digestsAt (now s) (namesIn (now t))) ×
+        (i < length (itemsIn (now t))) × (mostArguments ≤ length (now offsets)) ×
+        Representing (now s) (namesIn (now t)) (now out) c ⌝ }
+    ensures { λ r. ⌜ Runs (now (s .entry)) (namesIn (now (t .entry))) (now (out .entry)) (now (out .exit))
+        (declareItem (itemsOf (now (s .entry)) (now (t .entry)))
+        (itemAt (itemsOf (now (s .entry)) (now (t .entry))) i)) c r ⌝ }
 {
-    let v = item(s, names, items, i);
+    let v = item(s, t, i);
     let kind = v.kind;
     match kind {
         ItemKind::RustFunction => {
-            write_rust_function_decl(s, names, items, digests, v, offsets, c, out)
+            write_rust_function_decl(s, t, pool, digests, v, offsets, c, out)
         }
-        ItemKind::RustType => write_opaque_type_layout_decls(s, names, items, digests, v, c, out),
+        ItemKind::RustType => write_opaque_type_layout_decls(s, t, pool, digests, v, c, out),
         ItemKind::Struct => c,
         ItemKind::Enum => c,
         ItemKind::CxxType => c,
@@ -61,8 +63,8 @@ fn declare(
 // Item i in the second pass.
 fn define(
     s: &[u8],
-    names: &[u32],
-    items: &[u32],
+    t: &[u32; Table::PLACES],
+    pool: &[u8; Pool::BYTES],
     digests: &[u32],
     header: bool,
     doxygen: bool,
@@ -71,20 +73,20 @@ fn define(
     c: Content,
     out: &mut [u8],
 ) -> Content
-    requires { ⌜ Whole (now s) (now names) (now items) × (now digests ≡ digestsAt (now s) (now names)) ×
-        (i < length (now items)) × (mostArguments ≤ length (now offsets)) ×
-        Representing (now s) (now names) (now out) c ⌝ }
-    ensures { λ r. ⌜ Runs (now (s .entry)) (now (names .entry)) (now (out .entry)) (now (out .exit))
-        (defineItem (sheetOf header doxygen (itemsAt (now (s .entry)) (now (names .entry)) (now (items .entry))))
-        (itemAt (itemsAt (now (s .entry)) (now (names .entry)) (now (items .entry))) i)) c r ⌝ }
+    requires { ⌜ Lent (now s) (now t) (now pool) × (now digests ≡ digestsAt (now s) (namesIn (now t))) ×
+        (i < length (itemsIn (now t))) × (mostArguments ≤ length (now offsets)) ×
+        Representing (now s) (namesIn (now t)) (now out) c ⌝ }
+    ensures { λ r. ⌜ Runs (now (s .entry)) (namesIn (now (t .entry))) (now (out .entry)) (now (out .exit))
+        (defineItem (sheetOf header doxygen (itemsOf (now (s .entry)) (now (t .entry))))
+        (itemAt (itemsOf (now (s .entry)) (now (t .entry))) i)) c r ⌝ }
 {
-    let v = item(s, names, items, i);
+    let v = item(s, t, i);
     let kind = v.kind;
     match kind {
         ItemKind::RustFunction => write_rust_function_shim(
             s,
-            names,
-            items,
+            t,
+            pool,
             digests,
             header,
             doxygen,
@@ -97,7 +99,7 @@ fn define(
             if header {
                 return c;
             }
-            write_opaque_type_layout(s, names, items, digests, v, c, out)
+            write_opaque_type_layout(s, t, pool, digests, v, c, out)
         }
         ItemKind::Struct => c,
         ItemKind::Enum => c,
@@ -108,23 +110,23 @@ fn define(
 
 fn declare_all(
     s: &[u8],
-    names: &[u32],
-    items: &[u32],
+    t: &[u32; Table::PLACES],
+    pool: &[u8; Pool::BYTES],
     digests: &[u32],
     offsets: &mut [u32],
     mut c: Content,
     out: &mut [u8],
 ) -> Content
-    requires { ⌜ Whole (now s) (now names) (now items) × (now digests ≡ digestsAt (now s) (now names)) ×
-        (mostArguments ≤ length (now offsets)) × Representing (now s) (now names) (now out) c ⌝ }
-    ensures { λ r. ⌜ Runs (now (s .entry)) (now (names .entry)) (now (out .entry)) (now (out .exit))
-        (forEach (declareItem (itemsAt (now (s .entry)) (now (names .entry)) (now (items .entry))))
-        (itemsAt (now (s .entry)) (now (names .entry)) (now (items .entry)))) c r ⌝ }
+    requires { ⌜ Lent (now s) (now t) (now pool) × (now digests ≡ digestsAt (now s) (namesIn (now t))) ×
+        (mostArguments ≤ length (now offsets)) × Representing (now s) (namesIn (now t)) (now out) c ⌝ }
+    ensures { λ r. ⌜ Runs (now (s .entry)) (namesIn (now (t .entry))) (now (out .entry)) (now (out .exit))
+        (forEach (declareItem (itemsOf (now (s .entry)) (now (t .entry))))
+        (itemsOf (now (s .entry)) (now (t .entry)))) c r ⌝ }
 {
-    let n = items.len() as u32;
+    let n = t[Table::ITEMS];
     let mut i: u32 = 0;
     while i < n {
-        c = declare(s, names, items, digests, i, offsets, c, out);
+        c = declare(s, t, pool, digests, i, offsets, c, out);
         i = i + 1;
     }
     c
@@ -132,8 +134,8 @@ fn declare_all(
 
 fn define_all(
     s: &[u8],
-    names: &[u32],
-    items: &[u32],
+    t: &[u32; Table::PLACES],
+    pool: &[u8; Pool::BYTES],
     digests: &[u32],
     header: bool,
     doxygen: bool,
@@ -141,28 +143,17 @@ fn define_all(
     mut c: Content,
     out: &mut [u8],
 ) -> Content
-    requires { ⌜ Whole (now s) (now names) (now items) × (now digests ≡ digestsAt (now s) (now names)) ×
-        (mostArguments ≤ length (now offsets)) × Representing (now s) (now names) (now out) c ⌝ }
-    ensures { λ r. ⌜ Runs (now (s .entry)) (now (names .entry)) (now (out .entry)) (now (out .exit))
+    requires { ⌜ Lent (now s) (now t) (now pool) × (now digests ≡ digestsAt (now s) (namesIn (now t))) ×
+        (mostArguments ≤ length (now offsets)) × Representing (now s) (namesIn (now t)) (now out) c ⌝ }
+    ensures { λ r. ⌜ Runs (now (s .entry)) (namesIn (now (t .entry))) (now (out .entry)) (now (out .exit))
         (forEach (defineItem (sheetOf header doxygen
-        (itemsAt (now (s .entry)) (now (names .entry)) (now (items .entry)))))
-        (itemsAt (now (s .entry)) (now (names .entry)) (now (items .entry)))) c r ⌝ }
+        (itemsOf (now (s .entry)) (now (t .entry)))))
+        (itemsOf (now (s .entry)) (now (t .entry)))) c r ⌝ }
 {
-    let count = items.len() as u32;
+    let count = t[Table::ITEMS];
     let mut i: u32 = 0;
     while i < count {
-        c = define(
-            s,
-            names,
-            items,
-            digests,
-            header,
-            doxygen,
-            i,
-            offsets,
-            c,
-            out,
-        );
+        c = define(s, t, pool, digests, header, doxygen, i, offsets, c, out);
         i = i + 1;
     }
     c
@@ -171,8 +162,8 @@ fn define_all(
 // A header has no declarations.
 fn write_functions(
     s: &[u8],
-    names: &[u32],
-    items: &[u32],
+    t: &[u32; Table::PLACES],
+    pool: &[u8; Pool::BYTES],
     digests: &[u32],
     header: bool,
     doxygen: bool,
@@ -180,27 +171,17 @@ fn write_functions(
     c: Content,
     out: &mut [u8],
 ) -> Content
-    requires { ⌜ Whole (now s) (now names) (now items) × (now digests ≡ digestsAt (now s) (now names)) ×
-        (mostArguments ≤ length (now offsets)) × Representing (now s) (now names) (now out) c ⌝ }
-    ensures { λ r. ⌜ Runs (now (s .entry)) (now (names .entry)) (now (out .entry)) (now (out .exit))
-        (writeFunctions (sheetOf header doxygen (itemsAt (now (s .entry)) (now (names .entry)) (now (items .entry)))))
+    requires { ⌜ Lent (now s) (now t) (now pool) × (now digests ≡ digestsAt (now s) (namesIn (now t))) ×
+        (mostArguments ≤ length (now offsets)) × Representing (now s) (namesIn (now t)) (now out) c ⌝ }
+    ensures { λ r. ⌜ Runs (now (s .entry)) (namesIn (now (t .entry))) (now (out .entry)) (now (out .exit))
+        (writeFunctions (sheetOf header doxygen (itemsOf (now (s .entry)) (now (t .entry)))))
         c r ⌝ }
 {
     if header {
-        return define_all(s, names, items, digests, header, doxygen, offsets, c, out);
+        return define_all(s, t, pool, digests, header, doxygen, offsets, c, out);
     }
-    let declared = declare_all(s, names, items, digests, offsets, c, out);
-    define_all(
-        s,
-        names,
-        items,
-        digests,
-        header,
-        doxygen,
-        offsets,
-        declared,
-        out,
-    )
+    let declared = declare_all(s, t, pool, digests, offsets, c, out);
+    define_all(s, t, pool, digests, header, doxygen, offsets, declared, out)
 }
 
 // ---- the text
@@ -219,51 +200,41 @@ fn behind_forward(at: usize) -> Content
 // What stands behind the forward declarations.
 fn write_body(
     s: &[u8],
-    names: &[u32],
-    items: &[u32],
+    t: &[u32; Table::PLACES],
+    pool: &[u8; Pool::BYTES],
     digests: &[u32],
     header: bool,
     doxygen: bool,
     c: Content,
     out: &mut [u8],
 ) -> usize
-    requires { ⌜ Whole (now s) (now names) (now items) × (now digests ≡ digestsAt (now s) (now names)) ×
-        Representing (now s) (now names) (now out) c ⌝ }
-    ensures { λ r. ⌜ Ends (now (s .entry)) (now (names .entry)) (now (out .entry)) (now (out .exit))
-        (writeFunctions (sheetOf header doxygen (itemsAt (now (s .entry)) (now (names .entry)) (now (items .entry)))))
+    requires { ⌜ Lent (now s) (now t) (now pool) × (now digests ≡ digestsAt (now s) (namesIn (now t))) ×
+        Representing (now s) (namesIn (now t)) (now out) c ⌝ }
+    ensures { λ r. ⌜ Ends (now (s .entry)) (namesIn (now (t .entry))) (now (out .entry)) (now (out .exit))
+        (writeFunctions (sheetOf header doxygen (itemsOf (now (s .entry)) (now (t .entry)))))
         c r ⌝ }
 {
     let mut offsets = [0u32; FunctionView::ARGUMENTS];
-    let written = write_functions(
-        s,
-        names,
-        items,
-        digests,
-        header,
-        doxygen,
-        &mut offsets,
-        c,
-        out,
-    );
-    flush(s, names, digests, written, out)
+    let written = write_functions(s, t, pool, digests, header, doxygen, &mut offsets, c, out);
+    flush(s, t, digests, written, out)
 }
 
 // The text, from the buffer's first byte on; the answer is the place behind it.
 pub fn write_text(
     s: &[u8],
-    names: &[u32],
-    items: &[u32],
+    t: &[u32; Table::PLACES],
+    pool: &[u8; Pool::BYTES],
     digests: &[u32],
     header: bool,
     doxygen: bool,
     out: &mut [u8],
 ) -> usize
-    requires { ⌜ Whole (now s) (now names) (now items) × (now digests ≡ digestsAt (now s) (now names)) ⌝ }
+    requires { ⌜ Lent (now s) (now t) (now pool) × (now digests ≡ digestsAt (now s) (namesIn (now t))) ⌝ }
     ensures { λ r. ⌜ Wrote (sink (now (out .entry)) 0)
-        (text (sheetOf header doxygen (itemsAt (now (s .entry)) (now (names .entry)) (now (items .entry)))))
+        (text (sheetOf header doxygen (itemsOf (now (s .entry)) (now (t .entry)))))
         (sink (now (out .exit)) r) ⌝ }
 {
-    let at = write_forward_declarations(s, names, items, digests, out, 0);
+    let at = write_forward_declarations(s, t, pool, digests, out, 0);
     let c = behind_forward(at);
-    write_body(s, names, items, digests, header, doxygen, c, out)
+    write_body(s, t, pool, digests, header, doxygen, c, out)
 }

@@ -7,79 +7,34 @@ use sink::put_bytes;
 use sink::put_unless;
 use sink::put_when;
 ghost use mathlib.Core.Path.{_≡_};
-ghost use mathlib.Core.List.{[]};
-ghost use Prim.Native.Nat.{_<_};
-ghost use lib.ListN.{getD};
 ghost use Rattle.sink.specs.Sink.{sink, Wrote};
 ghost use Rattle.format.specs.Decoding.{atomOf};
 ghost use Rattle.bridge.specs.WriteType.{writeAtom, templateName, pointerBegin, pointerEnd, isSlice};
-ghost use Rattle.write_atom.specs.Texts.{texts, templateText, isSpaced, spaceOfKind};
+ghost use Rattle.write_atom.specs.Texts.{isSpaced, spaceOfKind};
 
-// ---- a table of texts
+// ---- atoms and templates
 
-// The atoms in their order, then what opens each template.
-const TEXTS: [u8; 276] =
-    *b"boolchar::std::uint8_t::std::uint16_t::std::uint32_t::std::uint64_t::std::size_t\
-    ::std::int8_t::std::int16_t::std::int32_t::std::int64_t::rust::isizefloatdouble::std::string::rust::String\
-    ::rust::Box<::rust::Vec<::std::unique_ptr<::std::shared_ptr<::std::weak_ptr<::std::vector<";
-
-// Where each starts, and where the last ends.
-const STARTS: [usize; 23] = [
-    0,
-    4,
-    8,
-    22,
-    37,
-    52,
-    67,
-    80,
-    93,
-    107,
-    121,
-    135,
-    148,
-    153,
-    159,
-    172,
-    186,
-    198,
-    210,
-    228,
-    246,
-    262,
-    276,
-];
-
-// Text i of the table.
-fn put_text(i: usize, out: &mut [u8], at: usize) -> usize
-    requires { ⌜ i < 22 ⌝ }
-    ensures { λ r. ⌜ Wrote (sink (now (out .entry)) at) (getD texts i []) (sink (now (out .exit)) r) ⌝ }
-{
-    let start = STARTS[i];
-    let end = STARTS[i + 1];
-    put_bytes(out, at, &TEXTS[start..end])
-}
-
-// Atom n of `Atom`'s order.
+// Atom n of `Atom`'s order; past the last stands the first.
 pub fn write_atom(n: u32, out: &mut [u8], at: usize) -> usize
     ensures { λ r. ⌜ Wrote (sink (now (out .entry)) at) (writeAtom (atomOf n)) (sink (now (out .exit)) r) ⌝ }
 {
-    if 15 < n {
-        return put_text(0, out, at);
-    }
-    put_text(n as usize, out, at)
-}
-
-fn template_text(k: Template) -> usize
-    ensures { λ r. ⌜ r ≡ templateText k ⌝ }
-{
-    match k {
-        Template::RustBox => 16,
-        Template::RustVec => 17,
-        Template::UniquePtr => 18,
-        Template::SharedPtr => 19,
-        Template::WeakPtr => 20,
-        Template::CxxVector => 21,
+    match n {
+        1 => put_bytes(out, at, b"char"),
+        2 => put_bytes(out, at, b"::std::uint8_t"),
+        3 => put_bytes(out, at, b"::std::uint16_t"),
+        4 => put_bytes(out, at, b"::std::uint32_t"),
+        5 => put_bytes(out, at, b"::std::uint64_t"),
+        6 => put_bytes(out, at, b"::std::size_t"),
+        7 => put_bytes(out, at, b"::std::int8_t"),
+        8 => put_bytes(out, at, b"::std::int16_t"),
+        9 => put_bytes(out, at, b"::std::int32_t"),
+        10 => put_bytes(out, at, b"::std::int64_t"),
+        11 => put_bytes(out, at, b"::rust::isize"),
+        12 => put_bytes(out, at, b"float"),
+        13 => put_bytes(out, at, b"double"),
+        14 => put_bytes(out, at, b"::std::string"),
+        15 => put_bytes(out, at, b"::rust::String"),
+        _ => put_bytes(out, at, b"bool"),
     }
 }
 
@@ -87,8 +42,14 @@ fn template_text(k: Template) -> usize
 pub fn put_template(k: Template, out: &mut [u8], at: usize) -> usize
     ensures { λ r. ⌜ Wrote (sink (now (out .entry)) at) (templateName k) (sink (now (out .exit)) r) ⌝ }
 {
-    let i = template_text(k);
-    put_text(i, out, at)
+    match k {
+        Template::RustBox => put_bytes(out, at, b"::rust::Box<"),
+        Template::RustVec => put_bytes(out, at, b"::rust::Vec<"),
+        Template::UniquePtr => put_bytes(out, at, b"::std::unique_ptr<"),
+        Template::SharedPtr => put_bytes(out, at, b"::std::shared_ptr<"),
+        Template::WeakPtr => put_bytes(out, at, b"::std::weak_ptr<"),
+        Template::CxxVector => put_bytes(out, at, b"::std::vector<"),
+    }
 }
 
 // ---- pointers

@@ -16,7 +16,9 @@ use Rattle.format.specs.Decoding.{decode}
 use Rattle.format.specs.declared.Outline.{Outline}
 use Rattle.marks.specs.Marking.{places}
 use Rattle.decode.specs.Tables.{Tables}
-use Rattle.view.specs.Values.{itemsAt}
+use Rattle.view.specs.Values.{itemsAt, Ready}
+use Rattle.names.specs.Digests.{digestsAt}
+use Rattle.tables.specs.Tables.{namesIn, itemsOf, Listed}
 use Rattle.view.proofs.WholeLaws.{items-are}
 use Rattle.rules.specs.declared.Checked.{Checked}
 use Rattle.rules.specs.declared.Checked.the-variants.{Accepted, Refused}
@@ -55,6 +57,17 @@ module _ {bytes m : List ℕ} {length₁ : ℕ} (l : List ℕ) (p : Wrote (sink 
       let t = le-leb (length bytes) (length l) (omega (arith, d .counted)) in
       let none : drop (length bytes) part ≡ [] = drop-of-length-le part {i = length bytes} (omega (arith, n, d .counted)) in
       record { answers = rw (t, d .counted); leaves = rw (t, z, d .bytes, none, d .counted, append-nil bytes) }
+
+-- ---- the table
+
+pub digested : {s names items digests t : List ℕ} → Ready s names items digests → Listed names items t →
+    digests ≡ digestsAt s (namesIn t)
+digested r l = rw (l .namesAre) (r .digested)
+
+pub delivered-by : (s : List ℕ) {names items t buffer after : List ℕ} (header doxygen : Bool) {r : Written} → Listed names items t →
+    Delivers (text (sheetOf header doxygen (itemsOf s t))) buffer r after →
+    Delivers (text (sheetOf header doxygen (itemsAt s names items))) buffer r after
+delivered-by s header doxygen l d = rw (l .namesAre, l .itemsAre) at d
 
 -- ---- the rules
 

@@ -1,4 +1,4 @@
--- Written by tools/proofkit from answers/put_call_end.tpl (fa22f001 4e0e7f33).
+-- Written by tools/proofkit from answers/put_call_end.tpl (fa22f001 f6b7438a).
 use borrow.Author.Needs.{needs}
 use Rattle.sink.proofs.SinkLaws.{wrote-nil, first-text, second-text}
 use Rattle.call.proofs.CallLaws.{end-written}
@@ -6,7 +6,7 @@ use Rattle.call.proofs.put_call_end.Statement.{statement}
 use Rattle.call.proofs.put_call_end.Tie as tie
 
 shape-requires : tie.Need-shape-requires
-shape-requires c κs = (c .before .before .before .before .pre .0, c .before .before .before .before .pre .1 (c .if1 .taken))
+shape-requires c κs = (c .before .before .before .pre .0, c .before .before .before .pre .1 (c .if1 .taken))
 
 returns : tie.Need-returns
 returns c = first-text _ (c .before .before .before .before .before .before .before .if1 .taken) (end-written (c .before .before .before .before .before .before .shape .ensures) (c .before .before .before .before .before .is-closed .ensures) (c .before .before .put-when .ensures))

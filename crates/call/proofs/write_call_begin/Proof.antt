@@ -1,4 +1,4 @@
--- Written by tools/proofkit from answers/write_call_begin.tpl (94bbb845 ea367124).
+-- Written by tools/proofkit from answers/write_call_begin.tpl (836e21b2 600ebc90).
 use borrow.Author.Needs.{needs}
 use Rattle.sink.proofs.SinkLaws.{_▷_, wrote-nil}
 use Rattle.call.proofs.CallLaws.{begin-written}
@@ -6,16 +6,16 @@ use Rattle.call.proofs.write_call_begin.Statement.{statement}
 use Rattle.call.proofs.write_call_begin.Tie as tie
 
 shape-requires : tie.Need-shape-requires
-shape-requires c κs = (c .before .before .before .before .pre .0 .named .limited, c .before .before .before .before .pre .1)
+shape-requires c κs = (c .before .before .pre .0 .tabled .whole .named .limited, c .before .before .pre .1)
 
 write-outermost-requires : tie.Need-write-outermost-requires
-write-outermost-requires c κs = (c .before .before .before .before .before .before .before .before .pre .0, c .before .before .before .before .before .before .before .before .pre .1)
+write-outermost-requires c κs = (c .before .before .before .before .before .before .pre .0, c .before .before .before .before .before .before .pre .1)
 
 write-outermost-requires-2 : tie.Need-write-outermost-requires-2
-write-outermost-requires-2 c κs = (c .before .before .before .before .before .before .before .before .pre .0, c .before .before .before .before .before .before .before .before .pre .1)
+write-outermost-requires-2 c κs = (c .before .before .before .before .before .before .pre .0, c .before .before .before .before .before .before .pre .1)
 
 write-outermost-requires-3 : tie.Need-write-outermost-requires-3
-write-outermost-requires-3 c κs = (c .before .before .before .before .before .before .before .before .before .before .before .before .before .pre .0, c .before .before .before .before .before .before .before .before .before .before .before .before .before .pre .1)
+write-outermost-requires-3 c κs = (c .before .before .before .before .before .before .before .before .before .before .before .pre .0, c .before .before .before .before .before .before .before .before .before .before .before .pre .1)
 
 returns : tie.Need-returns
 returns c = begin-written (c .before .before .before .before .before .before .before .before .before .before .before .shape .ensures) _ _ (c .before .before .before .before .before .before .before .before .before .enum-told .given .1) (c .before .before .before .before .before .before .before .write-outermost .ensures ▷ c .before .before .put-bytes .ensures)

@@ -1,11 +1,11 @@
--- Written by tools/proofkit from answers/write_slot.tpl (9a378e0a 8b931416).
+-- Written by tools/proofkit from answers/write_slot.tpl (9a378e0a a2820c0e).
 use borrow.Author.Needs.{needs}
 use Rattle.sink.proofs.SinkLaws.{_▷_, wrote-nil, first-text, second-text}
 use Rattle.call.proofs.write_slot.Statement.{statement}
 use Rattle.call.proofs.write_slot.Tie as tie
 
 write-slot-type-requires : tie.Need-write-slot-type-requires
-write-slot-type-requires c κs = (c .before .before .before .before .before .before .before .before .before .before .before .pre .0, c .before .before .before .before .before .before .before .before .before .before .before .pre .1 (c .before .before .before .before .before .before .if1 .taken))
+write-slot-type-requires c κs = (c .before .before .before .before .before .before .before .before .before .pre .0, c .before .before .before .before .before .before .before .before .before .pre .1 (c .before .before .before .before .before .before .if1 .taken))
 
 returns : tie.Need-returns
 returns c = first-text _ (c .before .before .before .before .before .before .before .before .before .before .before .before .before .before .before .before .before .before .before .if1 .taken) (c .before .before .before .before .before .before .before .before .before .before .before .before .before .before .before .before .put-bytes .ensures ▷ c .before .before .before .before .before .before .before .before .before .before .before .before .write-slot-type .ensures ▷ c .before .before .before .before .before .before .before .put-bytes2 .ensures ▷ c .before .before .put-bytes3 .ensures)

@@ -1,4 +1,4 @@
--- Written by tools/proofkit from answers/write_layout_definition.tpl (0063f491 78ba15da).
+-- Written by tools/proofkit from answers/write_layout_definition.tpl (0063f491 14eb3707).
 use borrow.Author.Needs.{needs}
 use Rattle.bridge.specs.Write.{layoutDefinition}
 use Rattle.sink.proofs.SinkLaws.{_▷_, wrote-length}
@@ -6,7 +6,7 @@ use Rattle.declaration.proofs.write_layout_definition.Statement.{statem
 use Rattle.declaration.proofs.write_layout_definition.Tie as tie
 
 write-operator-requires : tie.Need-write-operator-requires
-write-operator-requires c κs = (c .before .before .before .before .before .before .before .before .before .before .before .before .before .before .before .before .before .before .before .before .before .before .before .before .before .before .before .before .before .before .before .before .before .before .before .pre .0, c .before .before .before .before .before .before .before .before .before .before .before .before .before .before .before .before .before .before .before .before .before .before .before .before .before .before .before .before .before .before .before .before .before .before .before .pre .1)
+write-operator-requires c κs = (c .before .before .before .before .before .before .before .before .before .before .before .before .before .before .before .before .before .before .before .before .before .before .before .before .before .before .before .before .before .before .before .before .before .pre .0, c .before .before .before .before .before .before .before .before .before .before .before .before .before .before .before .before .before .before .before .before .before .before .before .before .before .before .before .before .before .before .before .before .before .pre .1)
 
 returns : tie.Need-returns
 unfolding layoutDefinition

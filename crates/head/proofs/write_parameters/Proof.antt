@@ -1,4 +1,4 @@
--- Written by tools/proofkit from answers/write_parameters.tpl (975f25d9 d3bbce2c).
+-- Written by tools/proofkit from answers/write_parameters.tpl (0ba69e04 3dfd33ab).
 use borrow.Author.Needs.{needs}
 use mathlib.Core.List.{_++_}
 use mathlib.Core.Bool.{false}
@@ -7,23 +7,23 @@ use native.Mathlib.Omega.{arith}
 use Rattle.bridge.specs.WriteType.{writeTypeSpace}
 use Rattle.sink.specs.Sink.{sink}
 use Rattle.sink.proofs.SinkLaws.{wrote-length}
-use Rattle.view.specs.Values.{itemsAt, functionAt}
 use Rattle.shape.proofs.CommaLaws.{Listed, listed-none}
 use Rattle.shape.proofs.ArgumentLaws.{listed-argument, listed-arguments}
+use Rattle.tables.specs.Tables.{itemsOf, functionOf}
 use Rattle.head.proofs.write_parameters.Statement.{statement}
 use Rattle.head.proofs.write_parameters.Tie as tie
 
 abbrev Inv-loop : tie.InvT-loop
-Inv-loop s names items f offsets out₀ at here₀ comma₀ j₀ t12 out here comma j = (j ≤ f .arguments) × Listed (λ a. writeTypeSpace (itemsAt s names items) (a .type) ++ a .name) false (functionAt s names items (f .number) .arguments) j comma (sink out₀ here₀) (sink out here)
+Inv-loop s t pool f offsets out₀ at here₀ comma₀ j₀ t12 out here comma j = (j ≤ f .arguments) × Listed (λ a. writeTypeSpace (itemsOf s t) (a .type) ++ a .name) false (functionOf s t (f .number) .arguments) j comma (sink out₀ here₀) (sink out here)
 
 abbrev μ-loop : tie.MeasureT-loop
-μ-loop s names items f offsets out₀ at here₀ comma₀ j₀ t12 out here comma j = f .arguments - j
+μ-loop s t pool f offsets out₀ at here₀ comma₀ j₀ t12 out here comma j = f .arguments - j
 
 loop-holds : tie.Need-loop-holds Inv-loop μ-loop
 loop-holds c = (omega arith, listed-none _ _ _ _)
 
 write-parameter-requires : tie.Need-write-parameter-requires Inv-loop μ-loop
-write-parameter-requires c κs = (c .before .before .before .before .before .before .before .before .before .before .before .before .before .before .pre .0, c .before .before .before .before .before .before .before .before .before .before .before .before .before .before .pre .1, omega arith, omega arith)
+write-parameter-requires c κs = (c .before .before .before .before .before .before .before .before .before .before .before .before .pre .0, c .before .before .before .before .before .before .before .before .before .before .before .before .pre .1, omega arith, omega arith)
 
 add-j : tie.Need-add-j Inv-loop μ-loop
 add-j c = omega arith
@@ -32,10 +32,10 @@ loop-less : tie.Need-loop-less Inv-loop μ-loop
 loop-less c = omega arith
 
 loop-again : tie.Need-loop-again Inv-loop μ-loop
-loop-again c = (omega arith, listed-argument _ (c .before .before .before .before .before .before .before .before .before .before .before .before .before .before .before .before .before .pre .1) (omega arith) (c .before .before .before .before .before .before .before .before .before .before .before .loop .inv .1) (c .before .before .before .before .before .before .put-when .ensures) (c .before .before .write-parameter .ensures))
+loop-again c = (omega arith, listed-argument _ (c .before .before .before .before .before .before .before .before .before .before .before .before .before .before .before .pre .1) (omega arith) (c .before .before .before .before .before .before .before .before .before .before .before .loop .inv .1) (c .before .before .before .before .before .before .put-when .ensures) (c .before .before .write-parameter .ensures))
 
 returns : tie.Need-returns Inv-loop μ-loop
-returns c = listed-arguments _ (c .before .before .before .before .before .before .before .before .pre .1) (omega arith) (c .before .before .loop .inv .1)
+returns c = listed-arguments _ (c .before .before .before .before .before .before .pre .1) (omega arith) (c .before .before .loop .inv .1)
 
 same-length : tie.Need-same-length Inv-loop μ-loop
 same-length c = wrote-length (returns c)

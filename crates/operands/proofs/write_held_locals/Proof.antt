@@ -1,26 +1,26 @@
--- Written by tools/proofkit from answers/write_held_locals.tpl (5ef92906 ee95da57).
+-- Written by tools/proofkit from answers/write_held_locals.tpl (8c24707f 359dc2df).
 use Prim.Native.Nat.{_-_, _≤_}
 use native.Mathlib.Omega.{arith}
 use Rattle.bridge.specs.Write.{heldLocal}
 use Rattle.sink.specs.Sink.{sink}
 use Rattle.sink.proofs.SinkLaws.{wrote-length}
-use Rattle.view.specs.Values.{itemsAt, functionAt}
 use Rattle.shape.proofs.CommaLaws.{Gathered, gathered-none}
 use Rattle.shape.proofs.ArgumentLaws.{gathered-argument, gathered-arguments}
+use Rattle.tables.specs.Tables.{itemsOf, functionOf}
 use Rattle.operands.proofs.write_held_locals.Statement.{statement}
 use Rattle.operands.proofs.write_held_locals.Tie as tie
 
 abbrev Inv-loop : tie.InvT-loop
-Inv-loop s names items f offsets out₀ at here₀ j₀ out here j = (j ≤ f .arguments) × Gathered (heldLocal (itemsAt s names items)) (functionAt s names items (f .number) .arguments) j (sink out₀ here₀) (sink out here)
+Inv-loop s t pool f offsets out₀ at here₀ j₀ out here j = (j ≤ f .arguments) × Gathered (heldLocal (itemsOf s t)) (functionOf s t (f .number) .arguments) j (sink out₀ here₀) (sink out here)
 
 abbrev μ-loop : tie.MeasureT-loop
-μ-loop s names items f offsets out₀ at here₀ j₀ out here j = f .arguments - j
+μ-loop s t pool f offsets out₀ at here₀ j₀ out here j = f .arguments - j
 
 loop-holds : tie.Need-loop-holds Inv-loop μ-loop
 loop-holds c = (omega arith, gathered-none _ _ _)
 
 write-held-local-requires : tie.Need-write-held-local-requires Inv-loop μ-loop
-write-held-local-requires c κs = (c .before .before .before .before .before .before .before .before .before .pre .0, c .before .before .before .before .before .before .before .before .before .pre .1, omega arith, omega arith)
+write-held-local-requires c κs = (c .before .before .before .before .before .before .before .pre .0, c .before .before .before .before .before .before .before .pre .1, omega arith, omega arith)
 
 add-j : tie.Need-add-j Inv-loop μ-loop
 add-j c = omega arith
@@ -29,10 +29,10 @@ loop-less : tie.Need-loop-less Inv-loop μ-loop
 loop-less c = omega arith
 
 loop-again : tie.Need-loop-again Inv-loop μ-loop
-loop-again c = (omega arith, gathered-argument _ (c .before .before .before .before .before .before .before .before .before .before .before .before .pre .1) (omega arith) (c .before .before .before .before .before .before .loop .inv .1) (c .before .before .write-held-local .ensures))
+loop-again c = (omega arith, gathered-argument _ (c .before .before .before .before .before .before .before .before .before .before .pre .1) (omega arith) (c .before .before .before .before .before .before .loop .inv .1) (c .before .before .write-held-local .ensures))
 
 returns : tie.Need-returns Inv-loop μ-loop
-returns c = gathered-arguments _ (c .before .before .before .before .before .before .before .before .pre .1) (omega arith) (c .before .before .loop .inv .1)
+returns c = gathered-arguments _ (c .before .before .before .before .before .before .pre .1) (omega arith) (c .before .before .loop .inv .1)
 
 same-length : tie.Need-same-length Inv-loop μ-loop
 same-length c = wrote-length (returns c)

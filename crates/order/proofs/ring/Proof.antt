@@ -1,21 +1,19 @@
--- Written by tools/proofkit from answers/ring.tpl (99af15e9 85ada9eb).
+-- Written by tools/proofkit from answers/ring.tpl (8a43b5a3 1336d6b3).
 use borrow.Author.Needs.{needs}
-use Rattle.order.proofs.OrderLaws.{answered}
+use mathlib.Core.Path.{refl}
+use lib.ListN.{replicate}
+use Rattle.order.proofs.OrderLaws.{ring-none}
 use Rattle.order.proofs.ring.Statement.{statement}
 use Rattle.order.proofs.ring.Tie as tie
 
 returns : tie.Need-returns
-returns c = answered (c .before .before .order-of .ensures) (c .enum-told .given .1) .rings
-
-returns-2 : tie.Need-returns-2
-returns-2 c = answered (c .before .before .order-of .ensures) (c .enum-told2 .given .1) .rings
+returns c = ring-none (c .before .list-structs .ensures) (c .if1 .taken)
 
 pub ring-spec : {M : Type 1} → statement M
 ring-spec =
     tie.close
     (tie.spec
     (λ c κs. search needs)
-    (λ c. search needs)
-    (λ c. search needs)
     returns
-    returns-2)
+    (λ c κs. search needs)
+    (λ c. search needs))

@@ -1,54 +1,43 @@
--- Written by tools/proofkit from answers/put_chars.tpl (f89a2a30 2876a627).
+-- Written by tools/proofkit from answers/put_chars.tpl (401871fc 2e93019b).
 use borrow.Author.Needs.{needs}
+use mathlib.Core.Path.{sym}
 use native.Mathlib.Omega.{arith}
-use Rattle.sink.specs.Sink.{sink}
-use Rattle.sink.proofs.SinkLaws.{wrote-length}
-use Rattle.put_name.proofs.CharLaws.{Writing, writing-none, writing-four, writing-yields, writing-all}
+use Rattle.sink.proofs.SinkLaws.{wrote-nil, wrote-as}
+use Rattle.sink.proofs.StoreLaws.{room, no-room, wrote-part, wrote-none}
+use Rattle.put_name.proofs.CharLaws.{no-chars, chars-inside, chars-count, chars-held}
 use Rattle.put_name.proofs.put_chars.Statement.{statement}
 use Rattle.put_name.proofs.put_chars.Tie as tie
 
-abbrev Inv-loop : tie.InvT-loop
-Inv-loop s n out₀ at here₀ next₀ left₀ out here next left = Writing s n (next₀ .at) left (next .at) (sink out₀ here₀) (sink out here)
+returns : tie.Need-returns
+returns c = wrote-as (wrote-nil _) (sym (no-chars _ _ _ (c .if1 .taken)))
 
-abbrev μ-loop : tie.MeasureT-loop
-μ-loop s n out₀ at here₀ next₀ left₀ out here next left = left
+add-end : tie.Need-add-end
+add-end c = omega (arith, room (c .before .has-room .ensures) (c .if2 .taken))
 
-loop-holds : tie.Need-loop-holds Inv-loop μ-loop
-loop-holds c = writing-none _ _ _ _ (c .before .before .pre .1)
+part-unpack-end : tie.Need-part-unpack-end
+part-unpack-end c = omega (arith, room (c .before .has-room .ensures) (c .if2 .taken))
 
-put-four-requires : tie.Need-put-four-requires Inv-loop μ-loop
-put-four-requires c κs = omega (arith, c .before .field .ensures .low)
+unpack-requires : tie.Need-unpack-requires
+unpack-requires c κs = (omega arith, chars-inside _ _ _ (omega arith) (c .before .before .before .before .before .before .pre .1), omega arith)
 
-sub-left : tie.Need-sub-left Inv-loop μ-loop
-sub-left c = omega arith
+returns-2 : tie.Need-returns-2
+returns-2 c = wrote-part (chars-held _ _ _ (chars-inside _ _ _ (omega arith) (c .before .before .before .before .before .before .before .before .before .pre .1)) (c .before .before .unpack .ensures) (omega arith)) (chars-count _ _ _ (chars-inside _ _ _ (omega arith) (c .before .before .before .before .before .before .before .before .before .pre .1))) (room (c .before .before .before .before .before .has-room .ensures) (c .before .before .before .before .if2 .taken)) (omega arith)
 
-loop-less : tie.Need-loop-less Inv-loop μ-loop
-loop-less c = omega arith
-
-loop-again : tie.Need-loop-again Inv-loop μ-loop
-loop-again c = writing-four _ _ _ _ (omega arith) (c .before .before .before .before .before .before .before .loop .inv) (c .before .before .before .before .before .field .ensures) (c .before .before .before .put-four .ensures)
-
-put-ones-requires : tie.Need-put-ones-requires Inv-loop μ-loop
-put-ones-requires c κs = (omega arith, writing-yields _ _ _ (c .before .before .loop .inv))
-
-returns : tie.Need-returns Inv-loop μ-loop
-returns c = writing-all _ _ _ (c .before .before .before .before .before .loop .inv) (c .before .before .put-ones .ensures)
-
-same-length : tie.Need-same-length Inv-loop μ-loop
-same-length c = wrote-length (returns c)
+returns-3 : tie.Need-returns-3
+returns-3 c = wrote-none (chars-count _ _ _ (chars-inside _ _ _ (omega arith) (c .before .before .before .before .before .before .pre .1))) (no-room (c .before .before .has-room .ensures) (c .before .if2 .left)) (omega arith) (c .advance .ensures)
 
 pub put-chars-spec : {M : Type 1} → statement M
 put-chars-spec =
     tie.close
     (tie.spec
-    Inv-loop
-    μ-loop
-    loop-holds
+    returns
     (λ c κs. search needs)
-    put-four-requires
-    sub-left
-    loop-less
-    loop-again
-    put-ones-requires
-    same-length
-    returns)
+    add-end
+    (λ c. search needs)
+    (λ c. search needs)
+    part-unpack-end
+    unpack-requires
+    (λ c. search needs)
+    returns-2
+    (λ c κs. search needs)
+    returns-3)

@@ -1,4 +1,4 @@
--- Written by tools/proofkit from answers/write_outermost_space.tpl (3d3f5efa 44f5de7c).
+-- Written by tools/proofkit from answers/write_outermost_space.tpl (3d3f5efa c87488ca).
 use borrow.Author.Needs.{needs}
 use Rattle.write_type.proofs.TypeLaws.{outermost-yields}
 use Rattle.shape.proofs.TypeLaws.{type-at}
@@ -6,7 +6,7 @@ use Rattle.shape.proofs.write_outermost_space.Statement.{statement}
 use Rattle.shape.proofs.write_outermost_space.Tie as tie
 
 write-type-space-requires : tie.Need-write-type-space-requires
-write-type-space-requires c κs = (c .before .before .before .before .before .pre .0, outermost-yields _ _ _ (c .before .before .before .before .before .pre .1))
+write-type-space-requires c κs = (c .before .before .before .pre .0, outermost-yields _ _ _ (c .before .before .before .pre .1))
 
 returns : tie.Need-returns
 returns c = rw (type-at _ _ _) (c .before .before .write-type-space .ensures .0)

@@ -1,30 +1,31 @@
--- Written by tools/proofkit from answers/write_slot_type.tpl (0048d32c 10b965fb).
+-- Written by tools/proofkit from answers/write_slot_type.tpl (f992efae aa8fb098).
 use borrow.Author.Needs.{needs}
 use mathlib.Core.Path.{refl}
 use Rattle.shape.proofs.ShapeLaws.{has-inner, slot-type}
+use Rattle.tables.specs.Tables.{namesIn, itemsIn}
 use Rattle.shape.proofs.write_slot_type.Statement.{statement}
 use Rattle.shape.proofs.write_slot_type.Tie as tie
 
 write-pointer-requires : tie.Need-write-pointer-requires
-write-pointer-requires c κs = (c .before .before .before .before .before .before .before .before .pre .0, has-inner (c .before .before .before .shape .ensures) (c .before .enum-told .given .1) refl)
+write-pointer-requires c κs = (c .before .before .before .before .before .before .pre .0, has-inner (c .before .before .before .shape .ensures) (c .before .enum-told .given .1) refl)
 
 returns : tie.Need-returns
-returns c = slot-type (c .before .before .before .before .before .before .before .before .before .before .before .args .s .now) (c .before .before .before .before .before .before .before .before .before .before .before .args .names .now) (c .before .before .before .before .before .before .before .before .before .before .before .args .items .now) (c .before .before .before .before .before .before .before .before .before .before .before .args .c .at) (c .before .before .before .before .before .before .shape .ensures) (c .before .before .before .before .enum-told .given .1) (c .before .before .write-pointer .ensures)
+returns c = slot-type (c .before .before .before .before .before .before .before .before .before .args .s .now) (namesIn (c .before .before .before .before .before .before .before .before .before .args .t .now)) (itemsIn (c .before .before .before .before .before .before .before .before .before .args .t .now)) (c .before .before .before .before .before .before .before .before .before .args .c .at) (c .before .before .before .before .before .before .shape .ensures) (c .before .before .before .before .enum-told .given .1) (c .before .before .write-pointer .ensures)
 
 returns-2 : tie.Need-returns-2
-returns-2 c = slot-type (c .before .before .before .before .before .before .before .before .before .before .before .args .s .now) (c .before .before .before .before .before .before .before .before .before .before .before .args .names .now) (c .before .before .before .before .before .before .before .before .before .before .before .args .items .now) (c .before .before .before .before .before .before .before .before .before .before .before .args .c .at) (c .before .before .before .before .before .before .shape .ensures) (c .before .before .before .before .enum-told2 .given .1) (c .before .before .write-outermost .ensures)
+returns-2 c = slot-type (c .before .before .before .before .before .before .before .before .before .args .s .now) (namesIn (c .before .before .before .before .before .before .before .before .before .args .t .now)) (itemsIn (c .before .before .before .before .before .before .before .before .before .args .t .now)) (c .before .before .before .before .before .before .before .before .before .args .c .at) (c .before .before .before .before .before .before .shape .ensures) (c .before .before .before .before .enum-told2 .given .1) (c .before .before .write-outermost .ensures)
 
 returns-3 : tie.Need-returns-3
-returns-3 c = slot-type (c .before .before .before .before .before .before .before .before .before .before .before .args .s .now) (c .before .before .before .before .before .before .before .before .before .before .before .args .names .now) (c .before .before .before .before .before .before .before .before .before .before .before .args .items .now) (c .before .before .before .before .before .before .before .before .before .before .before .args .c .at) (c .before .before .before .before .before .before .shape .ensures) (c .before .before .before .before .enum-told3 .given .1) (c .before .before .write-outermost2 .ensures)
+returns-3 c = slot-type (c .before .before .before .before .before .before .before .before .before .args .s .now) (namesIn (c .before .before .before .before .before .before .before .before .before .args .t .now)) (itemsIn (c .before .before .before .before .before .before .before .before .before .args .t .now)) (c .before .before .before .before .before .before .before .before .before .args .c .at) (c .before .before .before .before .before .before .shape .ensures) (c .before .before .before .before .enum-told3 .given .1) (c .before .before .write-outermost2 .ensures)
 
 returns-4 : tie.Need-returns-4
-returns-4 c = slot-type (c .before .before .before .before .before .before .before .before .before .before .before .args .s .now) (c .before .before .before .before .before .before .before .before .before .before .before .args .names .now) (c .before .before .before .before .before .before .before .before .before .before .before .args .items .now) (c .before .before .before .before .before .before .before .before .before .before .before .args .c .at) (c .before .before .before .before .before .before .shape .ensures) (c .before .before .before .before .enum-told4 .given .1) (c .before .before .write-outermost3 .ensures)
+returns-4 c = slot-type (c .before .before .before .before .before .before .before .before .before .args .s .now) (namesIn (c .before .before .before .before .before .before .before .before .before .args .t .now)) (itemsIn (c .before .before .before .before .before .before .before .before .before .args .t .now)) (c .before .before .before .before .before .before .before .before .before .args .c .at) (c .before .before .before .before .before .before .shape .ensures) (c .before .before .before .before .enum-told4 .given .1) (c .before .before .write-outermost3 .ensures)
 
 returns-5 : tie.Need-returns-5
-returns-5 c = slot-type (c .before .before .before .before .before .before .before .before .before .before .before .args .s .now) (c .before .before .before .before .before .before .before .before .before .before .before .args .names .now) (c .before .before .before .before .before .before .before .before .before .before .before .args .items .now) (c .before .before .before .before .before .before .before .before .before .before .before .args .c .at) (c .before .before .before .before .before .before .shape .ensures) (c .before .before .before .before .enum-told5 .given .1) (c .before .before .write-outermost4 .ensures)
+returns-5 c = slot-type (c .before .before .before .before .before .before .before .before .before .args .s .now) (namesIn (c .before .before .before .before .before .before .before .before .before .args .t .now)) (itemsIn (c .before .before .before .before .before .before .before .before .before .args .t .now)) (c .before .before .before .before .before .before .before .before .before .args .c .at) (c .before .before .before .before .before .before .shape .ensures) (c .before .before .before .before .enum-told5 .given .1) (c .before .before .write-outermost4 .ensures)
 
 returns-6 : tie.Need-returns-6
-returns-6 c = slot-type (c .before .before .before .before .before .before .before .before .before .before .before .args .s .now) (c .before .before .before .before .before .before .before .before .before .before .before .args .names .now) (c .before .before .before .before .before .before .before .before .before .before .before .args .items .now) (c .before .before .before .before .before .before .before .before .before .before .before .args .c .at) (c .before .before .before .before .before .before .shape .ensures) (c .before .before .before .before .enum-told6 .given .1) (c .before .before .write-outermost5 .ensures)
+returns-6 c = slot-type (c .before .before .before .before .before .before .before .before .before .args .s .now) (namesIn (c .before .before .before .before .before .before .before .before .before .args .t .now)) (itemsIn (c .before .before .before .before .before .before .before .before .before .args .t .now)) (c .before .before .before .before .before .before .before .before .before .args .c .at) (c .before .before .before .before .before .before .shape .ensures) (c .before .before .before .before .enum-told6 .given .1) (c .before .before .write-outermost5 .ensures)
 
 pub write-slot-type-spec : {M : Type 1} → statement M
 write-slot-type-spec =

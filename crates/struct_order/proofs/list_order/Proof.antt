@@ -1,4 +1,4 @@
--- Written by tools/proofkit from answers/list_order.tpl (c7fbf5f5 7738fabd).
+-- Written by tools/proofkit from answers/list_order.tpl (c7fbf5f5 82ec8dbe).
 use borrow.Author.Needs.{needs}
 use native.Mathlib.Omega.{arith}
 use mathlib.Core.Path.{sym}
@@ -20,7 +20,7 @@ returns-2 : tie.Need-returns-2
 returns-2 c = list-ring (c .before .before .order-of .ensures) _ (c .enum-told .given .1)
 
 returns-3 : tie.Need-returns-3
-returns-3 c = list-fits (c .before .before .before .before .before .before .before .before .before .order-of .ensures) _ (c .before .before .before .before .before .before .before .r .given .1) (c .before .before .before .before .before .if1 .left) (omega (arith, c .before .before .before .before .before .before .before .before .before .before .before .before .before .before .before .good)) (c .before .before .put-bytes .ensures)
+returns-3 c = list-fits (c .before .before .before .before .before .before .before .before .before .order-of .ensures) _ (c .before .before .before .before .before .before .before .r .given .1) (c .before .before .before .before .before .if1 .left) (omega (arith, c .before .before .before .before .before .before .before .before .before .before .before .before .before .before .before .before .good)) (c .before .before .put-bytes .ensures)
 
 pub list-order-spec : {M : Type 1} → statement M
 list-order-spec =

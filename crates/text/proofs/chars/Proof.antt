@@ -1,4 +1,4 @@
--- Written by tools/proofkit from answers/chars.tpl (16e2bcd5 9088d48c).
+-- Written by tools/proofkit from answers/chars.tpl (0ae5bf54 bf4d25fb).
 use borrow.Author.Needs.{needs}
 use native.Mathlib.Omega.{arith}
 use mathlib.Core.Path.{_≡_, refl}
@@ -10,10 +10,7 @@ returns : tie.Need-returns
 returns c = fills-cut _ _ _ (c .before .before .before .before .pre .1) (omega arith)
 
 returns-2 : tie.Need-returns-2
-returns-2 c = fills-whole _ _ _ (omega arith) refl (c .before .before .put-few .ensures)
-
-returns-3 : tie.Need-returns-3
-returns-3 c = fills-whole _ _ _ (omega arith) refl (c .before .before .put-many .ensures)
+returns-2 c = fills-whole _ _ _ (omega arith) refl (c .before .before .unpack .ensures)
 
 pub chars-spec : {M : Type 1} → statement M
 chars-spec =
@@ -26,7 +23,4 @@ chars-spec =
     (λ c. search needs)
     (λ c κs. search needs)
     (λ c. search needs)
-    returns-2
-    (λ c κs. search needs)
-    (λ c. search needs)
-    returns-3)
+    returns-2)

@@ -1,4 +1,4 @@
--- Written by tools/proofkit from answers/write_text.tpl (9667bf75 49939830).
+-- Written by tools/proofkit from answers/write_text.tpl (9667bf75 242b42ce).
 use borrow.Author.Needs.{needs}
 use native.Mathlib.Omega.{arith}
 use Rattle.write.proofs.PassLaws.{begun, whole-text}
@@ -6,7 +6,7 @@ use Rattle.write.proofs.write_text.Statement.{statement}
 use Rattle.write.proofs.write_text.Tie as tie
 
 write-body-requires : tie.Need-write-body-requires
-write-body-requires c κs = (c .before .before .before .before .before .before .before .before .before .before .before .pre .0, c .before .before .before .before .before .before .before .before .before .before .before .pre .1, begun (c .before .behind-forward .ensures) (c .before .before .before .before .write-forward-declarations .ensures))
+write-body-requires c κs = (c .before .before .before .before .before .before .before .before .before .pre .0, c .before .before .before .before .before .before .before .before .before .pre .1, begun (c .before .behind-forward .ensures) (c .before .before .before .before .write-forward-declarations .ensures))
 
 returns : tie.Need-returns
 returns c = whole-text _ (c .before .before .before .before .behind-forward .ensures) (c .before .before .before .before .before .before .before .write-forward-declarations .ensures) (c .before .before .write-body .ensures)

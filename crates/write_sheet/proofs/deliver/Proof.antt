@@ -1,4 +1,4 @@
--- Written by tools/proofkit from answers/deliver.tpl (b76b5cfb d6875339).
+-- Written by tools/proofkit from answers/deliver.tpl (b76b5cfb 2bedede5).
 use borrow.Author.Needs.{needs}
 use native.Mathlib.Omega.{arith}
 use mathlib.Core.Path.{sym}
@@ -14,7 +14,7 @@ slice-aggregate-write-text-2 : tie.Need-slice-aggregate-write-text-2
 slice-aggregate-write-text-2 c = search (needs, length-take-le, c .before .if1 .left)
 
 returns-2 : tie.Need-returns-2
-returns-2 c = deliver-fits _ (c .before .before .before .before .before .before .before .write-text .ensures) (c .before .before .before .before .if1 .left) (omega (arith, c .before .before .before .before .before .before .before .before .before .before .before .before .before .before .good)) (c .before .before .write-text2 .ensures)
+returns-2 c = deliver-fits _ (c .before .before .before .before .before .before .before .write-text .ensures) (c .before .before .before .before .if1 .left) (omega (arith, c .before .before .before .before .before .before .before .before .before .before .before .before .good)) (c .before .before .write-text2 .ensures)
 
 pub deliver-spec : {M : Type 1} → statement M
 deliver-spec =

@@ -1,14 +1,14 @@
--- Written by tools/proofkit from answers/write_judged.tpl (4b46f344 a5bb7c96).
+-- Written by tools/proofkit from answers/write_judged.tpl (d9dff7c5 4956f3c7).
 use borrow.Author.Needs.{needs}
 use Rattle.write_sheet.proofs.DeliverLaws.{judged-refused, judged-accepted}
 use Rattle.write_sheet.proofs.write_judged.Statement.{statement}
 use Rattle.write_sheet.proofs.write_judged.Tie as tie
 
 returns : tie.Need-returns
-returns c = judged-refused _ (c .before .before .before .judge .ensures) (c .before .c .given .1)
+returns c = judged-refused _ (c .before .before .before .judge-in .ensures) (c .before .c .given .1)
 
 returns-2 : tie.Need-returns-2
-returns-2 c = judged-accepted (c .before .before .before .before .before .before .judge .ensures) (c .before .before .before .before .enum-told .given .1) (c .before .before .deliver .ensures)
+returns-2 c = judged-accepted (c .before .before .before .before .before .before .before .before .judge-in .ensures) (c .before .before .before .before .before .before .enum-told .given .1) (c .before .before .write-accepted .ensures)
 
 pub write-judged-spec : {M : Type 1} → statement M
 write-judged-spec =

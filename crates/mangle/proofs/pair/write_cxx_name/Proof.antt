@@ -1,11 +1,11 @@
--- Written by tools/proofkit from answers/pair/write_cxx_name.tpl (f653f817 802f5136).
+-- Written by tools/proofkit from answers/pair/write_cxx_name.tpl (462ed230 5147370b).
 use borrow.Author.Needs.{needs}
 use Rattle.mangle.proofs.NameLaws.{cxx-name}
 use Rattle.mangle.proofs.pair.write_cxx_name.Statement.{statement}
 use Rattle.mangle.proofs.pair.write_cxx_name.Tie as tie
 
 put-name-of-requires : tie.Need-put-name-of-requires
-put-name-of-requires c κs = (c .before .before .before .before .before .before .pre .0 .named, c .before .item .ensures .1 .view .named)
+put-name-of-requires c κs = (c .before .before .before .before .before .pre .0, c .before .item .ensures .1 .view .named)
 
 returns : tie.Need-returns
 returns c = cxx-name (c .before .before .before .before .item .ensures .1) (c .before .before .before .before .item .ensures .0) (c .before .before .put-name-of .ensures)

@@ -1,11 +1,11 @@
--- Written by tools/proofkit from answers/pair/write_full_name.tpl (97d5555d b60a2266).
+-- Written by tools/proofkit from answers/pair/write_full_name.tpl (9ccc7a32 28df725a).
 use borrow.Author.Needs.{needs}
 use Rattle.mangle.proofs.NameLaws.{full-name}
 use Rattle.mangle.proofs.pair.write_full_name.Statement.{statement}
 use Rattle.mangle.proofs.pair.write_full_name.Tie as tie
 
 put-name-of-requires : tie.Need-put-name-of-requires
-put-name-of-requires c κs = (c .before .before .before .before .before .before .before .before .before .before .before .before .before .before .before .before .before .pre .0 .named, c .before .before .before .before .before .before .before .before .before .before .before .before .item .ensures .1 .view .named)
+put-name-of-requires c κs = (c .before .before .before .before .before .before .before .before .before .before .before .before .before .before .before .before .pre .0, c .before .before .before .before .before .before .before .before .before .before .before .before .item .ensures .1 .view .named)
 
 returns : tie.Need-returns
 returns c = full-name (c .before .before .before .before .before .before .before .before .before .before .before .before .before .before .before .item .ensures .1) (c .before .before .before .before .before .before .before .before .before .before .before .before .before .before .before .item .ensures .0) (c .before .before .before .before .before .before .before .before .before .before .before .write-namespace .ensures) (c .before .before .before .before .before .before .put-bytes .ensures) (c .before .before .put-name-of .ensures)

@@ -1,0 +1,3 @@
+pub mod TableLaws
+mod FillLaws
+mod SlotLaws

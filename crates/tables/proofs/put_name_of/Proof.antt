@@ -1,0 +1,37 @@
+-- Written by tools/proofkit from answers/put_name_of.tpl (91244021 4f5a4ccf).
+use borrow.Author.Needs.{needs}
+use native.Mathlib.Omega.{arith}
+use mathlib.Core.Path.{ap}
+use Rattle.sink.proofs.SinkLaws.{wrote-as}
+use Rattle.view.specs.Values.{nameAt}
+use Rattle.tables.proofs.SlotLaws.{place-is, slot-near, slot-name}
+use Rattle.tables.proofs.put_name_of.Statement.{statement}
+use Rattle.tables.proofs.put_name_of.Tie as tie
+
+put-name-requires : tie.Need-put-name-requires
+put-name-requires c κs =
+    let named = c .before .before .before .before .before .pre .0 .tabled .whole .named in
+    rw (place-is (c .before .before .before .before .before .pre .0 .tabled) _ (c .before .before .before .before .before .pre .1)) (named .limited, named .each _ (c .before .before .before .before .before .pre .1))
+
+returns : tie.Need-returns
+returns c = wrote-as (c .before .before .put-name .ensures) (ap (nameAt _) (place-is (c .before .before .before .before .before .before .before .before .pre .0 .tabled) _ (c .before .before .before .before .before .before .before .before .pre .1)))
+
+put-slot-requires : tie.Need-put-slot-requires
+put-slot-requires c κs = (slot-near (c .before .before .before .before .before .pre .0) _ (c .before .before .before .before .before .pre .1) (omega arith), omega arith)
+
+returns-2 : tie.Need-returns-2
+returns-2 c = wrote-as (c .before .before .put-slot .ensures) (slot-name (c .before .before .before .before .before .before .before .before .pre .0) _ (c .before .before .before .before .before .before .before .before .pre .1) (omega arith))
+
+pub put-name-of-spec : {M : Type 1} → statement M
+put-name-of-spec =
+    tie.close
+    (tie.spec
+    (λ c. search needs)
+    (λ c. search needs)
+    put-name-requires
+    (λ c. search needs)
+    returns
+    (λ c. search needs)
+    put-slot-requires
+    (λ c. search needs)
+    returns-2)
