@@ -55,9 +55,9 @@ pub fn ring(s: &[u8], names: &[u32], items: &[u32]) -> bool
 {
     let mut numbers = [0u8; Outline::ITEMS];
     let n = list_structs(s, names, items, &mut numbers);
-    if n == 0 {
-        return false;
+    if 0 < n {
+        let mut held = [0u8; Traversal::HELD];
+        return ring_in(s, names, items, &mut held);
     }
-    let mut held = [0u8; Traversal::HELD];
-    ring_in(s, names, items, &mut held)
+    false
 }
