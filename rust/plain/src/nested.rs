@@ -1,6 +1,6 @@
 //! nested.rs: items grouped by namespace, level by level.
 
-use sheet::{Item, Sheet};
+use crate::flat::{Item, Sheet};
 
 pub struct NamespaceEntries<'s> {
     pub direct: Vec<&'s Item>,
@@ -21,7 +21,7 @@ fn sort_by_inner_namespace<'s>(
     let mut direct = Vec::new();
     let mut nested: Vec<(&[u8], Vec<&Item>)> = Vec::new();
     for item in items {
-        let Some(name) = item.namespace.get(depth) else {
+        let Some(name) = sheet.namespace(item).get(depth) else {
             direct.push(item);
             continue;
         };

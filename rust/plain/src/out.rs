@@ -1,6 +1,7 @@
 //! block.rs and out.rs.
 
-use sheet::{NameIndex, Sheet};
+use crate::flat::Sheet;
+use sheet::{NameIndex, limit};
 
 /// Two are equal when their characters are.
 #[derive(Clone, Copy, PartialEq, Debug)]
@@ -24,6 +25,10 @@ impl BlockBoundary<'_> {
     }
 }
 
+/// The most boundaries there can be: seven namespaces and `extern "C"` are
+/// open, their ends are pending, and as many others are to begin.
+const BLOCKS: usize = 3 * (limit::NAMESPACES + 1);
+
 pub struct OutFile<'s, 'b> {
     pub sheet: &'s Sheet,
     bytes: &'b mut [u8],
@@ -42,7 +47,7 @@ impl<'s, 'b> OutFile<'s, 'b> {
             bytes,
             len: 0,
             namespace: &[],
-            blocks: Vec::new(),
+            blocks: Vec::with_capacity(BLOCKS),
             section_pending: false,
             blocks_pending: 0,
         }

@@ -1,10 +1,9 @@
 //! write.rs, and the symbols of mangle.rs.
 
+use crate::flat::{Arg, Function, Item, Kind, Sheet, Span, Type, indirect};
 use crate::nested::NamespaceEntries;
 use crate::out::{Block, OutFile};
-use sheet::{
-    Arg, AtomNumber, Form, Function, Item, ItemIndex, Kind, RUST_STRING, Sheet, Type, indirect,
-};
+use sheet::{AtomNumber, Form, ItemIndex, RUST_STRING};
 
 /// Enough for every indent: two for each of seven namespaces.
 const SPACES: &[u8] = b"              ";
@@ -13,7 +12,7 @@ pub fn write_forward_declarations(out: &mut OutFile) {
     let sheet = out.sheet;
     let needs_forward_declaration = |item: &&Item| match item.kind {
         Kind::Enum { cxx, .. } => !cxx,
-        Kind::Function(_) | Kind::Unknown(_) => false,
+        Kind::Function(_) => false,
         _ => true,
     };
     let items = sheet.items.iter().filter(needs_forward_declaration);
@@ -82,11 +81,11 @@ pub fn write_functions(out: &mut OutFile) {
     }
 }
 
-fn write_doc(out: &mut OutFile, doc: &[Vec<u8>]) {
+fn write_doc(out: &mut OutFile, doc: &[Span]) {
     let slashes: &[u8] = if out.sheet.doxygen { b"///" } else { b"//" };
     for line in doc {
         out.write(slashes);
-        out.write(line);
+        out.write(out.sheet.chars(*line));
         out.write(b"\n");
     }
     if out.sheet.doxygen && doc.len() == 1 {
@@ -97,7 +96,7 @@ fn write_doc(out: &mut OutFile, doc: &[Vec<u8>]) {
 const LAYOUT: [(&[u8], &[u8]); 2] = [(b"sizeof", b"size"), (b"alignof", b"align")];
 
 fn write_opaque_type_layout_decls<'s>(out: &mut OutFile<'s, '_>, item: &'s Item) {
-    out.set_namespace(&item.namespace);
+    out.set_namespace(out.sheet.namespace(item));
     out.begin_block(Block::ExternC);
     for (operator, _) in LAYOUT {
         out.write(b"::std::size_t ");
@@ -111,7 +110,7 @@ fn write_opaque_type_layout<'s>(out: &mut OutFile<'s, '_>, item: &'s Item) {
     if out.sheet.header {
         return;
     }
-    out.set_namespace(&item.namespace);
+    out.set_namespace(out.sheet.namespace(item));
     for (operator, function) in LAYOUT {
         out.next_section();
         out.write(b"::std::size_t ");
@@ -126,7 +125,7 @@ fn write_opaque_type_layout<'s>(out: &mut OutFile<'s, '_>, item: &'s Item) {
 
 fn write_rust_function_decl<'s>(out: &mut OutFile<'s, '_>, item: &'s Item, function: &'s Function) {
     let sheet = out.sheet;
-    out.set_namespace(&item.namespace);
+    out.set_namespace(out.sheet.namespace(item));
     out.begin_block(Block::ExternC);
     out.next_section();
     if function.throws {
@@ -145,7 +144,7 @@ fn write_rust_function_decl<'s>(out: &mut OutFile<'s, '_>, item: &'s Item, funct
         out.write(b" &self");
         needs_comma = true;
     }
-    for arg in &function.args {
+    for arg in sheet.args(function) {
         if needs_comma {
             out.write(b", ");
         }
@@ -156,10 +155,10 @@ fn write_rust_function_decl<'s>(out: &mut OutFile<'s, '_>, item: &'s Item, funct
         if needs_comma {
             out.write(b", ");
         }
-        match ret {
-            Type::Ref { mutable, inner } => write_pointer(out, inner, *mutable),
-            ret => write_type_space(out, ret),
-        }
+        match ret[0] {
+            Type::Ref { mutable } => write_pointer(out, &ret[1..], mutable),
+            _ => write_type_space(out, ret),
+        };
         out.write(b"*return$");
     }
     out.write(b") noexcept;\n");
@@ -168,13 +167,13 @@ fn write_rust_function_decl<'s>(out: &mut OutFile<'s, '_>, item: &'s Item, funct
 
 fn write_rust_function_shim<'s>(out: &mut OutFile<'s, '_>, item: &'s Item, function: &'s Function) {
     let sheet = out.sheet;
-    out.set_namespace(&item.namespace);
+    out.set_namespace(out.sheet.namespace(item));
     let free = function.form == Form::Free;
     if sheet.header && !free {
         return;
     }
     if free {
-        write_doc(out, &function.comment);
+        write_doc(out, sheet.comment(function));
     }
     write_rust_function_shim_decl(out, item, function);
     if sheet.header {
@@ -182,11 +181,11 @@ fn write_rust_function_shim<'s>(out: &mut OutFile<'s, '_>, item: &'s Item, funct
         return;
     }
     out.write(b" {\n");
-    for arg in &function.args {
-        if is_held(sheet, &arg.ty) {
+    for arg in sheet.args(function) {
+        if is_held(sheet, sheet.outermost(arg)) {
             let name = sheet.name(arg.name);
             out.write(b"  ::rust::ManuallyDrop<");
-            write_type(out, &arg.ty);
+            write_type(out, sheet.types(arg.ty));
             out.write(b"> ");
             out.write(name);
             out.write(b"$(::std::move(");
@@ -198,19 +197,19 @@ fn write_rust_function_shim<'s>(out: &mut OutFile<'s, '_>, item: &'s Item, funct
     let indirect_return = indirect_return(sheet, function);
     if let Some(ret) = indirect_return {
         out.write(b"::rust::MaybeUninit<");
-        match ret {
-            Type::Ref { mutable, inner } => write_pointer(out, inner, *mutable),
-            ret => write_type(out, ret),
-        }
+        match ret[0] {
+            Type::Ref { mutable } => write_pointer(out, &ret[1..], mutable),
+            _ => write_type(out, ret),
+        };
         out.write(b"> return$;\n  ");
-    } else if let Some(ret) = &function.ret {
+    } else if let Some(ret) = ret(sheet, function) {
         out.write(b"return ");
-        match ret {
-            Type::RustBox(_) => {
+        match ret[0] {
+            Type::RustBox => {
                 write_type(out, ret);
                 out.write(b"::from_raw(");
             }
-            Type::UniquePtr(_) => {
+            Type::UniquePtr => {
                 write_type(out, ret);
                 out.write(b"(");
             }
@@ -234,17 +233,18 @@ fn write_rust_function_shim<'s>(out: &mut OutFile<'s, '_>, item: &'s Item, funct
         out.write(b"*this");
         needs_comma = true;
     }
-    for arg in &function.args {
+    for arg in sheet.args(function) {
         if needs_comma {
             out.write(b", ");
         }
-        if indirect(sheet, &arg.ty) {
+        let ty = sheet.outermost(arg);
+        if indirect(sheet, ty) {
             out.write(b"&");
         }
         out.write(sheet.name(arg.name));
-        match &arg.ty {
-            Type::RustBox(_) => out.write(b".into_raw()"),
-            Type::UniquePtr(_) => out.write(b".release()"),
+        match ty {
+            Type::RustBox => out.write(b".into_raw()"),
+            Type::UniquePtr => out.write(b".release()"),
             ty if is_held(sheet, ty) => out.write(b"$.value"),
             _ => {}
         }
@@ -258,8 +258,12 @@ fn write_rust_function_shim<'s>(out: &mut OutFile<'s, '_>, item: &'s Item, funct
     }
     out.write(b")");
     if indirect_return.is_none()
-        && let Some(Type::RustBox(_) | Type::UniquePtr(_) | Type::Str | Type::SliceRef { .. }) =
-            function.ret
+        && let Some(
+            [
+                Type::RustBox | Type::UniquePtr | Type::Str | Type::SliceRef { .. },
+                ..,
+            ],
+        ) = ret(sheet, function)
     {
         out.write(b")");
     }
@@ -269,7 +273,7 @@ fn write_rust_function_shim<'s>(out: &mut OutFile<'s, '_>, item: &'s Item, funct
         out.write(b"    throw ::rust::impl<::rust::Error>::error(error$);\n  }\n");
     }
     match indirect_return {
-        Some(Type::Ref { .. }) => out.write(b"  return *return$.value;\n"),
+        Some([Type::Ref { .. }, ..]) => out.write(b"  return *return$.value;\n"),
         Some(_) => out.write(b"  return ::std::move(return$.value);\n"),
         None => {}
     }
@@ -289,11 +293,11 @@ fn write_rust_function_shim_decl(out: &mut OutFile, item: &Item, function: &Func
     }
     out.write(sheet.name(item.name));
     out.write(b"(");
-    for (i, arg) in function.args.iter().enumerate() {
+    for (i, arg) in sheet.args(function).iter().enumerate() {
         if i > 0 {
             out.write(b", ");
         }
-        write_type_space(out, &arg.ty);
+        write_type_space(out, sheet.types(arg.ty));
         out.write(sheet.name(arg.name));
     }
     out.write(b")");
@@ -307,120 +311,149 @@ fn write_rust_function_shim_decl(out: &mut OutFile, item: &Item, function: &Func
 
 fn is_main(sheet: &Sheet, item: &Item, function: &Function) -> bool {
     sheet.name(item.name) == b"main"
-        && item.namespace.is_empty()
+        && sheet.namespace(item).is_empty()
         && function.form == Form::Free
-        && function.args.is_empty()
+        && sheet.args(function).is_empty()
         && function.ret.is_none()
         && !function.throws
 }
 
 /// Whether a shim holds an argument of this type back from its destructor.
-fn is_held(sheet: &Sheet, ty: &Type) -> bool {
-    *ty != Type::Atom(RUST_STRING) && indirect(sheet, ty)
+fn is_held(sheet: &Sheet, ty: Type) -> bool {
+    !matches!(ty, Type::Atom(RUST_STRING)) && indirect(sheet, ty)
+}
+
+/// The type that a function returns, and whatever is behind it.
+fn ret<'s>(sheet: &'s Sheet, function: &Function) -> Option<&'s [Type]> {
+    function.ret.map(|ret| sheet.types(ret))
 }
 
 fn write_return_type(out: &mut OutFile, function: &Function) {
-    match &function.ret {
+    match ret(out.sheet, function) {
         None => out.write(b"void "),
-        Some(ty) => write_type_space(out, ty),
+        Some(ty) => {
+            write_type_space(out, ty);
+        }
     }
 }
 
 /// The type that is returned by a slot, if one is.
-fn indirect_return<'f>(sheet: &Sheet, function: &'f Function) -> Option<&'f Type> {
-    let ret = function.ret.as_ref();
-    ret.filter(|ret| function.throws || indirect(sheet, ret))
+fn indirect_return<'s>(sheet: &'s Sheet, function: &Function) -> Option<&'s [Type]> {
+    ret(sheet, function).filter(|ret| function.throws || indirect(sheet, ret[0]))
 }
 
 fn write_extern_return_type_space(out: &mut OutFile, function: &Function) {
-    match &function.ret {
+    match ret(out.sheet, function) {
         Some(_) if indirect_return(out.sheet, function).is_some() => out.write(b"void "),
-        Some(Type::RustBox(inner) | Type::UniquePtr(inner)) => write_pointer(out, inner, true),
-        Some(Type::Ref { mutable, inner }) => write_pointer(out, inner, *mutable),
-        Some(Type::Str | Type::SliceRef { .. }) => out.write(b"::rust::repr::Fat "),
+        Some([Type::RustBox | Type::UniquePtr, inner @ ..]) => {
+            write_pointer(out, inner, true);
+        }
+        Some([Type::Ref { mutable }, inner @ ..]) => {
+            write_pointer(out, inner, *mutable);
+        }
+        Some([Type::Str | Type::SliceRef { .. }, ..]) => out.write(b"::rust::repr::Fat "),
         _ => write_return_type(out, function),
     }
 }
 
 fn write_extern_arg(out: &mut OutFile, arg: &Arg) {
-    match &arg.ty {
-        Type::RustBox(inner) | Type::UniquePtr(inner) | Type::CxxVector(inner) => {
-            write_pointer(out, inner, true);
-        }
-        ty => write_type_space(out, ty),
-    }
-    if indirect(out.sheet, &arg.ty) {
+    let ty = out.sheet.types(arg.ty);
+    match ty[0] {
+        Type::RustBox | Type::UniquePtr | Type::CxxVector => write_pointer(out, &ty[1..], true),
+        _ => write_type_space(out, ty),
+    };
+    if indirect(out.sheet, ty[0]) {
         out.write(b"*");
     }
     out.write(out.sheet.name(arg.name));
 }
 
-fn write_pointer(out: &mut OutFile, inner: &Type, mutable: bool) {
-    write_type_space(out, inner);
+// The writers of types answer with what is behind the type.
+
+fn write_pointer<'s>(out: &mut OutFile<'s, '_>, inner: &'s [Type], mutable: bool) -> &'s [Type] {
+    let rest = write_type_space(out, inner);
     if !mutable {
         out.write(b"const ");
     }
     out.write(b"*");
+    rest
 }
 
-fn write_type(out: &mut OutFile, ty: &Type) {
-    match ty {
-        Type::Atom(atom) => write_atom(out, *atom),
-        Type::Named(item) => write_named(out, *item),
-        Type::RustBox(inner) => write_template(out, b"::rust::Box<", inner),
-        Type::RustVec(inner) => write_template(out, b"::rust::Vec<", inner),
-        Type::UniquePtr(inner) => write_template(out, b"::std::unique_ptr<", inner),
-        Type::SharedPtr(inner) => write_template(out, b"::std::shared_ptr<", inner),
-        Type::WeakPtr(inner) => write_template(out, b"::std::weak_ptr<", inner),
-        Type::CxxVector(inner) => write_template(out, b"::std::vector<", inner),
-        Type::Ref { mutable, inner } => {
-            write_type_space(out, inner);
-            out.write(if *mutable { b"&" } else { b"const &" });
+fn write_type<'s>(out: &mut OutFile<'s, '_>, ty: &'s [Type]) -> &'s [Type] {
+    let inner = &ty[1..];
+    match ty[0] {
+        Type::Atom(atom) => {
+            write_atom(out, atom);
+            inner
         }
-        Type::Ptr { mutable, inner } => write_pointer(out, inner, *mutable),
-        Type::Str => out.write(b"::rust::Str"),
-        Type::SliceRef { mutable, inner } => {
+        Type::Named(item) => {
+            write_named(out, item);
+            inner
+        }
+        Type::RustBox => write_template(out, b"::rust::Box<", inner),
+        Type::RustVec => write_template(out, b"::rust::Vec<", inner),
+        Type::UniquePtr => write_template(out, b"::std::unique_ptr<", inner),
+        Type::SharedPtr => write_template(out, b"::std::shared_ptr<", inner),
+        Type::WeakPtr => write_template(out, b"::std::weak_ptr<", inner),
+        Type::CxxVector => write_template(out, b"::std::vector<", inner),
+        Type::Ref { mutable } => {
+            let rest = write_type_space(out, inner);
+            out.write(if mutable { b"&" } else { b"const &" });
+            rest
+        }
+        Type::Ptr { mutable } => write_pointer(out, inner, mutable),
+        Type::Str => {
+            out.write(b"::rust::Str");
+            inner
+        }
+        Type::SliceRef { mutable } => {
             out.write(b"::rust::Slice<");
-            write_type_space(out, inner);
-            out.write(if *mutable { b">" } else { b"const>" });
+            let rest = write_type_space(out, inner);
+            out.write(if mutable { b">" } else { b"const>" });
+            rest
         }
         Type::Fn { ret, args } => {
+            let mut rest = inner;
             out.write(b"::rust::Fn<");
-            match ret {
-                Some(ret) => write_type(out, ret),
-                None => out.write(b"void"),
+            if ret {
+                rest = write_type(out, rest);
+            } else {
+                out.write(b"void");
             }
             out.write(b"(");
-            for (i, arg) in args.iter().enumerate() {
+            for i in 0..args {
                 if i > 0 {
                     out.write(b", ");
                 }
-                write_type(out, arg);
+                rest = write_type(out, rest);
             }
             out.write(b")>");
+            rest
         }
-        Type::Array { inner, len } => {
+        Type::Array { len } => {
             out.write(b"::std::array<");
-            write_type(out, inner);
+            let rest = write_type(out, inner);
             out.write(b", ");
-            write_decimal(out, *len);
+            write_decimal(out, len);
             out.write(b">");
+            rest
         }
-        Type::Unknown(_) => unreachable!("never decoded"),
     }
 }
 
-fn write_template(out: &mut OutFile, head: &[u8], inner: &Type) {
+fn write_template<'s>(out: &mut OutFile<'s, '_>, head: &[u8], inner: &'s [Type]) -> &'s [Type] {
     out.write(head);
-    write_type(out, inner);
+    let rest = write_type(out, inner);
     out.write(b">");
+    rest
 }
 
-fn write_type_space(out: &mut OutFile, ty: &Type) {
-    write_type(out, ty);
-    if !matches!(ty, Type::Ref { .. } | Type::Ptr { .. }) {
+fn write_type_space<'s>(out: &mut OutFile<'s, '_>, ty: &'s [Type]) -> &'s [Type] {
+    let rest = write_type(out, ty);
+    if !matches!(ty[0], Type::Ref { .. } | Type::Ptr { .. }) {
         out.write(b" ");
     }
+    rest
 }
 
 const ATOMS: [&[u8]; 16] = [
@@ -451,9 +484,10 @@ fn write_named(out: &mut OutFile, item: ItemIndex) {
 }
 
 fn write_full_name(out: &mut OutFile, item: &Item) {
-    for name in item.namespace.iter().chain([&item.name]) {
+    let sheet = out.sheet;
+    for name in sheet.namespace(item).iter().chain([&item.name]) {
         out.write(b"::");
-        out.write(out.sheet.name(*name));
+        out.write(sheet.name(*name));
     }
 }
 
@@ -489,8 +523,9 @@ fn write_operator(out: &mut OutFile, item: &Item, operator: &[u8]) {
 }
 
 fn write_prefix(out: &mut OutFile, item: &Item) {
-    for name in &item.namespace {
-        out.write(out.sheet.name(*name));
+    let sheet = out.sheet;
+    for name in sheet.namespace(item) {
+        out.write(sheet.name(*name));
         out.write(b"$");
     }
     out.write(b"cxxbridge1$205$");

@@ -16,7 +16,7 @@ mod rng;
 mod rules;
 mod value;
 
-pub use bits::index_width;
+pub use bits::{BitReader, index_width};
 pub use check::check;
 pub use decode::decode;
 pub use encode::{encode, encode_bits};

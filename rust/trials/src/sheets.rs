@@ -235,10 +235,70 @@ pub fn many_names() -> Sheet {
     sheet
 }
 
+/// The bytes of `functions(8)`, kept so that what is timed stays the same.
+pub const STORED_FUNCTIONS: &[u8] = include_bytes!("../../../vectors/bench/functions-8.sheet");
+
 /// 255 functions with this many arguments.
 pub fn functions(arguments: usize) -> Sheet {
+    let types = signature_types().into_iter().cycle();
+    all_functions(&types.take(arguments).collect::<Vec<_>>())
+}
+
+/// `functions(8)` with names of 63 characters, in seven namespaces.
+pub fn long_names() -> Sheet {
+    let mut sheet = functions(8);
+    let namespace: Vec<NameIndex> = (limit::ITEMS..limit::ITEMS + limit::NAMESPACES)
+        .map(|i| i as NameIndex)
+        .collect();
+    let words = (0..limit::ITEMS + limit::NAMESPACES).map(|i| format!("spindle_{i:055}"));
+    sheet.names = words.map(String::into_bytes).collect();
+    for item in &mut sheet.items {
+        item.namespace = namespace.clone();
+    }
+    sheet
+}
+
+/// 255 functions with eight arguments, whose types have depth 8.
+pub fn deep_arguments() -> Sheet {
+    let wrappers: [fn(Box<Type>) -> Type; limit::TYPE_DEPTH - 1] = [
+        Type::RustVec,
+        Type::RustBox,
+        Type::UniquePtr,
+        |inner| Type::Ref {
+            mutable: false,
+            inner,
+        },
+        Type::SharedPtr,
+        Type::WeakPtr,
+        |inner| Type::SliceRef {
+            mutable: true,
+            inner,
+        },
+    ];
+    let deep = |argument| {
+        let wrappers = wrappers.iter().cycle().skip(argument);
+        let wrappers = wrappers.take(limit::TYPE_DEPTH - 1);
+        wrappers.fold(Type::Atom(4), |inner, wrapper| wrapper(Box::new(inner)))
+    };
+    all_functions(&(0..8).map(deep).collect::<Vec<_>>())
+}
+
+/// `functions(8)` where all throw, and return types of all sorts by a slot.
+pub fn throwing() -> Sheet {
+    let mut sheet = functions(8);
+    let returns = signature_types().into_iter().cycle();
+    for (item, ret) in sheet.items.iter_mut().zip(returns) {
+        if let Kind::Function(function) = &mut item.kind {
+            function.throws = true;
+            function.ret = Some(ret);
+        }
+    }
+    sheet
+}
+
+fn signature_types() -> [Type; 8] {
     let inner = |atom| Box::new(Type::Atom(atom));
-    let types = [
+    [
         Type::Atom(4),
         Type::Str,
         Type::Ref {
@@ -253,19 +313,23 @@ pub fn functions(arguments: usize) -> Sheet {
         Type::RustBox(inner(15)),
         Type::UniquePtr(inner(14)),
         Type::Atom(15),
-    ];
+    ]
+}
+
+/// 255 functions with arguments of these types.
+fn all_functions(types: &[Type]) -> Sheet {
     let mut sheet = Sheet::empty();
     let words = (0..limit::ITEMS).map(|i| format!("spindle_{i:03}").into_bytes());
     sheet.names = words.collect();
-    let items = (0..limit::ITEMS as NameIndex).map(|i| {
-        let args = (0..arguments).map(|number| Arg {
-            name: (usize::from(i) + number) as NameIndex % limit::ITEMS as NameIndex,
-            ty: types[number % types.len()].clone(),
+    let items = (0..limit::ITEMS).map(|i| {
+        let args = types.iter().enumerate().map(|(number, ty)| Arg {
+            name: ((i + number) % limit::ITEMS) as NameIndex,
+            ty: ty.clone(),
         });
         Item {
             namespace: Vec::new(),
-            name: i,
-            kind: function(i, args.collect()),
+            name: i as NameIndex,
+            kind: function(i as NameIndex, args.collect()),
         }
     });
     sheet.items = items.collect();

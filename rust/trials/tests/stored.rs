@@ -1,9 +1,10 @@
-//! Every entry of the stored list.
+//! Every entry of the stored list, and the stored sheet that is timed.
 
 use oracle::vectors::{Record, parse};
+use sheet::encode;
 use std::fs;
 use std::path::Path;
-use trials::compare;
+use trials::{compare, sheets};
 
 fn records() -> Vec<Record> {
     let path = Path::new(env!("CARGO_MANIFEST_DIR")).join("../../vectors/vectors.bin");
@@ -47,4 +48,17 @@ fn stored_texts() {
         }
     }
     assert!(overruns > 1_000, "{overruns}");
+}
+
+#[test]
+fn stored_functions() {
+    let sheet = sheets::functions(8);
+    assert_eq!(sheets::STORED_FUNCTIONS.len(), 8_705);
+    assert_eq!(sheets::STORED_FUNCTIONS, encode(&sheet));
+    let text = bridgetext::text(sheets::STORED_FUNCTIONS).unwrap();
+    assert_eq!(text.len(), 232_078);
+    assert!(plain::text(sheets::STORED_FUNCTIONS).as_ref() == Ok(&text));
+    if !oracle::skipped() {
+        assert!(oracle::text(&sheet) == text);
+    }
 }

@@ -2,27 +2,33 @@
 
 use sheet::{Rng, encode, generate};
 use std::cell::RefCell;
+use std::fmt::{self, Display};
 use std::hint::black_box;
 use std::process::ExitCode;
 use std::time::{Duration, Instant};
 use trials::sheets;
 
-const USAGE: &str = "usage: bench [--runs N]
+const USAGE: &str = "usage: bench [--runs N] [--write]
 
 Times `bridgetext::check` against `sheet::check` on the same sheets,
 `bridgetext::struct_order` against the crate's `sort`, and `bridgetext::write`
-against `plain::write`, N runs of each (501 unless given), one of the first, one
-of the second and so on. Prints medians and their ratio as Markdown. Buffers are
-not cleared between the runs.
+against `plain::write` and `plain::write_without_rules`; with `--write` only
+these three. There are N runs of each (501 unless given, at most 51 for the
+longest text), one of the first, one of the second and so on; a run repeats a
+call of less than 200 µs. Prints medians and their ratio as Markdown, for `write`
+the 10th and the 90th percentile too. Buffers are not cleared between the runs.
 
 Exit code: 0 done, 1 a service answers wrong, 2 wrong use or not built
 for release.";
 
-/// A run repeats the call until it takes about so long.
+/// A run repeats the call until it takes so long.
 const RUN: Duration = Duration::from_micros(200);
 
+/// The buffer for the stored sheet.
+const BUFFER: usize = 262_144;
+
 fn main() -> ExitCode {
-    let Some(runs) = arguments() else {
+    let Some((runs, write)) = arguments() else {
         eprintln!("{USAGE}");
         return ExitCode::from(2);
     };
@@ -30,23 +36,35 @@ fn main() -> ExitCode {
         eprintln!("bench: not built for release");
         return ExitCode::from(2);
     }
-    let tables = || checks(runs).and_then(|()| orders(runs));
-    match tables().and_then(|()| texts(runs)) {
-        Ok(()) => ExitCode::SUCCESS,
-        Err(error) => {
+    let tables: &[fn(usize) -> Result<(), String>] = match write {
+        true => &[texts],
+        false => &[checks, orders, texts],
+    };
+    for (index, table) in tables.iter().enumerate() {
+        if index > 0 {
+            println!();
+        }
+        if let Err(error) = table(runs) {
             eprintln!("bench: {error}");
-            ExitCode::FAILURE
+            return ExitCode::FAILURE;
         }
     }
+    ExitCode::SUCCESS
 }
 
-fn arguments() -> Option<usize> {
-    let args: Vec<String> = std::env::args().skip(1).collect();
-    match args.as_slice() {
-        [] => Some(501),
-        [flag, runs] if flag == "--runs" => runs.parse().ok().filter(|runs| *runs > 0),
-        _ => None,
+/// The number of runs, and whether `write` alone is timed.
+fn arguments() -> Option<(usize, bool)> {
+    let mut runs = 501;
+    let mut write = false;
+    let mut args = std::env::args().skip(1);
+    while let Some(arg) = args.next() {
+        match arg.as_str() {
+            "--runs" => runs = args.next()?.parse().ok().filter(|runs| *runs > 0)?,
+            "--write" => write = true,
+            _ => return None,
+        }
     }
+    Some((runs, write))
 }
 
 /// A thousand sheets of at most 300 bytes.
@@ -119,7 +137,6 @@ fn orders(runs: usize) -> Result<(), String> {
         ("diamonds", sheets::diamonds()),
         ("63 fields", sheets::dense()),
     ];
-    println!();
     println!("`struct_order` and \"from bytes\" begin with the sheet's bytes and check them; the");
     println!("second then builds the crate's syntax tree. `sort` alone has the tree at hand.");
     println!();
@@ -162,74 +179,124 @@ fn orders(runs: usize) -> Result<(), String> {
     Ok(())
 }
 
+const TEXTS: &str = "\
+All begin with the sheet's bytes and check them, the last but for rules 9 to 12. The
+plain writers are one pass; the service leaves the buffer as it was where the text has
+no room. The stored sheet has a buffer of 262,144 bytes, the others have one as long
+as the longest of their texts. Medians, in brackets the 10th and 90th percentile.";
+
 fn texts(runs: usize) -> Result<(), String> {
+    let one = |sheet| vec![encode(&sheet)];
+    // A run on the longest text takes long enough to need fewer of them.
+    let few = runs.min(51);
     let cases = [
         (
-            "255 functions, 8 arguments",
-            vec![encode(&sheets::functions(8))],
+            "255 functions, 8 arguments (stored)",
+            vec![sheets::STORED_FUNCTIONS.to_vec()],
             runs,
+            BUFFER,
         ),
-        ("1,000 small sheets", small(), runs),
-        // A run takes long enough to need fewer of them.
+        ("1,000 small sheets", small(), runs, 0),
+        ("the longest text", one(sheets::longest_text()), few, 0),
         (
-            "the longest text",
-            vec![encode(&sheets::longest_text())],
-            runs.min(21),
+            "names of 63 characters, 7 namespaces",
+            one(sheets::long_names()),
+            runs,
+            0,
         ),
+        (
+            "arguments of depth 8",
+            one(sheets::deep_arguments()),
+            runs,
+            0,
+        ),
+        (
+            "throwing, returns by a slot",
+            one(sheets::throwing()),
+            runs,
+            0,
+        ),
+        ("31 arguments", one(sheets::functions(31)), runs, 0),
     ];
+    println!("{TEXTS}");
     println!();
     println!(
-        "Both begin with the sheet's bytes, check them, and have room for the text. The plain"
+        "| sheet | bytes | text | runs | `bridgetext::write` | `plain::write` | ratio | without rules 9 to 12 | ratio |"
     );
-    println!(
-        "writer is one pass; the service leaves the buffer as it was where the text has no room."
-    );
-    println!();
-    println!("| sheet | bytes | text | `bridgetext::write` | `plain::write` | ratio |");
-    println!("|---|---|---|---|---|---|");
-    for (label, sheets, runs) in cases {
+    println!("|---|---|---|---|---|---|---|---|---|");
+    for (label, sheets, runs, mut room) in cases {
         let mut bytes = 0;
         let mut length = 0;
-        let mut longest = 0;
         for sheet in &sheets {
-            let text = plain::text(&sheet::read(sheet).unwrap());
-            let mut written = vec![0; text.len()];
-            if bridgetext::write(sheet, &mut written) != Ok(text.len()) || written != text {
-                return Err(format!("{label}: another text than the plain writer's"));
-            }
+            let text = same_text(sheet).map_err(|error| format!("{label}: {error}"))?;
             bytes += sheet.len();
-            length += text.len();
-            longest = longest.max(text.len());
+            length += text;
+            room = room.max(text);
         }
-        let buffers = [
-            RefCell::new(vec![0; longest]),
-            RefCell::new(vec![0; longest]),
-        ];
+        let [proved, rust, without_rules] = [(); 3].map(|()| RefCell::new(vec![0; room]));
         let proved = || {
             for sheet in &sheets {
-                let buffer = &mut buffers[0].borrow_mut();
+                let buffer = &mut proved.borrow_mut();
                 let _ = black_box(bridgetext::write(black_box(sheet), buffer));
             }
         };
         let rust = || {
             for sheet in &sheets {
-                let buffer = &mut buffers[1].borrow_mut();
+                let buffer = &mut rust.borrow_mut();
                 let _ = black_box(plain::write(black_box(sheet), buffer));
             }
         };
-        let [proved, rust] = medians(runs, [&proved, &rust]);
-        let ratio = proved / rust;
+        let without_rules = || {
+            for sheet in &sheets {
+                let buffer = &mut without_rules.borrow_mut();
+                let _ = black_box(plain::write_without_rules(black_box(sheet), buffer));
+            }
+        };
+        let [proved, rust, without_rules] = times(runs, [&proved, &rust, &without_rules]);
         println!(
-            "| {label} | {bytes} | {length} | {} | {} | {ratio:.2} |",
-            time(proved),
-            time(rust)
+            "| {label} | {bytes} | {length} | {runs} | {proved} | {rust} | {:.2} | {without_rules} | {:.2} |",
+            proved.median / rust.median,
+            proved.median / without_rules.median,
         );
     }
     Ok(())
 }
 
+/// All three write one text; its length.
+fn same_text(sheet: &[u8]) -> Result<usize, String> {
+    let text = plain::text(sheet).map_err(|refusal| format!("refused, {refusal}"))?;
+    let mut written = vec![0; text.len()];
+    if bridgetext::write(sheet, &mut written) != Ok(text.len()) || written != text {
+        return Err("another text than the plain writer's".to_string());
+    }
+    written.fill(0);
+    if plain::write_without_rules(sheet, &mut written) != Ok(text.len()) || written != text {
+        return Err("another text without rules 9 to 12".to_string());
+    }
+    Ok(text.len())
+}
+
 /// The median time of each call, in nanoseconds, from runs that take turns.
 fn medians<const N: usize>(runs: usize, calls: [&dyn Fn(); N]) -> [f64; N] {
+    times(runs, calls).map(|times| times.median)
+}
+
+/// The time of a call in nanoseconds: median, 10th and 90th percentile.
+struct Times {
+    median: f64,
+    low: f64,
+    high: f64,
+}
+
+impl Display for Times {
+    fn fmt(&self, f: &mut fmt::Formatter) -> fmt::Result {
+        let [median, low, high] = [self.median, self.low, self.high].map(|time| time / 1_000.0);
+        write!(f, "{median:.2} µs ({low:.2} to {high:.2})")
+    }
+}
+
+/// The times of each call, from runs that take turns.
+fn times<const N: usize>(runs: usize, calls: [&dyn Fn(); N]) -> [Times; N] {
     let repeats = calls.map(|call| {
         let mut repeats = 1;
         while timed(call, repeats) < RUN {
@@ -243,12 +310,19 @@ fn medians<const N: usize>(runs: usize, calls: [&dyn Fn(); N]) -> [f64; N] {
             times[index].push(timed(*call, repeats[index]));
         }
     }
-    let mut index = 0;
-    times.map(|mut times| {
+    let mut repeats = repeats.into_iter();
+    times.map(|mut times: Vec<Duration>| {
         times.sort();
-        let median = times[times.len() / 2].as_nanos() as f64 / f64::from(repeats[index]);
-        index += 1;
-        median
+        let repeats = f64::from(repeats.next().unwrap());
+        let percentile = |percent: usize| {
+            let place = (times.len() - 1) * percent / 100;
+            times[place].as_nanos() as f64 / repeats
+        };
+        Times {
+            median: percentile(50),
+            low: percentile(10),
+            high: percentile(90),
+        }
     })
 }
 
