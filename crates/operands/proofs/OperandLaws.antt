@@ -13,7 +13,7 @@ use Rattle.format.specs.Decode.{pick}
 use Rattle.format.specs.Types.{Ty, str}
 use Rattle.format.specs.Sheet.{Argument, Function, Item}
 use Rattle.format.specs.Decoding.{formOf}
-use Rattle.syntax.specs.Types.{needsIndirectAbi, isRustString}
+use Rattle.syntax.specs.Types.{needsIndirectAbi}
 use Rattle.rules.specs.Rules.{isMethod}
 use Rattle.bridge.specs.WriteType.{writeType}
 use Rattle.bridge.specs.Write.{commas, shape, indirectReturn, isHeld, heldLocal, slot, operandEnd, operand, operands}

@@ -3,12 +3,10 @@ use mathlib.Core.Path.{_≡_, sym, ap, _∙_}
 use mathlib.Core.List.{List, []}
 use Prim.Native.Nat.{ℕ, zero, suc, _+_, _*_, _<_, _≤_}
 use native.Mathlib.Omega.{arith}
-use lib.ListN.{length, take}
+use lib.ListN.{length}
 use lib.Seq.{take-all}
 use Rattle.lexical.specs.Names.{isName}
 use Rattle.refusal.specs.declared.Refusal.the-variants.{BadName}
-use Rattle.sink.specs.Sink.{Wrote}
-use Rattle.sink.proofs.SinkLaws.{wrote-nil, wrote-as}
 use Rattle.format.specs.Decode.{Got, got, many}
 use Rattle.format.specs.Bits.{bits}
 use Rattle.format.specs.Decoding.{name}
@@ -20,7 +18,7 @@ use Rattle.cursor.proofs.YieldLaws.{in-turn, passed, got-value, yields, field-e
 use Rattle.text.specs.Text.{Holds, charsAt as textAt}
 use Rattle.text.proofs.CharLaws.{chars-whole, chars-length}
 use Rattle.put_name.specs.Chars.{charsAt}
-use Rattle.put_name.proofs.RowLaws.{row, row-end}
+use Rattle.put_name.proofs.RowLaws.{row}
 
 -- ---- a field that is there
 

@@ -7,7 +7,7 @@ use native.Mathlib.Omega.{arith}
 use lib.ListN.{length, length-append, length-set, length-replicate}
 use borrow.Author.Tests.{leb-true, le-leb}
 use Rattle.lexical.specs.Decimal.{pickText}
-use Rattle.sink.specs.Sink.{Sink, sink, limit, step, emit, hasRoom, seen, Wrote}
+use Rattle.sink.specs.Sink.{Sink, limit, step, emit, hasRoom, seen, Wrote}
 
 emit-append : (s : Sink) (a b : List ℕ) → emit (emit s a) b ≡ emit s (a ++ b)
 unfolding emit

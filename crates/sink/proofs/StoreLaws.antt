@@ -10,7 +10,7 @@ use native.Mathlib.Numerals.{add-one}
 use lib.Dec.{leb}
 use borrow.Rule.Slice.PartMut.{putMid}
 use borrow.Author.Tests.{leb-true, leb-false, le-leb, lt-leb}
-use lib.ListN.{length, getD, set, take, drop, replicate, length-set, take-append-drop, length-replicate, getD-replicate}
+use lib.ListN.{length, getD, set, take, replicate, length-set, length-replicate, getD-replicate}
 use lib.Seq.{sets, set-out, take-suc, take-all, length-sets, length-take-le, sets-eq, drop-drop}
 use Rattle.sink.specs.Sink.{Sink, sink, limit, step, emit, hasRoom, seen, Wrote}
 use Rattle.sink.specs.Copying.{Fits}

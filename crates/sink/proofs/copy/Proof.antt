@@ -1,8 +1,7 @@
--- Written by tools/proofkit from answers/copy.tpl (e81977cc 1f1eb17d).
+-- Written by tools/proofkit from answers/copy.tpl (e1431869 8955d25c).
 use borrow.Author.Needs.{needs}
 use native.Mathlib.Omega.{arith}
 use Prim.Native.Nat.{_+_, _≤_, _-_}
-use lib.ListN.{length}
 use Rattle.sink.specs.Copying.{Copied}
 use Rattle.sink.proofs.CopyLaws.{copied-none, copied-less, copied-all}
 use Rattle.sink.proofs.copy.Statement.{statement}

@@ -1,9 +1,8 @@
--- Written by tools/proofkit from answers/copy_few.tpl (a30ad55c 3c1a2d68).
+-- Written by tools/proofkit from answers/copy_few.tpl (f788f22c 7d839d38).
 use borrow.Author.Needs.{needs}
 use native.Mathlib.Omega.{arith}
 use mathlib.Core.Path.{refl}
 use Prim.Native.Nat.{_≤_, _-_}
-use lib.ListN.{length}
 use Rattle.sink.specs.Copying.{Copied}
 use Rattle.sink.proofs.CopyLaws.{copied-none, copied-next, copied-all}
 use Rattle.sink.proofs.copy_few.Statement.{statement}

@@ -1,8 +1,7 @@
--- Written by tools/proofkit from answers/put_bytes.tpl (2550cff4 b490d3c4).
+-- Written by tools/proofkit from answers/put_bytes.tpl (ad1a504d 8b2591ba).
 use borrow.Author.Needs.{needs}
 use mathlib.Core.Path.{refl}
 use native.Mathlib.Omega.{arith}
-use lib.ListN.{length}
 use Rattle.sink.proofs.StoreLaws.{room, no-room, wrote-copied, wrote-none}
 use Rattle.sink.proofs.put_bytes.Statement.{statement}
 use Rattle.sink.proofs.put_bytes.Tie as tie

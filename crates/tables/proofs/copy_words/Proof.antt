@@ -1,9 +1,8 @@
--- Written by tools/proofkit from answers/copy_words.tpl (9784dc0e 088b356b).
+-- Written by tools/proofkit from answers/copy_words.tpl (d5cb0da8 30bf098a).
 use borrow.Author.Needs.{needs}
 use native.Mathlib.Omega.{arith}
 use mathlib.Core.Path.{refl}
 use Prim.Native.Nat.{_≤_, _-_}
-use lib.ListN.{length}
 use Rattle.sink.specs.Copying.{Copied}
 use Rattle.sink.proofs.CopyLaws.{copied-none, copied-next, copied-all}
 use Rattle.tables.proofs.copy_words.Statement.{statement}

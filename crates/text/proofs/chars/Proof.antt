@@ -1,7 +1,7 @@
--- Written by tools/proofkit from answers/chars.tpl (0ae5bf54 bf4d25fb).
+-- Written by tools/proofkit from answers/chars.tpl (12cd8584 2fd42e8c).
 use borrow.Author.Needs.{needs}
 use native.Mathlib.Omega.{arith}
-use mathlib.Core.Path.{_≡_, refl}
+use mathlib.Core.Path.{refl}
 use Rattle.text.proofs.CharLaws.{fills-whole, fills-cut}
 use Rattle.text.proofs.chars.Statement.{statement}
 use Rattle.text.proofs.chars.Tie as tie

@@ -1,10 +1,9 @@
--- Written by tools/proofkit from answers/declare_all.tpl (7688214b 704c69d4).
+-- Written by tools/proofkit from answers/declare_all.tpl (47eed578 42de4ca6).
 use borrow.Author.Needs.{needs}
 use native.Mathlib.Omega.{arith}
 use mathlib.Core.Path.{_≡_, refl}
 use Prim.Native.Nat.{_-_}
 use lib.ListN.{length}
-use Rattle.sections.specs.Runs.{sheetOf}
 use Rattle.sections.proofs.StateLaws.{representing-after}
 use Rattle.write.specs.Passes.{declareItem}
 use Rattle.write.proofs.PassLaws.{Passed, pass-none, pass-next, pass-all}

@@ -1,6 +1,5 @@
--- Written by tools/proofkit from answers/write_body.tpl (27af2ba8 91ff015e).
+-- Written by tools/proofkit from answers/write_body.tpl (c7b9d258 cc5614a6).
 use borrow.Author.Needs.{needs}
-use native.Mathlib.Omega.{arith}
 use Rattle.sections.proofs.StateLaws.{representing-after, representing-stood, stood-standing}
 use Rattle.write.proofs.PassLaws.{ends-flushed}
 use Rattle.write.proofs.write_body.Statement.{statement}

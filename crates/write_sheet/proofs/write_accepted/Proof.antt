@@ -1,6 +1,5 @@
--- Written by tools/proofkit from answers/write_accepted.tpl (d4a2ee80 77e4dd4b).
+-- Written by tools/proofkit from answers/write_accepted.tpl (89e06232 a9ac13db).
 use borrow.Author.Needs.{needs}
-use mathlib.Core.Path.{_∙_}
 use Rattle.tables.proofs.TableLaws.{tabled}
 use Rattle.write_sheet.proofs.DeliverLaws.{digested, delivered-by}
 use Rattle.write_sheet.proofs.write_accepted.Statement.{statement}

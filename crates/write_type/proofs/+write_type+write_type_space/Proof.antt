@@ -1,4 +1,4 @@
--- Written by tools/proofkit from answers/+write_type+write_type_space.tpl (7d257259 d6112346).
+-- Written by tools/proofkit from answers/+write_type+write_type_space.tpl (4f388572 6e2ddf1d).
 use borrow.Author.Needs.{needs}
 use Prim.Native.Nat.{ℕ, _+_, _-_, _*_, _<_}
 use native.Mathlib.Omega.{arith}
@@ -10,7 +10,6 @@ use Rattle.sink.proofs.SinkLaws.{wrote-length}
 use Rattle.format.specs.Types.{none}
 use Rattle.format.specs.Decoding.{optional, typeAt}
 use Rattle.bridge.specs.WriteType.{writeRet}
-use Rattle.view.specs.Values.{itemsAt}
 use Rattle.write_type.proofs.Spelling.{Spells}
 use Rattle.write_type.proofs.SpellLaws.{level-left, kind-is, body-there, as-type, not-bad, as-space}
 use Rattle.write_type.proofs.SpellLaws.{spells-atom, item-there, spells-named, spells-str}
