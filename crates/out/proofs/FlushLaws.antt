@@ -75,18 +75,17 @@ module _ (s names : List ℕ) where
   }
 
   pub turned-one : {out₀ : List ℕ} {c : Content} {out after : List ℕ} {at next : ℕ} {section : Bool} (i : ℕ) → i < c .count →
-      Turned out₀ c out at section i →
-      Wrote (sink out at) (boundaryText section (boundaryOf s names (boundaryAt (c .pending) i))) (sink after next) →
-      {ended : Bool} → ended ≡ isEnd (boundaryAt (c .pending) i) → Turned out₀ c after next ended (i + 1)
+      Turned out₀ c out at section i → {b : Boundary} → b ≡ boundaryAt (c .pending) i →
+      Wrote (sink out at) (boundaryText section (boundaryOf s names b)) (sink after next) →
+      {ended : Bool} → ended ≡ isEnd b → Turned out₀ c after next ended (i + 1)
   unfolding latest flushAll
-  turned-one {c = c} {section = section} i l g w e = record {
+  turned-one {c = c} {section = section} i l g {b} is w e = record {
     few = omega arith;
     long = wrote-length w ∙ g .long;
     each = λ m p.
-        let b = boundaryAt (c .pending) i in
         let n = flushAll (latest s names (c .pending) i) m in
         let r = g .each m p in
-        rw (add-one i) (record {
+        rw (add-one i, ← is) (record {
           wrote = wrote-as (r .wrote ▷ w) (rw (r .section) (sym (turn-text (boundaryOf s names b) n)));
           section = e ∙ sym (turn-section s names b n);
         });

@@ -1,4 +1,5 @@
 pub mod BlockLaws
+pub mod EntryLaws
 pub mod PendingLaws
 pub mod StateLaws
 pub mod FlushLaws

@@ -15,8 +15,10 @@ use Rattle.bridge.specs.Out.{push, cancels}
 use Rattle.out.specs.declared.Boundary.{Boundary}
 use Rattle.out.specs.declared.Pending.{Pending}
 use Rattle.out.specs.declared.Content.{Content}
-use Rattle.out.specs.State.{boundaryOf, Known, boundaryAt, latest, pendingOf, maxPending, Listed}
+use Rattle.out.specs.State.{boundaryOf, Known, packed, unpacked, boundaryAt, latest}
+use Rattle.out.specs.State.{pendingOf, maxPending, Listed}
 use Rattle.out.specs.Steps.{appendedTo, Pushes}
+use Rattle.out.proofs.EntryLaws.{unpacked-packed}
 
 -- c with one boundary fewer
 abbrev pub fewer : Content → Content
@@ -31,16 +33,16 @@ fewer c = record {
 
 -- ---- one boundary more
 
-at-end : (l : List Pending) (n : ℕ) (b : Boundary) → n < length l → boundaryAt (set l n (record { boundary = b })) n ≡ b
-at-end l n b h = ap (λ (p : Pending). p .boundary) (getD-set-same l n _ _ h)
+at-end : (l : List Pending) (n : ℕ) (b : Boundary) → n < length l → boundaryAt (set l n (packed b)) n ≡ b
+at-end l n b h = ap unpacked (getD-set-same l n _ _ h) ∙ unpacked-packed b
 
 at-others : (l : List Pending) (n : ℕ) (b : Boundary) (i : ℕ) → i < n →
-    boundaryAt (set l n (record { boundary = b })) i ≡ boundaryAt l i
-at-others l n b i h = ap (λ (p : Pending). p .boundary) (getD-set-other l n i _ _ (λ e. omega arith))
+    boundaryAt (set l n (packed b)) i ≡ boundaryAt l i
+at-others l n b i h = ap unpacked (getD-set-other l n i _ _ (λ e. omega arith))
 
 module _ (s names : List ℕ) where
   latest-set : (l : List Pending) (m : ℕ) (b : Boundary) (n : ℕ) → n ≤ m →
-      latest s names (set l m (record { boundary = b })) n ≡ latest s names l n
+      latest s names (set l m (packed b)) n ≡ latest s names l n
   unfolding latest
   latest-set l m b zero h = refl
   latest-set l m b (suc n) h =
@@ -48,10 +50,10 @@ module _ (s names : List ℕ) where
       (ap (boundaryOf s names) (at-others l m b n (omega arith))) (latest-set l m b n (omega arith))
 
   latest-more : (l : List Pending) (n : ℕ) (b : Boundary) → n < length l →
-      latest s names (set l n (record { boundary = b })) (n + 1) ≡ boundaryOf s names b ∷ latest s names l n
+      latest s names (set l n (packed b)) (n + 1) ≡ boundaryOf s names b ∷ latest s names l n
   unfolding latest
   latest-more l n b h =
-      ap (latest s names (set l n (record { boundary = b }))) (add-one n)
+      ap (latest s names (set l n (packed b))) (add-one n)
       ∙ ap₂ (λ (x : machine.Boundary) (y : List machine.Boundary). x ∷ y)
       (ap (boundaryOf s names) (at-end l n b h)) (latest-set l n b n (omega arith))
 
@@ -89,7 +91,7 @@ module _ (s names : List ℕ) where
 
   module _ (c : Content) (b : Boundary) (listed : Listed names c) (known : Known names b) where
     known-more : (i : ℕ) → i < c .count + 1 → c .count < maxPending →
-        Known names (boundaryAt (set (c .pending) (c .count) (record { boundary = b })) i)
+        Known names (boundaryAt (set (c .pending) (c .count) (packed b)) i)
     known-more i l h =
         by-cases (ltb i (c .count))
         (λ e. let k = ltb-true i (c .count) e in
@@ -115,23 +117,25 @@ module _ (s names : List ℕ) where
     pub pushes-first : c .count ≡ 0 → {r : Content} → r ≡ appendedTo c b → Pushes s names c b r
     pushes-first z e = rw e (pushed-more (push-first b (c .pending) (c .count) z) (omega arith))
 
-    module _ (n : c .count ≡ 0 → ⊥) where
-      module _ (e : cancels (boundaryOf s names b) (boundaryOf s names (boundaryAt (c .pending) (c .count - 1))) ≡ false) where
+    module _ (n : c .count ≡ 0 → ⊥) {last : Boundary} (is : last ≡ boundaryAt (c .pending) (c .count - 1)) where
+      module _ (e : cancels (boundaryOf s names b) (boundaryOf s names last) ≡ false) where
+        pushed-other : push (boundaryOf s names b) (pendingOf s names c) ≡ boundaryOf s names b ∷ pendingOf s names c
+        pushed-other = push-other b (c .pending) (c .count) n (rw is at e)
+
         -- there is room where there is room behind the push
         pub room-other : length (push (boundaryOf s names b) (pendingOf s names c)) ≤ maxPending → c .count < maxPending
         room-other h =
             omega (
               arith,
-              ap (λ (l : List machine.Boundary). length l) (push-other b (c .pending) (c .count) n e),
+              ap (λ (l : List machine.Boundary). length l) pushed-other,
               latest-length (c .pending) (c .count),
             )
 
         pub pushes-other : length (push (boundaryOf s names b) (pendingOf s names c)) ≤ maxPending →
             {r : Content} → r ≡ appendedTo c b → Pushes s names c b r
-        pushes-other h f = rw f (pushed-more (push-other b (c .pending) (c .count) n e) (room-other h))
+        pushes-other h f = rw f (pushed-more pushed-other (room-other h))
 
-      pub pushes-reverse :
-          cancels (boundaryOf s names b) (boundaryOf s names (boundaryAt (c .pending) (c .count - 1))) ≡ true →
+      pub pushes-reverse : cancels (boundaryOf s names b) (boundaryOf s names last) ≡ true →
           Pushes s names c b (fewer c)
       pushes-reverse e = record {
         at = refl;
@@ -139,5 +143,5 @@ module _ (s names : List ℕ) where
         depth = refl;
         section = refl;
         listed = record { room = listed .room; few = omega (arith, listed .few); known = λ i l. listed .known i (omega arith) };
-        pending = sym (push-reverse b (c .pending) (c .count) n e);
+        pending = sym (push-reverse b (c .pending) (c .count) n (rw is at e));
       }

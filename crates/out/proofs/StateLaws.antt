@@ -31,7 +31,7 @@ use Rattle.out.specs.declared.Block.the-variants.{UserDefinedNamespace, 
 use Rattle.out.specs.declared.Boundary.{Boundary}
 use Rattle.out.specs.declared.Boundary.the-variants.{Begin, End}
 use Rattle.out.specs.declared.Content.{Content}
-use Rattle.out.specs.State.{boundaryOf, latest, pendingOf, Listed, namespaceAt, Spaces, Stands, Standing}
+use Rattle.out.specs.State.{boundaryOf, packed, latest, pendingOf, Listed, namespaceAt, Spaces, Stands, Standing}
 use Rattle.out.specs.State.{maxPending, inside}
 use Rattle.out.specs.Steps.{Starts, asking, behind, Pushes, Turns, Sets, Indexes}
 
@@ -56,7 +56,7 @@ pub starts : Starts (record {
   at = 0;
   spaces = record { at = 0 };
   depth = 0;
-  pending = replicate maxPending (record { boundary = Begin ExternC });
+  pending = replicate maxPending (packed (Begin ExternC));
   count = 0;
   «section_pending» = false;
 })

@@ -2,9 +2,9 @@
 use mathlib.Core.Path.{_≡_}
 use mathlib.Core.List.{List, [], _∷_, _++_}
 use mathlib.Core.Bool.{Bool}
-use Prim.Native.Nat.{ℕ, zero, suc, _+_, _<_, _≤_}
+use Prim.Native.Nat.{ℕ, zero, suc, _+_, _*_, _/_, _%_, _<_, _≤_}
 use lib.ListN.{length, getD}
-use Rattle.format.specs.Limits.{mostBits, mostNamespaces}
+use Rattle.format.specs.Limits.{mostNames, mostBits, mostNamespaces}
 use Rattle.format.specs.Decode.{many}
 use Rattle.format.specs.Sheet.{Name}
 use Rattle.format.specs.Decoding.{nameOf}
@@ -41,8 +41,42 @@ abbrev pub Known : List ℕ → Boundary → Type 0
 Known names (Begin b) = KnownBlock names b
 Known names (End b) = KnownBlock names b
 
+-- ---- entries: a boundary as one number
+
+-- its index is that of one of the most names that a sheet may have
+abbrev pub SmallBlock : Block → Type 0
+SmallBlock (UserDefinedNamespace i) = i < mostNames
+SmallBlock ExternC = Unit
+
+abbrev pub Small : Boundary → Type 0
+Small (Begin b) = SmallBlock b
+Small (End b) = SmallBlock b
+
+-- the number of extern "C" is 0, and that of a namespace is the index of its name and one
+abbrev pub packedBlock : Block → ℕ
+packedBlock (UserDefinedNamespace i) = i + 1
+packedBlock ExternC = 0
+
+abbrev pub unpackedBlock : ℕ → Block
+unpackedBlock zero = ExternC
+unpackedBlock (suc i) = UserDefinedNamespace i
+
+-- twice the block's number, and one more for an end
+unfoldable pub packed : Boundary → Pending
+packed (Begin b) = record { code = packedBlock b * 2 }
+packed (End b) = record { code = packedBlock b * 2 + 1 }
+
+abbrev pub sideOf : ℕ → Block → Boundary
+sideOf zero b = Begin b
+sideOf (suc n) b = End b
+
+unfoldable pub unpacked : Pending → Boundary
+unpacked p = sideOf (p .code % 2) (unpackedBlock (p .code / 2))
+
+-- ---- the boundaries that are pending
+
 abbrev pub boundaryAt : List Pending → ℕ → Boundary
-boundaryAt pending i = getD pending i (record { boundary = Begin (UserDefinedNamespace 0) }) .boundary
+boundaryAt pending i = unpacked (getD pending i (record { code = 0 }))
 
 -- the first n, the last one first
 unfoldable pub latest : List ℕ → List ℕ → List Pending → ℕ → List machine.Boundary

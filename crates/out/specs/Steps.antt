@@ -18,7 +18,7 @@ use Rattle.out.specs.declared.Boundary.{Boundary}
 use Rattle.out.specs.declared.Boundary.the-variants.{Begin, End}
 use Rattle.out.specs.declared.Content.{Content}
 use Rattle.out.specs.declared.Flushed.{Flushed}
-use Rattle.out.specs.State.{boundaryOf, pendingOf, Listed, Spaces, Stands}
+use Rattle.out.specs.State.{boundaryOf, packed, pendingOf, Listed, Spaces, Stands}
 
 -- ---- new, next_section, and text behind the text
 
@@ -55,7 +55,7 @@ appendedTo c b = record {
   at = c .at;
   spaces = c .spaces;
   depth = c .depth;
-  pending = set (c .pending) (c .count) (record { boundary = b });
+  pending = set (c .pending) (c .count) (packed b);
   count = c .count + 1;
   «section_pending» = c .«section_pending»;
 }

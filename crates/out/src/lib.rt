@@ -24,6 +24,7 @@ ghost use Rattle.bridge.specs.Block as block;
 ghost use Rattle.bridge.specs.Out as machine;
 ghost use Rattle.pieces.specs.Between.{named};
 ghost use Rattle.out.specs.State.{blockOf, boundaryOf, KnownBlock, Known, pendingOf, Listed, namespaceAt, Spaces};
+ghost use Rattle.out.specs.State.{SmallBlock, Small, packedBlock, packed, unpackedBlock, unpacked};
 ghost use Rattle.out.specs.State.{maxPending, Standing, inside};
 ghost use Rattle.out.specs.Steps.{Starts, asking, behind, appendedTo, Pushes, Turns, Sets, Indexes, boundaryText};
 ghost use Rattle.out.specs.Steps.{isEnd, Flushing, Prepares, Flushes};
@@ -96,9 +97,55 @@ pub enum Boundary {
     End(Block),
 }
 
-// An entry of the pending boundaries.
+// An entry of the pending boundaries, as one number: twice its block's number, and one more for an end. The number of
+// extern "C" is 0, and that of a namespace is the index of its name and one.
 pub struct Pending {
-    pub boundary: Boundary,
+    pub code: u16,
+}
+
+fn pack_block(b: Block) -> u16
+    requires { ⌜ SmallBlock b ⌝ }
+    ensures { λ r. ⌜ r ≡ packedBlock b ⌝ }
+{
+    match b {
+        Block::UserDefinedNamespace(i) => (i + 1) as u16,
+        Block::ExternC => 0,
+    }
+}
+
+fn pack(boundary: Boundary) -> Pending
+    requires { ⌜ Small boundary ⌝ }
+    ensures { λ r. ⌜ r ≡ packed boundary ⌝ }
+{
+    match boundary {
+        Boundary::Begin(block) => {
+            let code = pack_block(block) * 2;
+            Pending { code }
+        }
+        Boundary::End(block) => {
+            let code = pack_block(block) * 2 + 1;
+            Pending { code }
+        }
+    }
+}
+
+fn unpack_block(n: u16) -> Block
+    ensures { λ r. ⌜ r ≡ unpackedBlock n ⌝ }
+{
+    if n == 0 {
+        return Block::ExternC;
+    }
+    Block::UserDefinedNamespace((n - 1) as u32)
+}
+
+fn unpack(p: Pending) -> Boundary
+    ensures { λ r. ⌜ r ≡ unpacked p ⌝ }
+{
+    let block = unpack_block(p.code / 2);
+    if p.code % 2 == 0 {
+        return Boundary::Begin(block);
+    }
+    Boundary::End(block)
 }
 
 // The place behind the text; where the indexes of the names of the namespace that is set stand, and how many there
@@ -120,7 +167,7 @@ impl Content {
         ensures { λ r. ⌜ Starts r ⌝ }
     {
         let boundary = Boundary::Begin(Block::ExternC);
-        let none = Pending { boundary };
+        let none = pack(boundary);
         let spaces = Cursor::new(0);
         let pending = [none; Content::PENDING];
         Content {
@@ -170,10 +217,10 @@ fn cancels(s: &[u8], names: &[u32], digests: &[u32], boundary: Boundary, last: B
 
 // One boundary more.
 fn appended(mut c: Content, boundary: Boundary) -> Content
-    requires { ⌜ c .count < maxPending ⌝ }
+    requires { ⌜ (c .count < maxPending) × Small boundary ⌝ }
     ensures { λ r. ⌜ r ≡ appendedTo c boundary ⌝ }
 {
-    let p = Pending { boundary };
+    let p = pack(boundary);
     let n = c.count;
     c.pending[n] = p;
     c.count = n + 1;
@@ -199,7 +246,7 @@ fn push_block_boundary(
     }
     let i = n - 1;
     let p = c.pending[i];
-    let last = p.boundary;
+    let last = unpack(p);
     let reverse = cancels(s, names, digests, boundary, last);
     if reverse {
         c.count = i;
@@ -373,7 +420,7 @@ fn flush_all(s: &[u8], names: &[u32], c: Content, out: &mut [u8]) -> Flushed
     let mut i: usize = 0;
     while i < c.count {
         let p = c.pending[i];
-        let boundary = p.boundary;
+        let boundary = unpack(p);
         at = flush_boundary(s, names, boundary, section, out, at);
         section = is_end(boundary);
         i = i + 1;

@@ -1,4 +1,4 @@
--- Written by tools/proofkit from answers/flush_all.tpl (a6361281 1dddfc3d).
+-- Written by tools/proofkit from answers/flush_all.tpl (a5efd068 3f36f6a7).
 use borrow.Author.Needs.{needs}
 use native.Mathlib.Omega.{arith}
 use Prim.Native.Nat.{_-_}
@@ -22,16 +22,16 @@ element-copy-out-p : tie.Need-element-copy-out-p Inv-loop μ-loop
 element-copy-out-p c = omega (arith, c .before .before .before .before .before .pre .1 .few)
 
 flush-boundary-requires : tie.Need-flush-boundary-requires Inv-loop μ-loop
-flush-boundary-requires c κs = (c .before .before .before .before .before .before .before .pre .0, c .before .before .before .before .before .before .before .pre .1 .known _ (omega arith))
+flush-boundary-requires c κs = (c .before .before .before .before .before .before .before .before .pre .0, rw (c .before .unpack .ensures) (c .before .before .before .before .before .before .before .before .pre .1 .known _ (omega arith)))
 
 add-i : tie.Need-add-i Inv-loop μ-loop
-add-i c = omega (arith, c .before .before .before .before .before .before .before .before .before .before .before .pre .1 .few)
+add-i c = omega (arith, c .before .before .before .before .before .before .before .before .before .before .before .before .pre .1 .few)
 
 loop-less : tie.Need-loop-less Inv-loop μ-loop
 loop-less c = omega arith
 
 loop-again : tie.Need-loop-again Inv-loop μ-loop
-loop-again c = turned-one _ _ _ (c .before .before .before .before .before .before .loop-test .taken) (c .before .before .before .before .before .before .before .loop .inv) (c .before .before .before .flush-boundary .ensures) (c .is-end .ensures)
+loop-again c = turned-one _ _ _ (c .before .before .before .before .before .before .before .loop-test .taken) (c .before .before .before .before .before .before .before .before .loop .inv) (c .before .before .before .before .before .unpack .ensures) (c .before .before .before .flush-boundary .ensures) (c .is-end .ensures)
 
 same-length : tie.Need-same-length Inv-loop μ-loop
 same-length c = c .before .loop .inv .long
@@ -48,6 +48,7 @@ flush-all-spec =
     loop-holds
     mul-p
     element-copy-out-p
+    (λ c κs. search needs)
     flush-boundary-requires
     (λ c κs. search needs)
     add-i
