@@ -12,6 +12,8 @@ use sections::write_rust_function_decl;
 use sections::write_rust_function_shim;
 use tables::Pool;
 use tables::Table;
+use tables::fill_pool;
+use tables::fill_table;
 use tables::item;
 use view::FunctionView;
 ghost use mathlib.Core.Path.{_≡_};
@@ -22,6 +24,7 @@ ghost use Rattle.format.specs.Limits.{mostArguments};
 ghost use Rattle.syntax.specs.Items.{itemAt};
 ghost use Rattle.bridge.specs.Write.{forEach, writeFunctions, text};
 ghost use Rattle.names.specs.Digests.{digestsAt};
+ghost use Rattle.view.specs.Values.{itemsAt, Ready};
 ghost use Rattle.sections.specs.Runs.{Representing, Runs, sheetOf};
 ghost use Rattle.write.specs.Passes.{declareItem, defineItem, Begins, Ends};
 ghost use Rattle.tables.specs.Tables.{namesIn, itemsIn, itemsOf, Item, Lent};
@@ -219,8 +222,8 @@ fn write_body(
     flush(s, t, digests, written, out)
 }
 
-// The text, from the buffer's first byte on; the answer is the place behind it.
-pub fn write_text(
+// The text by its table and pool.
+fn write_tabled(
     s: &[u8],
     t: &[u32; Table::PLACES],
     pool: &[u8; Pool::BYTES],
@@ -237,4 +240,27 @@ pub fn write_text(
     let at = write_forward_declarations(s, t, pool, digests, out, 0);
     let c = behind_forward(at);
     write_body(s, t, pool, digests, header, doxygen, c, out)
+}
+
+// The text, from the buffer's first byte on; the answer is the place behind it. The pool's bytes are lent; the table
+// is made here, so that it takes no stack before a sheet is accepted.
+pub fn write_text(
+    s: &[u8],
+    names: &[u32],
+    items: &[u32],
+    digests: &[u32],
+    header: bool,
+    doxygen: bool,
+    pool: &mut [u8; Pool::BYTES],
+    out: &mut [u8],
+) -> usize
+    requires { ⌜ Ready (now s) (now names) (now items) (now digests) ⌝ }
+    ensures { λ r. ⌜ Wrote (sink (now (out .entry)) 0)
+        (text (sheetOf header doxygen (itemsAt (now (s .entry)) (now (names .entry)) (now (items .entry)))))
+        (sink (now (out .exit)) r) ⌝ }
+{
+    let mut t = [0u32; Table::PLACES];
+    fill_table(names, items, &mut t);
+    fill_pool(s, &t, pool);
+    write_tabled(s, &t, pool, digests, header, doxygen, out)
 }

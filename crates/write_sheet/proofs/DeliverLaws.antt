@@ -1,12 +1,13 @@
--- From a measuring and a writing pass, and from the rules, to the promise of the service.
-use mathlib.Core.Path.{_≡_, refl, sym, _∙_}
+-- From the passes over a sheet, and from the rules, to the promise of the service.
+use mathlib.Core.Path.{_≡_, refl, sym, ap, _∙_}
 use mathlib.Core.List.{List, [], _++_, append-nil}
 use mathlib.Core.Bool.{Bool, true, false}
-use Prim.Native.Nat.{ℕ, _≤_, _<_, _^_}
+use Prim.Native.Nat.{ℕ, _≤_, _<_, _^_, min}
 use native.Mathlib.Omega.{arith}
 use native.Mathlib.Nat.{le-trans}
 use lib.ListN.{length, take, drop, replicate, drop-of-length-le}
-use lib.Seq.{length-take-le}
+use lib.Dec.{leb}
+use lib.Seq.{length-take-le, take-at}
 use borrow.Author.Tests.{le-leb, lt-leb}
 use Rattle.refusal.specs.declared.Refusal.{Refusal}
 use Rattle.refusal.specs.declared.Refusal.the-variants.{Overrun, WrongPart, Taken, UnfitArgument, Ring}
@@ -16,9 +17,7 @@ use Rattle.format.specs.Decoding.{decode}
 use Rattle.format.specs.declared.Outline.{Outline}
 use Rattle.marks.specs.Marking.{places}
 use Rattle.decode.specs.Tables.{Tables}
-use Rattle.view.specs.Values.{itemsAt, Ready}
-use Rattle.names.specs.Digests.{digestsAt}
-use Rattle.tables.specs.Tables.{namesIn, itemsOf, Listed}
+use Rattle.view.specs.Values.{itemsAt}
 use Rattle.view.proofs.WholeLaws.{items-are}
 use Rattle.rules.specs.declared.Checked.{Checked}
 use Rattle.rules.specs.declared.Checked.the-variants.{Accepted, Refused}
@@ -28,46 +27,52 @@ use Rattle.bridge.specs.Write.{text}
 use Rattle.services.specs.declared.Written.{Written}
 use Rattle.services.specs.declared.Written.the-variants as Written
 use Rattle.services.specs.Services.{Writes}
-use Rattle.sink.specs.Sink.{sink, Wrote}
-use Rattle.sink.proofs.ServiceLaws.{measured-nil, delivered, too-long}
+use Rattle.sink.specs.Sink.{sink, limit, Wrote}
+use Rattle.sink.proofs.SinkLaws.{wrote-place}
+use Rattle.sink.proofs.ServiceLaws.{written}
 use Rattle.check_sheet.specs.Ruled.{ruledParts, elseChecked, ruledItems}
 use Rattle.sections.specs.Runs.{sheetOf}
 use Rattle.write_sheet.specs.Delivers.{Delivers, JudgedBy, Judges}
 
--- ---- the two passes; m is what the measuring pass left of the buffer's empty front
+-- ---- the first pass, on bytes of its own
 
-module _ {bytes m : List ℕ} {length₁ : ℕ} (l : List ℕ) (p : Wrote (sink [] 0) bytes (sink m length₁)) where
-  pub deliver-long : length (m ++ l) < length₁ → Delivers bytes l (Written.Refused Overrun) (m ++ l)
+module _ {bytes short after : List ℕ} {n : ℕ} (buffer : List ℕ) (p : Wrote (sink short 0) bytes (sink after n)) where
+  counted : n ≡ min limit (length bytes)
+  counted = wrote-place p (omega arith) ∙ omega arith
+
+  pub deliver-long : length buffer < n → Delivers bytes buffer (Written.Refused Overrun) buffer
   deliver-long h =
-      let d = too-long l p h in
-      let t = lt-leb (length bytes) (length l) (d .longer) in
-      record { answers = rw t; leaves = rw t (d .kept) }
+      let t = lt-leb (length bytes) (length buffer) (omega (arith, counted)) in
+      record { answers = rw t; leaves = rw t }
 
-  -- e is what the writing pass left of as many bytes
-  pub deliver-fits : {e : List ℕ} {at : ℕ} → length₁ ≤ length (m ++ l) → length l < 2 ^ 63 →
-      Wrote (sink (take length₁ (m ++ l)) 0) bytes (sink e at) →
-      Delivers bytes l (Written.Length length₁) (e ++ drop length₁ (m ++ l))
-  deliver-fits {e} h small q =
-      let z : m ≡ [] = measured-nil p in
-      let k : length₁ ≤ length l = rw z at h in
-      let part = take length₁ l in
-      let n : length part ≡ length₁ = length-take-le length₁ l k in
-      let front : take length₁ (m ++ l) ≡ m ++ part = rw z in
-      let d = delivered part p (rw (z, n) (omega arith)) (omega (arith, n)) (rw front at q) in
-      let t = le-leb (length bytes) (length l) (omega (arith, d .counted)) in
-      let none : drop (length bytes) part ≡ [] = drop-of-length-le part {i = length bytes} (omega (arith, n, d .counted)) in
-      record { answers = rw (t, d .counted); leaves = rw (t, z, d .bytes, none, d .counted, append-nil bytes) }
+  module _ (h : n ≤ length buffer) (small : length buffer < 2 ^ 63) where
+    exact : n ≡ length bytes
+    exact = omega (arith, counted)
 
--- ---- the table
+    fits : leb (length bytes) (length buffer) ≡ true
+    fits = le-leb (length bytes) (length buffer) (omega (arith, exact))
 
-pub digested : {s names items digests t : List ℕ} → Ready s names items digests → Listed names items t →
-    digests ≡ digestsAt s (namesIn t)
-digested r l = rw (l .namesAre) (r .digested)
+    -- a short text is copied
+    pub deliver-short : {e : List ℕ} {at : ℕ} → n ≤ length short → length short < 2 ^ 63 →
+        Wrote (sink buffer 0) (take n after) (sink e at) → Delivers bytes buffer (Written.Length n) e
+    deliver-short {e} k near q =
+        let whole : after ≡ bytes ++ drop (length bytes) short = written short p (omega (arith, exact)) near in
+        let front : take n after ≡ bytes =
+        ap (take n) whole ∙ take-at bytes (drop (length bytes) short) n (sym exact) in
+        let stored : e ≡ bytes ++ drop (length bytes) buffer =
+        written buffer (rw front at q) (omega (arith, exact)) small in
+        record { answers = rw (fits, exact); leaves = rw (fits, stored) }
 
-pub delivered-by : (s : List ℕ) {names items t buffer after : List ℕ} (header doxygen : Bool) {r : Written} → Listed names items t →
-    Delivers (text (sheetOf header doxygen (itemsOf s t))) buffer r after →
-    Delivers (text (sheetOf header doxygen (itemsAt s names items))) buffer r after
-delivered-by s header doxygen l d = rw (l .namesAre, l .itemsAre) at d
+    -- e is what a second pass left of as many bytes of the buffer
+    pub deliver-fits : {e : List ℕ} {at : ℕ} → Wrote (sink (take n buffer) 0) bytes (sink e at) →
+        Delivers bytes buffer (Written.Length n) (e ++ drop n buffer)
+    deliver-fits {e} q =
+        let part = take n buffer in
+        let long : length part ≡ n = length-take-le n buffer h in
+        let stored : e ≡ bytes ++ drop (length bytes) part = written part q (omega (arith, exact, long)) (omega (arith, long)) in
+        let none : drop (length bytes) part ≡ [] =
+        drop-of-length-le part {i = length bytes} (omega (arith, exact, long)) in
+        record { answers = rw (fits, exact); leaves = rw (fits, stored, none, exact, append-nil bytes) }
 
 -- ---- the rules
 

@@ -7,10 +7,8 @@ use marks::Mark;
 use refusal::Refusal;
 use rules::Checked;
 use services::Written;
+use sink::put_text;
 use tables::Pool;
-use tables::Table;
-use tables::fill_pool;
-use tables::fill_table;
 use write::write_text;
 ghost use mathlib.Core.Path.{_≡_};
 ghost use Prim.Native.Nat.{_≤_};
@@ -23,42 +21,20 @@ ghost use Rattle.judge.specs.Marked.{Marked};
 ghost use Rattle.bridge.specs.Write.{text};
 ghost use Rattle.services.specs.Services.{Writes};
 ghost use Rattle.view.specs.Values.{itemsAt, Ready};
-ghost use Rattle.names.specs.Digests.{digestsAt};
-ghost use Rattle.tables.specs.Tables.{namesIn, itemsOf, Lent};
 ghost use Rattle.sections.specs.Runs.{sheetOf};
 ghost use Rattle.write_sheet.specs.Delivers.{Delivers, Judges};
 
-// Measures the text, and writes it where it fits.
-fn deliver(
-    s: &[u8],
-    t: &[u32; Table::PLACES],
-    pool: &[u8; Pool::BYTES],
-    digests: &[u32],
-    header: bool,
-    doxygen: bool,
-    buf: &mut [u8],
-) -> Written
-    requires { ⌜ Lent (now s) (now t) (now pool) × (now digests ≡ digestsAt (now s) (namesIn (now t))) ⌝ }
-    ensures { λ r. ⌜ Delivers (text (sheetOf header doxygen (itemsOf (now (s .entry)) (now (t .entry)))))
-        (now (buf .entry)) r (now (buf .exit)) ⌝ }
-{
-    let length = write_text(s, t, pool, digests, header, doxygen, &mut buf[..0]);
-    if buf.len() < length {
-        return Written::Refused(Refusal::Overrun);
-    }
-    write_text(s, t, pool, digests, header, doxygen, &mut buf[..length]);
-    Written::Length(length)
-}
+// A text of at most so many bytes is written once, and copied where it fits.
+const SHORT: usize = 6144;
 
-// The table and the pool, then the text.
-fn write_accepted(
+// Writes the text where it fits; one that is not short is measured before.
+fn deliver(
     s: &[u8],
     names: &[u32],
     items: &[u32],
     digests: &[u32],
     header: bool,
     doxygen: bool,
-    t: &mut [u32; Table::PLACES],
     pool: &mut [u8; Pool::BYTES],
     buf: &mut [u8],
 ) -> Written
@@ -67,9 +43,26 @@ fn write_accepted(
         (text (sheetOf header doxygen (itemsAt (now (s .entry)) (now (names .entry)) (now (items .entry)))))
         (now (buf .entry)) r (now (buf .exit)) ⌝ }
 {
-    fill_table(names, items, t);
-    fill_pool(s, t, pool);
-    deliver(s, t, pool, digests, header, doxygen, buf)
+    let mut short = [0u8; SHORT];
+    let length = write_text(s, names, items, digests, header, doxygen, pool, &mut short);
+    if buf.len() < length {
+        return Written::Refused(Refusal::Overrun);
+    }
+    if length <= SHORT {
+        put_text(buf, 0, &short[..length]);
+        return Written::Length(length);
+    }
+    write_text(
+        s,
+        names,
+        items,
+        digests,
+        header,
+        doxygen,
+        pool,
+        &mut buf[..length],
+    );
+    Written::Length(length)
 }
 
 // Rules 9 to 12, then the text. The pool is lent to the rules before it holds names.
@@ -81,7 +74,6 @@ fn write_judged(
     marks: &[u8; Mark::PLACES],
     header: bool,
     doxygen: bool,
-    t: &mut [u32; Table::PLACES],
     pool: &mut [u8; Pool::BYTES],
     buf: &mut [u8],
 ) -> Written
@@ -94,17 +86,7 @@ fn write_judged(
     let c = judge_in(s, names, items, digests, marks, pool);
     match c {
         Checked::Refused(e) => Written::Refused(e),
-        Checked::Accepted => write_accepted(
-            s,
-            names,
-            items,
-            digests,
-            header,
-            doxygen,
-            t,
-            pool,
-            buf,
-        ),
+        Checked::Accepted => deliver(s, names, items, digests, header, doxygen, pool, buf),
     }
 }
 
@@ -116,7 +98,6 @@ fn write_decoded(
     digests: &[u32],
     marks: &[u8; Mark::PLACES],
     o: Outline,
-    t: &mut [u32; Table::PLACES],
     pool: &mut [u8; Pool::BYTES],
     buf: &mut [u8],
 ) -> Written
@@ -135,7 +116,6 @@ fn write_decoded(
         marks,
         o.header,
         o.doxygen,
-        t,
         pool,
         buf,
     )
@@ -149,7 +129,6 @@ fn answer(
     digests: &[u32; Outline::NAMES],
     marks: &[u8; Mark::PLACES],
     d: Decoded,
-    t: &mut [u32; Table::PLACES],
     pool: &mut [u8; Pool::BYTES],
     buf: &mut [u8],
 ) -> Written
@@ -159,7 +138,7 @@ fn answer(
 {
     match d {
         Decoded::Refused(e) => Written::Refused(e),
-        Decoded::Whole(o) => write_decoded(sheet, names, items, digests, marks, o, t, pool, buf),
+        Decoded::Whole(o) => write_decoded(sheet, names, items, digests, marks, o, pool, buf),
     }
 }
 
@@ -171,18 +150,7 @@ pub fn write(sheet: &[u8], buf: &mut [u8]) -> Written
     let mut items = [0u32; Outline::ITEMS];
     let mut digests = [0u32; Outline::NAMES];
     let mut marks = [0u8; Mark::PLACES];
-    let mut t = [0u32; Table::PLACES];
     let mut pool = [0u8; Pool::BYTES];
     let d = decode(sheet, &mut names, &mut items, &mut digests, &mut marks);
-    answer(
-        sheet,
-        &names,
-        &items,
-        &digests,
-        &marks,
-        d,
-        &mut t,
-        &mut pool,
-        buf,
-    )
+    answer(sheet, &names, &items, &digests, &marks, d, &mut pool, buf)
 }

@@ -1,22 +1,30 @@
--- Written by tools/proofkit from answers/write_text.tpl (9667bf75 242b42ce).
+-- Written by tools/proofkit from answers/write_text.tpl (c17ab5fc 1cb768d7).
 use borrow.Author.Needs.{needs}
-use native.Mathlib.Omega.{arith}
-use Rattle.write.proofs.PassLaws.{begun, whole-text}
+use Rattle.tables.proofs.TableLaws.{tabled}
+use Rattle.write.proofs.TableLaws.{digested, text-of}
 use Rattle.write.proofs.write_text.Statement.{statement}
 use Rattle.write.proofs.write_text.Tie as tie
 
-write-body-requires : tie.Need-write-body-requires
-write-body-requires c κs = (c .before .before .before .before .before .before .before .before .before .pre .0, c .before .before .before .before .before .before .before .before .before .pre .1, begun (c .before .behind-forward .ensures) (c .before .before .before .before .write-forward-declarations .ensures))
+fill-table-requires : tie.Need-fill-table-requires
+fill-table-requires c κs = (c .before .before .before .before .before .before .pre .whole .named .few, c .before .before .before .before .before .before .pre .whole .few, search needs)
+
+fill-pool-requires : tie.Need-fill-pool-requires
+fill-pool-requires c κs = tabled (c .before .before .before .before .before .before .before .before .before .before .pre .whole) (c .before .before .before .fill-table .ensures)
+
+write-tabled-requires : tie.Need-write-tabled-requires
+write-tabled-requires c κs = (c .before .before .before .fill-pool .ensures, digested (c .before .before .before .before .before .before .before .before .before .before .before .before .before .before .pre) (c .before .before .before .before .before .before .before .fill-table .ensures))
 
 returns : tie.Need-returns
-returns c = whole-text _ (c .before .before .before .before .behind-forward .ensures) (c .before .before .before .before .before .before .before .write-forward-declarations .ensures) (c .before .before .write-body .ensures)
+returns c = text-of _ _ _ (c .before .before .before .before .before .before .before .before .before .before .fill-table .ensures) (c .before .before .write-tabled .ensures)
 
 pub write-text-spec : {M : Type 1} → statement M
 write-text-spec =
     tie.close
     (tie.spec
-    (λ c κs. search needs)
-    (λ c κs. search needs)
-    write-body-requires
+    (λ c. search needs)
+    fill-table-requires
+    (λ c. search needs)
+    fill-pool-requires
+    write-tabled-requires
     (λ c. search needs)
     returns)

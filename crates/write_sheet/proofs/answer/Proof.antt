@@ -1,4 +1,4 @@
--- Written by tools/proofkit from answers/answer.tpl (3f434df0 2bf43efd).
+-- Written by tools/proofkit from answers/answer.tpl (3f434df0 ccfe36bd).
 use borrow.Author.Needs.{needs}
 use Rattle.decode.proofs.AnswerLaws.{refused, whole}
 use Rattle.write_sheet.proofs.DeliverLaws.{writes-refused}
@@ -6,7 +6,7 @@ use Rattle.write_sheet.proofs.answer.Statement.{statement}
 use Rattle.write_sheet.proofs.answer.Tie as tie
 
 write-decoded-requires : tie.Need-write-decoded-requires
-write-decoded-requires c κs = (whole (c .before .before .before .before .before .before .before .before .before .before .before .pre) (c .before .before .before .before .before .before .before .d2 .given .1), search needs, search needs, search needs)
+write-decoded-requires c κs = (whole (c .before .before .before .before .before .before .before .before .before .before .pre) (c .before .before .before .before .before .before .d2 .given .1), search needs, search needs, search needs)
 
 returns : tie.Need-returns
 returns c = writes-refused _ _ (refused (c .before .before .before .before .before .pre) (c .before .d .given .1))

@@ -1,4 +1,4 @@
--- Written by tools/proofkit from answers/write_judged.tpl (d9dff7c5 4956f3c7).
+-- Written by tools/proofkit from answers/write_judged.tpl (248df838 8c4bb972).
 use borrow.Author.Needs.{needs}
 use Rattle.write_sheet.proofs.DeliverLaws.{judged-refused, judged-accepted}
 use Rattle.write_sheet.proofs.write_judged.Statement.{statement}
@@ -8,7 +8,7 @@ returns : tie.Need-returns
 returns c = judged-refused _ (c .before .before .before .judge-in .ensures) (c .before .c .given .1)
 
 returns-2 : tie.Need-returns-2
-returns-2 c = judged-accepted (c .before .before .before .before .before .before .before .before .judge-in .ensures) (c .before .before .before .before .before .before .enum-told .given .1) (c .before .before .write-accepted .ensures)
+returns-2 c = judged-accepted (c .before .before .before .before .before .before .before .judge-in .ensures) (c .before .before .before .before .before .enum-told .given .1) (c .before .before .deliver .ensures)
 
 pub write-judged-spec : {M : Type 1} → statement M
 write-judged-spec =
