@@ -1,6 +1,7 @@
 -- Laws of functions by number.
 use mathlib.Core.Path.{_≡_, refl, sym, ap, _∙_}
 use mathlib.Core.List.{List}
+use mathlib.Core.Bool.{Bool, true, false}
 use Prim.Native.Nat.{ℕ}
 use native.Mathlib.Omega.{arith}
 use lib.ListN.{length}
@@ -8,6 +9,7 @@ use lib.Dec.{eqb}
 use borrow.Author.Tests.{eq-eqb, ne-eqb}
 use Rattle.format.specs.Decode.{got, many}
 use Rattle.format.specs.Bits.{bits, bit, widthOf, index}
+use Rattle.format.specs.Types.{Ty, Ret, none}
 use Rattle.format.specs.Sheet.{Function, function}
 use Rattle.format.specs.Decoding.{form, formOf, type, optional, argument, itemBody, functionBody}
 use Rattle.format.specs.declared.ItemKind.{ItemKind}
@@ -17,12 +19,13 @@ use Rattle.cursor.proofs.WidthLaws.{index-field, index-lt}
 use Rattle.cursor.specs.declared.Found.{Found}
 use Rattle.view.specs.declared.FormView.{FormView}
 use Rattle.view.specs.declared.ItemView.{ItemView}
-use Rattle.view.specs.Values.{nextOf, namesAt, itemsAt, functionAt}
-use Rattle.view.specs.Views.{Finds, ItemAt, FormOf, Formed, returnOf, commentLines, FunctionOf}
-use Rattle.cursor.proofs.YieldLaws.{yields, in-turn, got-value, got-next, found-value, found-next}
+use Rattle.view.specs.Values.{nextOf, Yields, namesAt, itemsAt, functionAt, typeHere}
+use Rattle.view.specs.Views.{Finds, ItemAt, FormOf, Formed, returnOf, returnHere, commentLines, FunctionOf}
+use Rattle.cursor.proofs.YieldLaws.{yields, yielded, in-turn, got-value, got-next, found-value, found-next}
 use Rattle.cursor.proofs.YieldLaws.{bit-value, bit-next}
 use Rattle.view.proofs.PartLaws.{FunctionParts, function-parts}
 use Rattle.names.proofs.NameLaws.{Read, name-read}
+use Rattle.types.proofs.KindLaws.{type-yields}
 
 -- ---- forms
 
@@ -54,6 +57,24 @@ module _ (n : ℕ) (s : List ℕ) (at : ℕ) {f : Found} (ff : Finds (bits 2 s a
     low = omega (arith, ff .low);
   }
 
+-- ---- what a function returns
+
+module _ (n : ℕ) (s : List ℕ) (at : ℕ) {b : Bool} where
+  pub return-none : b ≡ false → at ≡ nextOf (returnOf b (type n) s at)
+  return-none e = rw e
+
+  module _ (e : b ≡ true) {r : Ret} (y : Yields (returnOf b (type n) s at) r) where
+    gave : (t : Ty) × (type n s at ≡ got t (nextOf (returnOf b (type n) s at)))
+    gave =
+        in-turn (type n s at) _ (rw e at (y .is)) (λ t m f h.
+        (t, f ∙ ap (got t) (got-next h ∙ ap (λ (c : Bool). nextOf (returnOf c (type n) s at)) (sym e))))
+
+    pub return-type : Yields (type n s at) (typeHere n s at)
+    return-type = type-yields n s at (yields (gave .1))
+
+    pub return-next : {k : ℕ} → k ≡ nextOf (type n s at) → k ≡ nextOf (returnOf b (type n) s at)
+    return-next h = h ∙ ap nextOf (gave .1)
+
 -- ---- a view of the function at a position
 
 module _ (s names : List ℕ) (n at : ℕ) (f : Function) (p : FunctionParts (namesAt s names) n s at f) where
@@ -77,7 +98,13 @@ module _ (s names : List ℕ) (n at : ℕ) (f : Function) (p : FunctionParts (na
             in-turn (bit s (t .next .at)) _ return (λ v m e h.
             rw (← bit-value s (t .next .at) e fb, ← bit-next s (t .next .at) e fb) h)
 
-        pub function-of : (i : ℕ) {k : ℕ} {c : Found} → k ≡ nextOf (optional (type n) s (t .next .at)) →
+        pub return-there : Yields (returnOf (eqb (b .value) 1) (type n) s (b .next .at))
+            (returnHere (eqb (b .value) 1) n s (b .next .at))
+        unfolding returnHere
+        return-there = let y = yields returned in rw (yielded none y) y
+
+        pub function-of : (i : ℕ) {k : ℕ} {c : Found} →
+            k ≡ nextOf (returnOf (eqb (b .value) 1) (type n) s (b .next .at)) →
             Finds (bits 5 s k) 5 c →
             FunctionOf s names n f (record {
               number = i;
@@ -92,7 +119,7 @@ module _ (s names : List ℕ) (n at : ℕ) (f : Function) (p : FunctionParts (na
             })
         unfolding commentLines
         function-of i {k} {c} e fc =
-            let u : k ≡ p .count-at = e ∙ ap nextOf return in
+            let u : k ≡ p .count-at = e ∙ ap nextOf returned in
             let d : bits 5 s k ≡ got (p .count) (p .first) = rw u (p .counted) in
             let xs : many (c .value) (argument (namesAt s names) n) s (c .next .at) ≡ got (f .arguments) (p .comment-at) =
             rw (← found-value fc d, ← found-next fc d) (p .arguments) in

@@ -3,4 +3,5 @@ pub mod ItemLaws
 pub mod FunctionLaws
 pub mod ArgumentLaws
 pub mod TypeLaws
+pub mod SkipLaws
 pub mod WholeLaws

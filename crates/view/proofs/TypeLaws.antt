@@ -1,16 +1,17 @@
 -- Laws of the outermost type at a position.
 use mathlib.Core.Path.{_≡_, refl, sym, ap, _∙_}
-use mathlib.Core.List.{List}
-use mathlib.Core.Bool.{true, false, false≢true}
-use Prim.Native.Nat.{ℕ, _<_}
+use mathlib.Core.List.{List, [], _∷_}
+use mathlib.Core.Bool.{Bool, true, false, not, false≢true}
+use Prim.Native.Nat.{ℕ, zero, suc, _+_, _*_, _<_, _≤_}
 use native.Mathlib.Omega.{arith}
-use lib.ListN.{length}
+use lib.ListN.{length, getD, drop}
 use lib.Dec.{leb, eqb}
 use Rattle.format.specs.Decode.{got, many}
-use Rattle.format.specs.Bits.{bits, bit, widthOf, index}
+use Rattle.format.specs.Bits.{bitsAt, bits, bit, widthOf, index}
 use Rattle.format.specs.Types.{Ty, atom, named, template, pointer, str, fn, array}
 use Rattle.format.specs.Sheet.{Name, Body, struct, enum, cxxType, rustType, function, Item}
-use Rattle.lexical.specs.Bytes.{within}
+use Rattle.lexical.specs.Bytes.{within, every}
+use Rattle.lexical.proofs.BoolLaws.{both, not-true}
 use Rattle.refusal.specs.declared.Refusal.the-variants.{BadKind}
 use Rattle.format.specs.declared.Atom.{Atom}
 use Rattle.format.specs.declared.Atom.the-variants as Atom
@@ -18,17 +19,18 @@ use Rattle.format.specs.declared.ItemKind.{ItemKind}
 use Rattle.format.specs.declared.ItemKind.the-variants as Part
 use Rattle.format.specs.declared.TypeKind.{TypeKind}
 use Rattle.format.specs.declared.TypeKind.the-variants as Kind
-use Rattle.format.specs.Decoding.{atomOf, kindOf, typeBody, typeAt, type, itemBody, structBody, enumBody}
+use Rattle.format.specs.Decoding.{atomOf, kinds, kindOf, typeBody, typeAt, type, itemBody, structBody, enumBody}
 use Rattle.syntax.specs.Types.{pointerBit, atomNumber, needsIndirectAbi, isRustString}
 use Rattle.cursor.proofs.WidthLaws.{index-field, index-lt}
 use Rattle.syntax.specs.Items.{itemAt}
 use Rattle.cursor.specs.declared.Found.{Found}
 use Rattle.syntax.proofs.AtomLaws.{atom-number}
-use Rattle.types.proofs.KindLaws.{body-type}
+use Rattle.types.proofs.KindLaws.{body-type, kind-here, behind-kind}
 use Rattle.view.specs.declared.ItemView.{ItemView}
 use Rattle.view.specs.Values.{nextOf, Yields, namesAt, itemsAt}
-use Rattle.view.specs.Views.{Finds, kindOfBody, ItemAt, isFunctionKind, kindOfType, isAtomKind, isNamedKind, isIndirectKind}
-use Rattle.cursor.proofs.YieldLaws.{in-turn, passed, got-value, found-value, found-next, bit-value}
+use Rattle.view.specs.Views.{Finds, kindOfBody, ItemAt, isFunctionKind, kindOfType, isNamedKind, isIndirectKind}
+use Rattle.cursor.proofs.FieldLaws.{field-lt}
+use Rattle.cursor.proofs.YieldLaws.{in-turn, passed, got-value, bits-there, found-value, found-next, bit-value}
 
 module _ (n : ℕ) (s : List ℕ) (at : ℕ) {t : Ty} {k : Found} (y : Yields (type n s at) t) (f : Finds (bits 4 s at) 4 k) where
   pub type-body : typeBody (kindOf (k .value)) n (typeAt n 7) s (k .next .at) ≡ got t (nextOf (type n s at))
@@ -79,81 +81,107 @@ module _ {s names items : List ℕ} {v : ItemView} {i : ℕ} (a : ItemAt s names
       rw (← e)
       (sym (pointer-type (namesAt s names) (length items) s (v .body .at) f (v .kind) (a .view .body .is) h))
 
--- ---- atoms and named types
+-- ---- atoms, named types and the others
 
-atom-kind : (k : TypeKind) → isAtomKind k ≡ true → k ≡ Kind.Atom
-atom-kind Kind.Atom h = refl
-atom-kind Kind.Named h = absurd (false≢true h)
-atom-kind (Kind.Template k) h = absurd (false≢true h)
-atom-kind (Kind.Pointer k) h = absurd (false≢true h)
-atom-kind Kind.Str h = absurd (false≢true h)
-atom-kind Kind.Fn h = absurd (false≢true h)
-atom-kind Kind.Array h = absurd (false≢true h)
-atom-kind Kind.Bad h = absurd (false≢true h)
+abbrev isAtomKind : TypeKind → Bool
+isAtomKind Kind.Atom = true
+isAtomKind Kind.Named = false
+isAtomKind (Kind.Template k) = false
+isAtomKind (Kind.Pointer k) = false
+isAtomKind Kind.Str = false
+isAtomKind Kind.Fn = false
+isAtomKind Kind.Array = false
+isAtomKind Kind.Bad = false
 
-named-kind : (k : TypeKind) → isNamedKind k ≡ true → k ≡ Kind.Named
-named-kind Kind.Named h = refl
-named-kind Kind.Atom h = absurd (false≢true h)
-named-kind (Kind.Template k) h = absurd (false≢true h)
-named-kind (Kind.Pointer k) h = absurd (false≢true h)
-named-kind Kind.Str h = absurd (false≢true h)
-named-kind Kind.Fn h = absurd (false≢true h)
-named-kind Kind.Array h = absurd (false≢true h)
-named-kind Kind.Bad h = absurd (false≢true h)
+-- a test that no kind of a list passes
+none-of : (test : TypeKind → Bool) → test Kind.Bad ≡ false → (l : List TypeKind) → every (λ k. not (test k)) l ≡ true →
+    (k : ℕ) → test (getD l k Kind.Bad) ≡ false
+unfolding every
+none-of test b [] h k = b
+none-of test b (x ∷ l) h zero = not-true (test x) (both (not (test x)) (every (λ k. not (test k)) l) h .0)
+none-of test b (x ∷ l) h (suc k) = none-of test b l (both (not (test x)) (every (λ k. not (test k)) l) h .1) k
 
-module _ (n : ℕ) (s : List ℕ) (at : ℕ) {t : Ty} {k : Found} (y : Yields (type n s at) t) (f : Finds (bits 4 s at) 4 k)
-    {kind : TypeKind} (e : kind ≡ kindOf (k .value)) where
-  body-of : {j : TypeKind} → kind ≡ j → typeBody j n (typeAt n 7) s (k .next .at) ≡ got t (nextOf (type n s at))
-  body-of z = ap (λ (i : TypeKind). typeBody i n (typeAt n 7) s (k .next .at)) (sym z ∙ e) ∙ type-body n s at y f
+no-atom : (k : ℕ) → (k ≡ 0 → ⊥) → isAtomKind (kindOf k) ≡ false
+unfolding kindOf every
+no-atom zero z = absurd (z refl)
+no-atom (suc k) z = none-of isAtomKind refl (drop 1 kinds) refl k
 
-  atom-there : {a : Found} → isAtomKind kind ≡ true → Finds (bits 4 s (k .next .at)) 4 a →
-      (i : Atom) × (t ≡ atom i) × (atomNumber i ≡ a .value)
-  atom-there {a} h g =
-      in-turn (bits 4 s (k .next .at)) _ (body-of (atom-kind kind h)) (λ v m e₁ h₁.
-      (atomOf v, sym (got-value h₁), atom-number v (let z = found-value g e₁ in omega (arith, g .low)) ∙ found-value g e₁))
+no-name : (k : ℕ) → (k ≡ 0 → ⊥) → (k ≡ 1 → ⊥) → isNamedKind (kindOf k) ≡ false
+unfolding kindOf every
+no-name zero z o = absurd (z refl)
+no-name (suc zero) z o = absurd (o refl)
+no-name (suc (suc k)) z o = none-of isNamedKind refl (drop 2 kinds) refl k
 
-  pub indirect-atom : (items : List Item) {a : Found} → isAtomKind kind ≡ true → Finds (bits 4 s (k .next .at)) 4 a →
-      needsIndirectAbi items t ≡ leb 14 (a .value)
-  unfolding needsIndirectAbi
-  indirect-atom items h g = let q = atom-there h g in rw (q .1, q .2)
+module _ (n : ℕ) (s : List ℕ) (at : ℕ) {t : Ty} (y : Yields (type n s at) t) {k : ℕ} (e : k ≡ bitsAt s at 4) where
+  kind : kindOf k ≡ kindOfType t
+  kind = kind-here n s at y e refl
 
-  pub string-atom : {a : Found} → isAtomKind kind ≡ true → Finds (bits 4 s (k .next .at)) 4 a →
-      isRustString t ≡ eqb (a .value) 15
-  string-atom h g = let q = atom-there h g in rw (q .1, q .2)
+  body-of : {j : TypeKind} → j ≡ kindOf k → typeBody j n (typeAt n 7) s (at + 4) ≡ got t (nextOf (type n s at))
+  body-of z = ap (λ (i : TypeKind). typeBody i n (typeAt n 7) s (at + 4)) (z ∙ kind) ∙ behind-kind n s at y
 
-  pub string-other : isAtomKind kind ≡ false → isRustString t ≡ false
-  string-other h = by-type t (sym (ap isAtomKind (type-kind n s at y f e)) ∙ h)
-    where
-      by-type : (u : Ty) → isAtomKind (kindOfType u) ≡ false → isRustString u ≡ false
-      by-type (atom a) h = absurd (false≢true (sym h))
-      by-type (named i) h = refl
-      by-type (template k t) h = refl
-      by-type (pointer k m t) h = refl
-      by-type str h = refl
-      by-type (fn r ts) h = refl
-      by-type (array t n) h = refl
+  module _ (z : k ≡ 0) where
+    atom-body : typeBody Kind.Atom n (typeAt n 7) s (at + 4) ≡ got t (nextOf (type n s at))
+    unfolding kindOf
+    atom-body = body-of {j = Kind.Atom} (rw z refl)
 
-  pub named-there : {w : ℕ} {i : Found} → isNamedKind kind ≡ true → w ≡ widthOf n → Finds (bits w s (k .next .at)) w i →
-      (t ≡ named (i .value)) × (i .value < n)
-  named-there {w} {i} h z g =
-      in-turn (index n s (k .next .at)) _ (body-of (named-kind kind h)) (λ v m e₁ h₁.
-      let d : bits w s (k .next .at) ≡ got v m = rw z (index-field n s (k .next .at) e₁) in
-      let q : v ≡ i .value = found-value g d in
-      (sym (got-value h₁) ∙ ap named q, rw (← q) (index-lt n s (k .next .at) e₁)))
+    pub atom-room : at + 4 + 4 ≤ 8 * length s
+    atom-room = in-turn (bits 4 s (at + 4)) _ atom-body (λ a m f h. bits-there 4 s (at + 4) f .0)
 
-  pub indirect-other : (items : List Item) → isAtomKind kind ≡ false → isNamedKind kind ≡ false →
-      needsIndirectAbi items t ≡ isIndirectKind kind
-  unfolding needsIndirectAbi
-  indirect-other items h g =
-      let q = type-kind n s at y f e in
-      by-type t (sym (ap isAtomKind q) ∙ h) (sym (ap isNamedKind q) ∙ g) ∙ sym (ap isIndirectKind q)
-    where
-      by-type : (u : Ty) → isAtomKind (kindOfType u) ≡ false → isNamedKind (kindOfType u) ≡ false →
-          needsIndirectAbi items u ≡ isIndirectKind (kindOfType u)
-      by-type (atom a) h g = absurd (let y : _≡_ {A = ℕ} 0 1 = cc in omega arith)
-      by-type (named i) h g = absurd (let y : _≡_ {A = ℕ} 0 1 = cc in omega arith)
-      by-type (template k t) h g = refl
-      by-type (pointer k m t) h g = refl
-      by-type str h g = refl
-      by-type (fn r ts) h g = refl
-      by-type (array t n) h g = refl
+    module _ {a : ℕ} (g : a ≡ bitsAt s (at + 4) 4) where
+      atom-there : (i : Atom) × (t ≡ atom i) × (atomNumber i ≡ a)
+      atom-there =
+          in-turn (bits 4 s (at + 4)) _ atom-body (λ v m f h.
+          let q : v ≡ a = bits-there 4 s (at + 4) f .1 ∙ sym g in
+          (atomOf v, sym (got-value h), atom-number v (field-lt 4 s (at + 4) f) ∙ q))
+
+      pub indirect-atom : (items : List Item) → leb 14 a ≡ needsIndirectAbi items t
+      unfolding needsIndirectAbi
+      indirect-atom items = let q = atom-there in rw (q .1, q .2)
+
+      pub string-atom : eqb a 15 ≡ isRustString t
+      string-atom = let q = atom-there in rw (q .1, q .2)
+
+  module _ (o : k ≡ 1) {w : ℕ} (z : w ≡ widthOf n) where
+    name-body : typeBody Kind.Named n (typeAt n 7) s (at + 4) ≡ got t (nextOf (type n s at))
+    unfolding kindOf
+    name-body = body-of {j = Kind.Named} (rw o refl)
+
+    pub named-room : at + 4 + w ≤ 8 * length s
+    named-room =
+        in-turn (index n s (at + 4)) _ name-body (λ i m f h.
+        rw z (bits-there (widthOf n) s (at + 4) (index-field n s (at + 4) f) .0))
+
+    pub named-there : {i : ℕ} → i ≡ bitsAt s (at + 4) w → (t ≡ named i) × (i < n)
+    named-there {i} g =
+        in-turn (index n s (at + 4)) _ name-body (λ j m f h.
+        let q : j ≡ i = bits-there (widthOf n) s (at + 4) (index-field n s (at + 4) f) .1 ∙ sym (rw (← z) g) in
+        (sym (got-value h) ∙ ap named q, rw (← q) (index-lt n s (at + 4) f)))
+
+  module _ (z : k ≡ 0 → ⊥) where
+    pub string-other : false ≡ isRustString t
+    string-other = by-type t (sym (ap isAtomKind kind) ∙ no-atom k z)
+      where
+        by-type : (u : Ty) → isAtomKind (kindOfType u) ≡ false → false ≡ isRustString u
+        by-type (atom a) h = absurd (false≢true (sym h))
+        by-type (named i) h = refl
+        by-type (template k t) h = refl
+        by-type (pointer k m t) h = refl
+        by-type str h = refl
+        by-type (fn r ts) h = refl
+        by-type (array t n) h = refl
+
+    pub indirect-other : (items : List Item) → (k ≡ 1 → ⊥) → isIndirectKind (kindOf k) ≡ needsIndirectAbi items t
+    unfolding needsIndirectAbi
+    indirect-other items o =
+        ap isIndirectKind kind ∙
+        by-type t (sym (ap isAtomKind kind) ∙ no-atom k z) (sym (ap isNamedKind kind) ∙ no-name k z o)
+      where
+        by-type : (u : Ty) → isAtomKind (kindOfType u) ≡ false → isNamedKind (kindOfType u) ≡ false →
+            isIndirectKind (kindOfType u) ≡ needsIndirectAbi items u
+        by-type (atom a) h g = absurd (let y : _≡_ {A = ℕ} 0 1 = cc in omega arith)
+        by-type (named i) h g = absurd (let y : _≡_ {A = ℕ} 0 1 = cc in omega arith)
+        by-type (template k t) h g = refl
+        by-type (pointer k m t) h g = refl
+        by-type str h g = refl
+        by-type (fn r ts) h g = refl
+        by-type (array t n) h g = refl

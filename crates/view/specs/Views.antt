@@ -23,7 +23,7 @@ use Rattle.view.specs.declared.ItemView.{ItemView}
 use Rattle.view.specs.declared.FormView.{FormView}
 use Rattle.view.specs.declared.FunctionView.{FunctionView}
 use Rattle.view.specs.declared.ArgumentView.{ArgumentView}
-use Rattle.view.specs.Values.{nextOf, Yields, nameAt, namesAt, itemsAt, functionAt, argumentAt, typeHere}
+use Rattle.view.specs.Values.{valueOr, nextOf, Yields, nameAt, namesAt, itemsAt, functionAt, argumentAt, typeHere}
 
 -- what a body's kind is
 abbrev pub kindOfBody : Body → ItemKind
@@ -73,6 +73,10 @@ pub record Formed (p : Got Form) (n : ℕ) (r : FormView) : Type 0 where
 -- what stands behind a return bit
 abbrev pub returnOf : Bool → Dec Ty → Dec Ret
 returnOf b ty = pick b (ty >> λ t. pure (gives t)) (pure none)
+
+-- it, in a sheet of n items
+unfoldable pub returnHere : Bool → ℕ → List ℕ → ℕ → Ret
+returnHere b n s at = valueOr none (returnOf b (type n) s at)
 
 -- what stands behind the arguments
 unfoldable pub commentLines : Dec (List (List ℕ))
@@ -128,16 +132,6 @@ pub record ArgumentsAt (s names items : List ℕ) (v : FunctionView) (offsets : 
 
 -- ---- types
 
-abbrev pub isAtomKind : TypeKind → Bool
-isAtomKind Kind.Atom = true
-isAtomKind Kind.Named = false
-isAtomKind (Kind.Template k) = false
-isAtomKind (Kind.Pointer k) = false
-isAtomKind Kind.Str = false
-isAtomKind Kind.Fn = false
-isAtomKind Kind.Array = false
-isAtomKind Kind.Bad = false
-
 abbrev pub isNamedKind : TypeKind → Bool
 isNamedKind Kind.Named = true
 isNamedKind Kind.Atom = false
@@ -158,3 +152,14 @@ isIndirectKind (Kind.Pointer k) = false
 isIndirectKind Kind.Str = false
 isIndirectKind Kind.Fn = false
 isIndirectKind Kind.Bad = false
+
+-- the bits of a kind before its inner type, where nothing stands behind that
+abbrev pub prefixOf : TypeKind → ℕ
+prefixOf (Kind.Template k) = 4
+prefixOf (Kind.Pointer k) = 5
+prefixOf Kind.Atom = 0
+prefixOf Kind.Named = 0
+prefixOf Kind.Str = 0
+prefixOf Kind.Fn = 0
+prefixOf Kind.Array = 0
+prefixOf Kind.Bad = 0

@@ -2,13 +2,13 @@
 // tables of the positions of its names and items, cut to their lengths.
 use cursor::Cursor;
 use cursor::Step;
+use cursor::extract;
 use cursor::fields::field;
 use cursor::width;
 use format::ItemKind;
 use format::Template;
 use format::TypeKind;
 use items::part_of;
-use types::check_return;
 use types::check_type;
 ghost use mathlib.Core.Path.{_≡_};
 ghost use mathlib.Core.List.{[]};
@@ -17,15 +17,17 @@ ghost use lib.Dec.{eqb};
 ghost use lib.ListN.{length, getD};
 ghost use Rattle.format.specs.Limits.{mostNames, mostBits, mostArguments};
 ghost use Rattle.format.specs.Decode.{many};
-ghost use Rattle.format.specs.Decoding.{name, type, optional, argument as argumentOf, form};
+ghost use Rattle.format.specs.Bits.{bitsAt};
+ghost use Rattle.format.specs.Decoding.{kindOf, type, argument as argumentOf, form};
 ghost use Rattle.format.specs.declared.ItemKind.the-variants.{RustFunction};
 ghost use Rattle.syntax.specs.Items.{itemAt};
-ghost use Rattle.syntax.specs.Types.{pointerBit, isIndirectTemplate, needsIndirectAbi, isRustString};
+ghost use Rattle.syntax.specs.Types.{pointerBit, isIndirectTemplate, needsIndirectAbi};
 ghost use Rattle.cursor.specs.Checking.{Limited};
 ghost use Rattle.view.specs.Values.{nextOf, Yields, nameAt, namesAt, itemsAt, typeHere};
 ghost use Rattle.view.specs.Values.{Named, Whole};
 ghost use Rattle.view.specs.Views.{kindOfBody, ItemAt, Formed, FunctionAt, ArgumentsAt, unpacked};
-ghost use Rattle.view.specs.Views.{isFunctionKind, kindOfType, isAtomKind, isNamedKind, isIndirectKind};
+ghost use Rattle.view.specs.Views.{returnOf, returnHere, isFunctionKind, kindOfType, isNamedKind};
+ghost use Rattle.view.specs.Views.{isIndirectKind, prefixOf};
 
 // ---- items
 
@@ -161,17 +163,59 @@ pub fn past_type(s: &[u8], c: Cursor, items: u32) -> Cursor
     }
 }
 
-// Past a return bit and its type.
-fn past_return(s: &[u8], c: Cursor, items: u32) -> Cursor
-    requires { ⌜ Limited (now s) ⌝ }
-    ensures { λ r. ⌜ r .at ≡ nextOf (optional (type items) (now (s .entry)) (c .at)) ⌝ }
+// The bits of a kind, by its number, before its inner type; 0 where it has none, or more stands behind that.
+fn prefix_of(k: u32) -> u32
+    ensures { λ r. ⌜ r ≡ prefixOf (kindOf k) ⌝ }
 {
-    let mut none = [0u8; 1];
-    let r = check_return(s, c, items, &mut none[..0]);
-    match r {
-        Step::At(next) => next,
-        Step::Fault(_) => Cursor::new(0),
+    match k {
+        2 => 4,
+        3 => 4,
+        4 => 4,
+        5 => 4,
+        6 => 4,
+        7 => 5,
+        8 => 5,
+        10 => 4,
+        13 => 5,
+        _ => 0,
     }
+}
+
+// Past the outermost type at c, which is known to be there.
+fn skip_type(s: &[u8], c: Cursor, items: u32) -> Cursor
+    requires { ⌜ Limited (now s) × Yields (type items (now s) (c .at)) (typeHere items (now s) (c .at)) ⌝ }
+    ensures { λ r. ⌜ r .at ≡ nextOf (type items (now (s .entry)) (c .at)) ⌝ }
+{
+    let mut at = c.at;
+    let mut k = extract(s, at, 4);
+    let mut p = prefix_of(k);
+    while 0 < p {
+        at = at + p;
+        k = extract(s, at, 4);
+        p = prefix_of(k);
+    }
+    if k == 0 {
+        return Cursor::new(at + 8);
+    }
+    if k == 1 {
+        return Cursor::new(at + 4 + width(items));
+    }
+    if k == 9 {
+        return Cursor::new(at + 4);
+    }
+    past_type(s, c, items)
+}
+
+// Past the type at c, where the return bit before it says that there is one.
+fn past_return(s: &[u8], c: Cursor, returns: bool, items: u32) -> Cursor
+    requires { ⌜ Limited (now s) ×
+        Yields (returnOf returns (type items) (now s) (c .at)) (returnHere returns items (now s) (c .at)) ⌝ }
+    ensures { λ r. ⌜ r .at ≡ nextOf (returnOf returns (type items) (now (s .entry)) (c .at)) ⌝ }
+{
+    if returns {
+        return skip_type(s, c, items);
+    }
+    c
 }
 
 // A function by its item's number: the index of its Rust name, its form, its self type's item, its two bits, where
@@ -204,8 +248,8 @@ pub fn function(s: &[u8], names: &[u32], items: &[u32], v: ItemView) -> Function
     let form = form_at(s, rust.next, n);
     let throws = field(s, form.next, 1);
     let returns = field(s, throws.next, 1);
-    let count = field(s, past_return(s, throws.next, n), 5);
     let result = returns.next;
+    let count = field(s, past_return(s, result, returns.value == 1, n), 5);
     let first = count.next;
     FunctionView {
         number: v.number,
@@ -268,14 +312,20 @@ pub fn fill_arguments(
     let mut next = v.first;
     let mut i: u32 = 0;
     while i < v.arguments {
-        let k = i as usize;
+        let j = i as usize;
         let name = field(s, next, w);
         let of = name.next;
-        let indirect = needs_indirect_abi(s, names, items, of);
-        let string = is_rust_string(s, items, of);
-        offsets[k] = pack(name.value, of, indirect, string);
-        next = past_type(s, of, n);
+        let k = extract(s, of.at, 4);
         i = i + 1;
+        if k == 0 {
+            let a = extract(s, of.at + 4, 4);
+            offsets[j] = pack(name.value, of, 14 <= a, a == 15);
+            next = Cursor::new(of.at + 8);
+            continue;
+        }
+        let indirect = is_indirect_other(s, names, items, of, k);
+        offsets[j] = pack(name.value, of, indirect, false);
+        next = skip_type(s, of, n);
     }
     next
 }
@@ -306,21 +356,6 @@ pub fn type_kind(s: &[u8], items: &[u32], c: Cursor) -> TypeKind
 {
     let k = field(s, c, 4);
     types::kind_of(k.value)
-}
-
-fn is_atom(kind: TypeKind) -> bool
-    ensures { λ r. ⌜ r ≡ isAtomKind kind ⌝ }
-{
-    match kind {
-        TypeKind::Atom => true,
-        TypeKind::Named => false,
-        TypeKind::Template(_) => false,
-        TypeKind::Pointer(_) => false,
-        TypeKind::Str => false,
-        TypeKind::Fn => false,
-        TypeKind::Array => false,
-        TypeKind::Bad => false,
-    }
 }
 
 pub fn is_named(kind: TypeKind) -> bool
@@ -366,6 +401,21 @@ fn is_indirect_kind(kind: TypeKind) -> bool
     }
 }
 
+// Whether the type at c, which is no atom and whose kind has the number k, needs an indirect ABI.
+fn is_indirect_other(s: &[u8], names: &[u32], items: &[u32], c: Cursor, k: u32) -> bool
+    requires { ⌜ Whole (now s) (now names) (now items) ×
+        Yields (type (length (now items)) (now s) (c .at)) (typeHere (length (now items)) (now s) (c .at)) ×
+        (k ≡ bitsAt (now s) (c .at) 4) × (k ≡ 0 → ⊥) ⌝ }
+    ensures { λ r. ⌜ r ≡ needsIndirectAbi (itemsAt (now (s .entry)) (now (names .entry)) (now (items .entry)))
+        (typeHere (length (now (items .entry))) (now (s .entry)) (c .at)) ⌝ }
+{
+    if k == 1 {
+        let i = extract(s, c.at + 4, width(items.len() as u32));
+        return pointer_bit(s, names, items, i);
+    }
+    is_indirect_kind(types::kind_of(k))
+}
+
 // Whether the type at c needs an indirect ABI.
 pub fn needs_indirect_abi(s: &[u8], names: &[u32], items: &[u32], c: Cursor) -> bool
     requires { ⌜ Whole (now s) (now names) (now items) ×
@@ -373,32 +423,10 @@ pub fn needs_indirect_abi(s: &[u8], names: &[u32], items: &[u32], c: Cursor) -> 
     ensures { λ r. ⌜ r ≡ needsIndirectAbi (itemsAt (now (s .entry)) (now (names .entry)) (now (items .entry)))
         (typeHere (length (now (items .entry))) (now (s .entry)) (c .at)) ⌝ }
 {
-    let k = field(s, c, 4);
-    let kind = types::kind_of(k.value);
-    let atom = is_atom(kind);
-    if atom {
-        let a = field(s, k.next, 4);
-        return 14 <= a.value;
+    let k = extract(s, c.at, 4);
+    if k == 0 {
+        let a = extract(s, c.at + 4, 4);
+        return 14 <= a;
     }
-    let named = is_named(kind);
-    if named {
-        let i = field(s, k.next, width(items.len() as u32));
-        return pointer_bit(s, names, items, i.value);
-    }
-    is_indirect_kind(kind)
-}
-
-// Whether the type at c is RustString.
-pub fn is_rust_string(s: &[u8], items: &[u32], c: Cursor) -> bool
-    requires { ⌜ Limited (now s) ×
-        Yields (type (length (now items)) (now s) (c .at)) (typeHere (length (now items)) (now s) (c .at)) ⌝ }
-    ensures { λ r. ⌜ r ≡ isRustString (typeHere (length (now (items .entry))) (now (s .entry)) (c .at)) ⌝ }
-{
-    let k = field(s, c, 4);
-    let atom = is_atom(types::kind_of(k.value));
-    if atom {
-        let a = field(s, k.next, 4);
-        return a.value == 15;
-    }
-    false
+    is_indirect_other(s, names, items, c, k)
 }
