@@ -9,6 +9,7 @@ use lib.Dec.{eqb}
 use lib.ListN.{length, getD, drop, take, length-map}
 use Rattle.refusal.specs.declared.Refusal.the-variants.{BadKind}
 use Rattle.lexical.specs.Bytes.{same, within}
+use Rattle.format.specs.Limits.{mostNamespaces}
 use Rattle.format.specs.Decode.{got}
 use Rattle.format.specs.Bits.{bits, bit}
 use Rattle.format.specs.Sheet.{Name, Body, struct, enum, cxxType, rustType, function, Item}
@@ -136,6 +137,20 @@ module _ {s names items : List ℕ} {v w : ItemView} (a : ItemAt s names items v
 
 -- ---- members
 
+pub own-shallow : {s names items : List ℕ} {i own : ℕ} {w : ItemView} →
+    own ≡ length (itemNo s names items i .namespace) → ItemAt s names items w → w .number ≡ i → own ≤ mostNamespaces
+own-shallow o a d = let e = rw d at (a .view .depth) in omega (arith, o, e, a .view .shallow)
+
+module _ (s names items : List ℕ) (L : Item) (depth i : ℕ) {own : ℕ}
+    (o : own ≡ length (itemNo s names items i .namespace)) where
+  pub direct-elsewhere : (own ≡ depth → ⊥) → false ≡ isDirect L depth (itemNo s names items i)
+  unfolding isDirect
+  direct-elsewhere h = rw (← o, ne-eqb own depth h) (sym (and-false (belongs L depth (itemNo s names items i))))
+
+  pub opens-shallow : own ≤ depth → false ≡ opens (itemsAt s names items) L depth i
+  unfolding opens
+  opens-shallow h = rw (← o, le-ltb depth own h, and-false (belongs L depth (itemNo s names items i)))
+
 module _ (s names items : List ℕ) (L : Item) (depth i : ℕ) {needed : Bool}
     (n : needed ≡ needsForwardDeclaration (itemNo s names items i .body)) where
   abbrev x : Item
@@ -154,17 +169,6 @@ module _ (s names items : List ℕ) (L : Item) (depth i : ℕ) {needed : Bool}
   opens-unneeded e = rw (← n, e)
 
   module _ (e : needed ≡ true) {w : ItemView} (a : ItemAt s names items w) (d : w .number ≡ i) where
-    deep : length (x .namespace) ≡ w .depth
-    deep = rw (← d) (sym (a .view .depth))
-
-    pub direct-elsewhere : (w .depth ≡ depth → ⊥) → false ≡ isDirect L depth x
-    unfolding isDirect
-    direct-elsewhere h = rw (deep, ne-eqb (w .depth) depth h) (sym (and-false (belongs L depth x)))
-
-    pub opens-shallow : w .depth ≤ depth → false ≡ opens (itemsAt s names items) L depth i
-    unfolding opens
-    opens-shallow h = rw (deep, le-ltb depth (w .depth) h, and-false (belongs L depth x))
-
     module _ {r : Bool} (t : r ≡ shared depth (L .namespace) (itemNo s names items (w .number) .namespace)) where
       shares : shared depth (L .namespace) (x .namespace) ≡ r
       shares = rw (← d) (sym t)
@@ -173,14 +177,14 @@ module _ (s names items : List ℕ) (L : Item) (depth i : ℕ) {needed : Bool}
       unfolding belongs
       member-shares = rw (← n, e, shares)
 
-      pub direct-shares : w .depth ≡ depth → r ≡ isDirect L depth x
+      pub direct-shares : {own : ℕ} → own ≡ length (x .namespace) → own ≡ depth → r ≡ isDirect L depth x
       unfolding isDirect belongs
-      direct-shares h = rw (← n, e, shares, deep, eq-eqb (w .depth) depth h) (sym (and-true r))
+      direct-shares {own} o h = rw (← n, e, shares, ← o, eq-eqb own depth h) (sym (and-true r))
 
-      module _ (h : depth < w .depth) where
+      module _ {own : ℕ} (o : own ≡ length (x .namespace)) (h : depth < own) where
         opens-rest : opens (itemsAt s names items) L depth i ≡ (r && isFirst (itemsAt s names items) (depth + 1) i)
         unfolding opens belongs
-        opens-rest = rw (← n, e, shares, deep, lt-ltb depth (w .depth) h, and-true r)
+        opens-rest = rw (← n, e, shares, ← o, lt-ltb depth own h, and-true r)
 
         pub opens-outside : r ≡ false → false ≡ opens (itemsAt s names items) L depth i
         opens-outside q = sym (opens-rest ∙ rw q)

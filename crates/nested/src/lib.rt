@@ -4,6 +4,7 @@ use cursor::fields::field;
 use format::ItemKind;
 use names::same_name;
 use view::ItemView;
+use view::depth_at;
 use view::item;
 use view::kind_at;
 use view::namespace;
@@ -155,14 +156,15 @@ pub fn is_direct(
         (itemNo (now (s .entry)) (now (names .entry)) (now (items .entry)) (leader .number)) depth
         (itemNo (now (s .entry)) (now (names .entry)) (now (items .entry)) i) ⌝ }
 {
+    let own = depth_at(s, names, items, i);
+    if own != depth {
+        return false;
+    }
     let needed = needs_forward_declaration(s, names, items, i);
     if !needed {
         return false;
     }
     let v = item(s, names, items, i);
-    if v.depth != depth {
-        return false;
-    }
     shares(s, names, items, digests, leader, v, depth)
 }
 
@@ -207,14 +209,15 @@ fn opens(
     ensures { λ r. ⌜ r ≡ opensOf (itemsAt (now (s .entry)) (now (names .entry)) (now (items .entry)))
         (itemNo (now (s .entry)) (now (names .entry)) (now (items .entry)) (leader .number)) depth i ⌝ }
 {
+    let own = depth_at(s, names, items, i);
+    if own <= depth {
+        return false;
+    }
     let needed = needs_forward_declaration(s, names, items, i);
     if !needed {
         return false;
     }
     let v = item(s, names, items, i);
-    if v.depth <= depth {
-        return false;
-    }
     let inside = shares(s, names, items, digests, leader, v, depth);
     if !inside {
         return false;

@@ -40,6 +40,9 @@ module _ (s names : List ℕ) (n at : ℕ) (x : Item) where
           ap (λ (j : ℕ). many j (nameOf (namesAt s names)) s (d .next .at)) (sym (found-value fd deep)) ∙
           (ap (λ (a : ℕ). many (p .levels) (nameOf (namesAt s names)) s a) (sym (found-next fd deep)) ∙ p .spaces)
 
+      pub depth-of : d .value ≡ length (x .namespace)
+      depth-of = sym (many-length (nameOf (namesAt s names)) s (d .value) (d .next .at) spaces)
+
       pub view-of : (i : ℕ) {kind : ItemKind} {w : ℕ} {r : Found} → kind ≡ partOf (k .value) →
           w ≡ widthOf (length names) → Finds (bits w s (d .next .at + d .value * w)) w r →
           ViewOf s names n x
@@ -51,7 +54,7 @@ module _ (s names : List ℕ) (n at : ℕ) (x : Item) where
           let q = name-read s names (p .cxx-at) (p .cxx) g in
           record {
             kind = kind-of e;
-            depth = sym (many-length (nameOf (namesAt s names)) s (d .value) (d .next .at) spaces);
+            depth = depth-of;
             spaces = yields spaces;
             shallow = omega (arith, fd .low);
             near = fd .near;
@@ -69,6 +72,10 @@ module _ {s names items : List ℕ} (whole : Whole s names items) {i : ℕ} (the
 
   pub kind-there : {kind : ItemKind} → kind ≡ partOf (k .value) → kind ≡ kindOfBody (itemAt (itemsAt s names items) i .body)
   kind-there e = kind-of s names (length items) (getD items i 0) (itemAt (itemsAt s names items) i) parts fk e
+
+  pub depth-there : {d : Found} → Finds (bits 3 s (k .next .at)) 3 d →
+      d .value ≡ length (itemAt (itemsAt s names items) i .namespace)
+  depth-there fd = depth-of s names (length items) (getD items i 0) (itemAt (itemsAt s names items) i) parts fk fd
 
   pub item-there : {d : Found} {kind : ItemKind} {w : ℕ} {r : Found} → Finds (bits 3 s (k .next .at)) 3 d →
       kind ≡ partOf (k .value) → w ≡ widthOf (length names) → Finds (bits w s (d .next .at + d .value * w)) w r →

@@ -77,6 +77,19 @@ pub fn kind_at(s: &[u8], names: &[u32], items: &[u32], i: u32) -> ItemKind
     part_of(kind.value)
 }
 
+// How many namespaces item i lies in.
+pub fn depth_at(s: &[u8], names: &[u32], items: &[u32], i: u32) -> u32
+    requires { ⌜ Whole (now s) (now names) (now items) × (i < length (now items)) ⌝ }
+    ensures { λ r. ⌜ r ≡ length
+        (itemAt (itemsAt (now (s .entry)) (now (names .entry)) (now (items .entry))) i .namespace) ⌝ }
+{
+    let k = i as usize;
+    let at = items[k];
+    let kind = field(s, Cursor::new(at), 3);
+    let depth = field(s, kind.next, 3);
+    depth.value
+}
+
 // The index of an item's namespace d, counted from the outermost.
 pub fn namespace(s: &[u8], names: &[u32], items: &[u32], v: ItemView, d: u32) -> u32
     requires { ⌜ Whole (now s) (now names) (now items) × ItemAt (now s) (now names) (now items) v × (d < v .depth) ⌝ }
