@@ -7,7 +7,7 @@ use marks::Mark;
 use refusal::Refusal;
 use rules::Checked;
 use services::Written;
-use sink::put_text;
+use sink::put_bytes;
 use tables::Pool;
 use write::write_text;
 ghost use mathlib.Core.Path.{_≡_};
@@ -49,7 +49,7 @@ fn deliver(
         return Written::Refused(Refusal::Overrun);
     }
     if length <= SHORT {
-        put_text(buf, 0, &short[..length]);
+        put_bytes(buf, 0, &short[..length]);
         return Written::Length(length);
     }
     write_text(
