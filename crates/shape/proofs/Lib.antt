@@ -3,3 +3,4 @@ pub mod ShapeLaws
 pub mod FunctionLaws
 pub mod CommaLaws
 pub mod ArgumentLaws
+mod CountLaws

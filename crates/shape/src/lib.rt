@@ -1,9 +1,13 @@
 // The types that a call treats in a way of their own, and what a declaration and a shim write alike.
+mod count;
+
+use crate::count::count_past;
 use cursor::Cursor;
 use cursor::fields::field;
 use format::Pointer;
 use format::Template;
 use format::TypeKind;
+use sink::advance;
 use sink::put_bytes;
 use sink::put_unless;
 use tables::Pool;
@@ -129,7 +133,7 @@ pub fn shape(s: &[u8], t: &[u32; Table::PLACES], c: Cursor) -> ShapeView
 
 // ---- types
 
-// The outermost type at c.
+// The outermost type at c. Where the buffer ends before the place, it is counted if that can be.
 pub fn write_outermost(
     s: &[u8],
     t: &[u32; Table::PLACES],
@@ -144,11 +148,40 @@ pub fn write_outermost(
         (writeType (itemsOf (now (s .entry)) (now (t .entry)))
         (typeOf (now (s .entry)) (now (t .entry)) (c .at))) (sink (now (out .exit)) r) ⌝ }
 {
+    let n = count_past(s, t, c, Levels::MOST, false, out.len(), at);
+    if 0 < n {
+        return advance(at, n);
+    }
     let walked = write_type(s, t, pool, c, Levels::MOST, out, at);
     walked.at
 }
 
-// The same with a space behind it, where one belongs.
+// The same of any type at c, with so many levels left, and with a space behind it where one belongs.
+fn write_spaced(
+    s: &[u8],
+    t: &[u32; Table::PLACES],
+    pool: &[u8; Pool::BYTES],
+    c: Cursor,
+    levels: u32,
+    out: &mut [u8],
+    at: usize,
+) -> usize
+    requires { ⌜ Lent (now s) (now t) (now pool) ×
+        Yields (typeAt (length (itemsIn (now t))) levels (now s) (c .at))
+        (tyAt (length (itemsIn (now t))) levels (now s) (c .at)) ⌝ }
+    ensures { λ r. ⌜ Wrote (sink (now (out .entry)) at)
+        (writeTypeSpace (itemsOf (now (s .entry)) (now (t .entry)))
+        (tyAt (length (itemsIn (now (t .entry)))) levels (now (s .entry)) (c .at))) (sink (now (out .exit)) r) ⌝ }
+{
+    let n = count_past(s, t, c, levels, true, out.len(), at);
+    if 0 < n {
+        return advance(at, n);
+    }
+    let walked = write_type_space(s, t, pool, c, levels, out, at);
+    walked.at
+}
+
+// The same of the outermost type at c.
 pub fn write_outermost_space(
     s: &[u8],
     t: &[u32; Table::PLACES],
@@ -163,8 +196,7 @@ pub fn write_outermost_space(
         (writeTypeSpace (itemsOf (now (s .entry)) (now (t .entry)))
         (typeOf (now (s .entry)) (now (t .entry)) (c .at))) (sink (now (out .exit)) r) ⌝ }
 {
-    let walked = write_type_space(s, t, pool, c, Levels::MOST, out, at);
-    walked.at
+    write_spaced(s, t, pool, c, Levels::MOST, out, at)
 }
 
 // The pointer that stands for a reference to the type at inner.
@@ -185,8 +217,8 @@ pub fn write_pointer(
         (tyAt (length (itemsIn (now (t .entry)))) innerLevels (now (s .entry)) (inner .at)))
         (sink (now (out .exit)) r) ⌝ }
 {
-    let walked = write_type_space(s, t, pool, inner, Levels::MOST - 1, out, at);
-    let behind = put_unless(out, walked.at, mutable, b"const ");
+    let end = write_spaced(s, t, pool, inner, Levels::MOST - 1, out, at);
+    let behind = put_unless(out, end, mutable, b"const ");
     put_bytes(out, behind, b"*")
 }
 

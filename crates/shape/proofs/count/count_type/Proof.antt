@@ -1,0 +1,88 @@
+-- Written by tools/proofkit from answers/count/count_type.tpl (555ad390 31084ccb).
+use borrow.Author.Needs.{needs}
+use mathlib.Core.Path.{_≡_}
+use native.Mathlib.Omega.{arith}
+use Prim.Native.Nat.{_-_, _*_}
+use lib.ListN.{length}
+use Rattle.format.specs.Bits.{bitsAt}
+use Rattle.format.specs.Decoding.{kindOf}
+use Rattle.write_type.specs.TypeAt.{tyAt}
+use Rattle.tables.specs.Tables.{itemsIn, itemsOf}
+use Rattle.shape.specs.Counts.{aroundOf, writeTypeAs}
+use Rattle.shape.proofs.CountLaws.{Counting, type-room, counting-whole, counting-inner, counting-turn, inner-later}
+use Rattle.shape.proofs.CountLaws.{atom-room, atom-fits, counting-atom, counting-str, counts-none}
+use Rattle.shape.proofs.count.count_type.Statement.{statement}
+use Rattle.shape.proofs.count.count_type.Tie as tie
+
+abbrev Inv-loop : tie.InvT-loop
+Inv-loop s t levels spaced at₀ k₀ sum₀ around₀ at k sum around = Counting (length (itemsIn t)) s (itemsOf s t) (writeTypeAs spaced (itemsOf s t) (tyAt (length (itemsIn t)) levels s at₀)) at sum × (k ≡ bitsAt s at 4) × (around ≡ aroundOf (kindOf k))
+
+abbrev μ-loop : tie.MeasureT-loop
+μ-loop s t levels spaced at₀ k₀ sum₀ around₀ at k sum around = 8 * length s - at
+
+extract-requires : tie.Need-extract-requires Inv-loop μ-loop
+extract-requires c κs = (c .before .pre .0, omega arith, type-room _ _ _ _ (c .before .pre .1))
+
+loop-holds : tie.Need-loop-holds Inv-loop μ-loop
+loop-holds c = (counting-whole _ _ _ _ _ (c .before .before .before .before .args .spaced) (c .before .before .before .before .pre .1) (c .before .before .extract .ensures) (c .before .end-length .ensures), c .before .before .extract .ensures, c .around-length .ensures)
+
+inner-type-requires : tie.Need-inner-type-requires Inv-loop μ-loop
+inner-type-requires c κs = (c .before .before .before .before .before .before .pre .0, omega (arith, c .before .loop .inv .2), counting-inner _ _ _ _ _ (c .before .loop .inv .0) (c .before .loop .inv .1) (c .before .loop .inv .2) (c .loop-test .taken) .room)
+
+add-sum : tie.Need-add-sum Inv-loop μ-loop
+add-sum c = omega (arith, c .before .before .before .before .before .before .before .pre .0, (counting-turn _ _ _ _ _ (c .before .before .loop .inv .0) (c .before .before .loop .inv .1) (c .before .before .loop .inv .2) (c .before .loop-test .taken) (c .inner-type .ensures)) .few, (counting-turn _ _ _ _ _ (c .before .before .loop .inv .0) (c .before .before .loop .inv .1) (c .before .before .loop .inv .2) (c .before .loop-test .taken) (c .inner-type .ensures)) .room)
+
+add-sum-2 : tie.Need-add-sum-2 Inv-loop μ-loop
+add-sum-2 c = omega (arith, c .before .before .before .before .before .before .before .before .pre .0, (counting-turn _ _ _ _ _ (c .before .before .before .loop .inv .0) (c .before .before .before .loop .inv .1) (c .before .before .before .loop .inv .2) (c .before .before .loop-test .taken) (c .before .inner-type .ensures)) .few, (counting-turn _ _ _ _ _ (c .before .before .before .loop .inv .0) (c .before .before .before .loop .inv .1) (c .before .before .before .loop .inv .2) (c .before .before .loop-test .taken) (c .before .inner-type .ensures)) .room)
+
+loop-less : tie.Need-loop-less Inv-loop μ-loop
+loop-less c = omega (arith, c .before .before .before .before .loop .inv .0 .room, inner-later _ _ _ _ _ (c .before .before .before .before .loop .inv .0) (c .before .before .before .before .loop .inv .1) (c .before .before .before .before .loop .inv .2) (c .before .before .before .loop-test .taken) (c .before .before .inner-type .ensures))
+
+loop-again : tie.Need-loop-again Inv-loop μ-loop
+loop-again c = (counting-turn _ _ _ _ _ (c .before .before .before .before .loop .inv .0) (c .before .before .before .before .loop .inv .1) (c .before .before .before .before .loop .inv .2) (c .before .before .before .loop-test .taken) (c .before .before .inner-type .ensures), c .before .before .inner-type .ensures .kind, c .around-length2 .ensures)
+
+add-extract : tie.Need-add-extract Inv-loop μ-loop
+add-extract c = omega (arith, c .before .before .before .before .before .before .before .pre .0, c .before .before .loop .inv .0 .room)
+
+extract-requires-2 : tie.Need-extract-requires-2 Inv-loop μ-loop
+extract-requires-2 c κs = (c .before .before .before .before .before .before .before .pre .0, omega arith, omega (arith, atom-room _ _ _ _ _ (c .before .before .loop .inv .0) (c .before .before .loop .inv .1) (c .if1 .taken)))
+
+add-result : tie.Need-add-result Inv-loop μ-loop
+add-result c = omega (arith, c .before .before .before .before .before .before .before .before .before .pre .0, c .before .before .before .before .loop .inv .0 .few, c .before .before .before .before .loop .inv .0 .room, atom-fits _ (c .atom-length .ensures))
+
+returns : tie.Need-returns Inv-loop μ-loop
+returns c = counting-atom _ _ _ _ _ (c .before .before .before .before .loop .inv .0) (c .before .before .before .before .loop .inv .1) (c .before .before .if1 .taken) (c .before .extract2 .ensures) (c .atom-length .ensures)
+
+add-result-2 : tie.Need-add-result-2 Inv-loop μ-loop
+add-result-2 c = omega (arith, c .before .before .before .before .before .before .before .before .pre .0, c .before .before .before .loop .inv .0 .few, c .before .before .before .loop .inv .0 .room)
+
+returns-2 : tie.Need-returns-2 Inv-loop μ-loop
+returns-2 c = counting-str _ _ _ _ _ (c .before .before .before .loop .inv .0) (c .before .before .before .loop .inv .1) (c .if2 .taken)
+
+returns-3 : tie.Need-returns-3 Inv-loop μ-loop
+returns-3 c = counts-none _
+
+pub count-type-spec : {M : Type 1} → statement M
+count-type-spec =
+    tie.close
+    (tie.spec
+    Inv-loop
+    μ-loop
+    extract-requires
+    (λ c κs. search needs)
+    (λ c κs. search needs)
+    loop-holds
+    inner-type-requires
+    add-sum
+    add-sum-2
+    (λ c κs. search needs)
+    loop-less
+    loop-again
+    add-extract
+    extract-requires-2
+    (λ c κs. search needs)
+    add-result
+    returns
+    add-result-2
+    returns-2
+    returns-3)

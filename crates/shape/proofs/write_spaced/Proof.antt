@@ -1,0 +1,20 @@
+-- Written by tools/proofkit from answers/write_spaced.tpl (55106043 30cb08f4).
+use borrow.Author.Needs.{needs}
+use native.Mathlib.Omega.{arith}
+use Rattle.shape.proofs.CountLaws.{wrote-counted}
+use Rattle.shape.proofs.write_spaced.Statement.{statement}
+use Rattle.shape.proofs.write_spaced.Tie as tie
+
+returns : tie.Need-returns
+returns c = wrote-counted (c .before .before .count-past .ensures) (c .before .if1 .taken) (omega arith) (c .advance .ensures)
+
+pub write-spaced-spec : {M : Type 1} → statement M
+write-spaced-spec =
+    tie.close
+    (tie.spec
+    (λ c κs. search needs)
+    (λ c κs. search needs)
+    returns
+    (λ c κs. search needs)
+    (λ c. search needs)
+    (λ c. search needs))
