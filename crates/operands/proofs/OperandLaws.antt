@@ -2,7 +2,7 @@
 use mathlib.Core.Path.{_≡_, refl, sym, ap, _∙_}
 use mathlib.Core.List.{List, [], _∷_, _++_, map}
 use mathlib.Core.Bool.{Bool, true, false, _||_, not, _&&_}
-use Prim.Native.Nat.{ℕ}
+use Prim.Native.Nat.{ℕ, zero, suc}
 use lib.Dec.{ltb}
 use lib.ListN.{length, getD}
 use Rattle.lexical.specs.Bytes.{bytes}
@@ -10,9 +10,11 @@ use Rattle.lexical.specs.Decimal.{pickText}
 use Rattle.sink.specs.Sink.{Sink, Wrote}
 use Rattle.sink.proofs.SinkLaws.{_▷_, wrote-nil, wrote-as}
 use Rattle.format.specs.Decode.{pick}
-use Rattle.format.specs.Types.{Ty, str}
+use Rattle.format.specs.Types.{Ty, atom, named, template, pointer, str, fn, array}
 use Rattle.format.specs.Sheet.{Argument, Function, Item}
 use Rattle.format.specs.Decoding.{formOf}
+use Rattle.format.specs.declared.Template.the-variants.{RustBox, RustVec, UniquePtr, SharedPtr, WeakPtr, CxxVector}
+use Rattle.format.specs.declared.Pointer.the-variants.{Ref, Ptr, SliceRef}
 use Rattle.syntax.specs.Types.{needsIndirectAbi}
 use Rattle.rules.specs.Rules.{isMethod}
 use Rattle.bridge.specs.WriteType.{writeType}
@@ -20,19 +22,39 @@ use Rattle.bridge.specs.Write.{commas, shape, indirectReturn, isHeld, heldLocal
 use Rattle.view.specs.declared.FunctionView.{FunctionView}
 use Rattle.view.specs.declared.ArgumentView.{ArgumentView}
 use Rattle.view.specs.Values.{nameAt, itemsAt, functionAt, typeHere}
-use Rattle.view.specs.Views.{FunctionAt, ArgumentOf, FactsOf, ArgumentsAt}
-use Rattle.shape.specs.declared.ShapeKind.{ShapeKind}
-use Rattle.shape.specs.declared.ShapeKind.the-variants.{RustBox, UniquePtr, Ref, Str, SliceRef, Other}
-use Rattle.shape.specs.declared.ShapeView.{ShapeView}
-use Rattle.shape.specs.Shapes.{shapeWith, ShapeOf}
+use Rattle.view.specs.Views.{FunctionAt, ArgumentOf, FactsOf, ArgumentsAt, kindOfType, ownerOf}
 use Rattle.shape.proofs.TypeLaws.{here-is}
 use Rattle.shape.proofs.FunctionLaws.{slot-some, slot-empty, method-is, arguments-count}
 use Rattle.shape.proofs.CommaLaws.{isSome, some-map, some-count, some-pick, commas-three, commas-none, commas-one}
+use Rattle.operands.specs.Ends.{ownerEnd}
 
--- what stands behind an argument's name, by its type's kind
-pub end-by-kind : {k j : ShapeKind} (held : Bool) {r t : Sink} → k ≡ j →
-    Wrote r (operandEnd (shapeWith j true str) held) t → Wrote r (operandEnd (shapeWith k true str) held) t
-end-by-kind held e p = rw e p
+-- what stands behind an argument's name, by its view
+pub end-by-owner : {o k : ℕ} (held : Bool) {r t : Sink} → o ≡ k → Wrote r (ownerEnd k held) t → Wrote r (ownerEnd o held) t
+end-by-owner held e p = rw e p
+
+pub end-of-others : (o : ℕ) {u : Type 0} (held : Bool) {r t : Sink} → (u × (o ≡ 1 → ⊥)) × (o ≡ 2 → ⊥) →
+    Wrote r (pickText held (bytes "$.value") []) t → Wrote r (ownerEnd o held) t
+end-of-others zero held h p = p
+end-of-others (suc zero) held h p = absurd (h .0 .1 refl)
+end-of-others (suc (suc zero)) held h p = absurd (h .1 refl)
+end-of-others (suc (suc (suc o))) held h p = p
+
+-- the same by its type
+end-is : (t : Ty) (held : Bool) → ownerEnd (ownerOf (kindOfType t)) held ≡ operandEnd (shape t) held
+end-is (template RustBox u) held = refl
+end-is (template UniquePtr u) held = refl
+end-is (template RustVec u) held = refl
+end-is (template SharedPtr u) held = refl
+end-is (template WeakPtr u) held = refl
+end-is (template CxxVector u) held = refl
+end-is (pointer Ref m u) held = refl
+end-is (pointer Ptr m u) held = refl
+end-is (pointer SliceRef m u) held = refl
+end-is str held = refl
+end-is (atom a) held = refl
+end-is (named i) held = refl
+end-is (fn r ts) held = refl
+end-is (array u k) held = refl
 
 -- ---- held arguments
 
@@ -63,26 +85,16 @@ module _ (items : List Item) {s names : List ℕ} {n : ℕ} {x : Argument} {v : 
 
   -- ---- operands
 
-  -- behind the name stands the same for any inner type
-  end-of : (k : ShapeKind) (m : Bool) (t : Ty) → operandEnd (shapeWith k true str) held ≡ operandEnd (shapeWith k m t) held
-  end-of RustBox m t = refl
-  end-of UniquePtr m t = refl
-  end-of Ref m t = refl
-  end-of Str m t = refl
-  end-of SliceRef m t = refl
-  end-of Other m t = refl
-
-  pub operand-written : {indirect : Bool} {k : ShapeView} {r t u w : Sink} →
-      indirect ≡ needsIndirectAbi items (typeHere n s (v .of .at)) →
-      ShapeOf n s (shape (typeHere n s (v .of .at))) k → Wrote r (pickText indirect (bytes "&") []) t →
-      Wrote t (nameAt s (getD names (v .name) 0)) u → Wrote u (operandEnd (shapeWith (k .kind) true str) held) w →
-      Wrote r (operand items x) w
+  pub operand-written : {o : ℕ} {indirect : Bool} {r t u w : Sink} →
+      o ≡ ownerOf (kindOfType (typeHere n s (v .of .at))) →
+      indirect ≡ needsIndirectAbi items (typeHere n s (v .of .at)) → Wrote r (pickText indirect (bytes "&") []) t →
+      Wrote t (nameAt s (getD names (v .name) 0)) u → Wrote u (ownerEnd o held) w → Wrote r (operand items x) w
   unfolding operand
-  operand-written {k = k} i o p q z =
+  operand-written e i p q z =
       wrote-as p (ap (λ (b : Bool). pickText b (bytes "&") []) (i ∙ ap (needsIndirectAbi items) type-is)) ▷
       wrote-as q (a .name) ▷
       wrote-as z
-      (end-of (k .kind) _ _ ∙ ap (λ y. operandEnd y held) (sym (o .is)) ∙ rw (type-is, held-by))
+      (ap (λ (k : ℕ). ownerEnd k held) e ∙ end-is (typeHere n s (v .of .at)) held ∙ rw (type-is, held-by))
 
 -- ---- the operands of a call
 

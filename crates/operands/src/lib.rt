@@ -1,8 +1,6 @@
 // The arguments of a shim's call: the locals that hold some of them, and the operands.
-use shape::ShapeKind;
 use shape::is_method;
 use shape::needs_comma;
-use shape::shape;
 use shape::write_outermost;
 use sink::put_bytes;
 use sink::put_when;
@@ -14,15 +12,14 @@ use view::FunctionView;
 use view::argument;
 ghost use mathlib.Core.Path.{_≡_};
 ghost use mathlib.Core.List.{map};
-ghost use mathlib.Core.Bool.{true, false, not, _&&_};
+ghost use mathlib.Core.Bool.{false, not, _&&_};
 ghost use Prim.Native.Nat.{_≤_, _<_};
 ghost use lib.ListN.{length};
-ghost use Rattle.format.specs.Types.{str};
 ghost use Rattle.rules.specs.Rules.{gather};
-ghost use Rattle.bridge.specs.Write.{commas, indirectReturn, heldLocal, operandEnd, operand, operands};
+ghost use Rattle.bridge.specs.Write.{commas, indirectReturn, heldLocal, operand, operands};
 ghost use Rattle.sink.specs.Sink.{sink, Wrote};
-ghost use Rattle.shape.specs.Shapes.{shapeWith};
 ghost use Rattle.tables.specs.Tables.{itemsOf, functionOf, argumentOf, Function, Arguments, Lent};
+ghost use Rattle.operands.specs.Ends.{ownerEnd};
 
 // Whether an argument is held in a local.
 fn is_held(a: ArgumentView) -> bool
@@ -97,17 +94,13 @@ pub fn write_held_locals(
 // ---- operands
 
 // What stands behind an argument's name.
-fn put_operand_end(kind: ShapeKind, held: bool, out: &mut [u8], at: usize) -> usize
-    ensures { λ r. ⌜ Wrote (sink (now (out .entry)) at) (operandEnd (shapeWith kind true str) held)
-        (sink (now (out .exit)) r) ⌝ }
+fn put_operand_end(owner: u32, held: bool, out: &mut [u8], at: usize) -> usize
+    ensures { λ r. ⌜ Wrote (sink (now (out .entry)) at) (ownerEnd owner held) (sink (now (out .exit)) r) ⌝ }
 {
-    match kind {
-        ShapeKind::RustBox => put_bytes(out, at, b".into_raw()"),
-        ShapeKind::UniquePtr => put_bytes(out, at, b".release()"),
-        ShapeKind::Ref => put_when(out, at, held, b"$.value"),
-        ShapeKind::Str => put_when(out, at, held, b"$.value"),
-        ShapeKind::SliceRef => put_when(out, at, held, b"$.value"),
-        ShapeKind::Other => put_when(out, at, held, b"$.value"),
+    match owner {
+        1 => put_bytes(out, at, b".into_raw()"),
+        2 => put_bytes(out, at, b".release()"),
+        _ => put_when(out, at, held, b"$.value"),
     }
 }
 
@@ -131,11 +124,9 @@ fn write_operand(
 {
     let a = argument(offsets, j);
     let held = is_held(a);
-    let v = shape(s, t, a.of);
-    let kind = v.kind;
     let b = put_when(out, at, a.indirect, b"&");
     let c = put_name_of(s, t, pool, a.name, out, b);
-    put_operand_end(kind, held, out, c)
+    put_operand_end(a.owner, held, out, c)
 }
 
 // The arguments as operands, behind others or not.

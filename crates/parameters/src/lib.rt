@@ -1,11 +1,9 @@
 // The parameters of a Rust function's declaration in C++ (bridge/write.rs `write_rust_function_decl_impl`).
 use cursor::Cursor;
 use mangle::write_full_name;
-use shape::ShapeKind;
 use shape::indirect_return;
 use shape::is_method;
 use shape::needs_comma;
-use shape::shape;
 use shape::write_outermost_space;
 use shape::write_pointer;
 use shape::write_slot_type;
@@ -18,6 +16,7 @@ use tables::type_kind;
 use view::FunctionView;
 use view::argument;
 use write_atom::write_space_after_type;
+ghost use mathlib.Core.Path.{_≡_};
 ghost use mathlib.Core.Bool.{false};
 ghost use mathlib.Core.List.{map};
 ghost use Prim.Native.Nat.{_<_, _≤_};
@@ -26,6 +25,7 @@ ghost use Rattle.format.specs.Decoding.{type};
 ghost use Rattle.bridge.specs.Write.{commas, shape as shapeOf, externArgType, externArg};
 ghost use Rattle.bridge.specs.Write.{receiver, slot, externParameters};
 ghost use Rattle.sink.specs.Sink.{sink, Wrote};
+ghost use Rattle.view.specs.Views.{kindOfType, ownerOf};
 ghost use Rattle.parameters.specs.Parts.{slotParameter};
 ghost use Rattle.tables.specs.Tables.{itemsOf, functionOf, argumentOf, Function, Arguments, Lent, typeOf, Typed};
 
@@ -58,32 +58,28 @@ fn write_receiver(
 
 // ---- arguments
 
-// The type at c as an argument has it.
+// The type at c as an argument has it; owner says whether its kind is an owner's.
 fn write_extern_arg_type(
     s: &[u8],
     t: &[u32; Table::PLACES],
     pool: &[u8; Pool::BYTES],
     c: Cursor,
+    owner: u32,
     out: &mut [u8],
     at: usize,
 ) -> usize
-    requires { ⌜ Lent (now s) (now t) (now pool) ×
-        Typed (now s) (now t) (c .at) ⌝ }
+    requires { ⌜ Lent (now s) (now t) (now pool) × Typed (now s) (now t) (c .at) ×
+        (owner ≡ ownerOf (kindOfType (typeOf (now s) (now t) (c .at)))) ⌝ }
     ensures { λ r. ⌜ Wrote (sink (now (out .entry)) at)
         (externArgType (itemsOf (now (s .entry)) (now (t .entry)))
         (typeOf (now (s .entry)) (now (t .entry)) (c .at))
         (shapeOf (typeOf (now (s .entry)) (now (t .entry)) (c .at)))) (sink (now (out .exit)) r) ⌝ }
 {
-    let v = shape(s, t, c);
-    let kind = v.kind;
-    match kind {
-        ShapeKind::RustBox => write_pointer(s, t, pool, v.inner, true, out, at),
-        ShapeKind::UniquePtr => write_pointer(s, t, pool, v.inner, true, out, at),
-        ShapeKind::Ref => write_outermost_space(s, t, pool, c, out, at),
-        ShapeKind::Str => write_outermost_space(s, t, pool, c, out, at),
-        ShapeKind::SliceRef => write_outermost_space(s, t, pool, c, out, at),
-        ShapeKind::Other => write_outermost_space(s, t, pool, c, out, at),
+    if owner == 0 {
+        return write_outermost_space(s, t, pool, c, out, at);
     }
+    let inner = Cursor::new(c.at + 4);
+    write_pointer(s, t, pool, inner, true, out, at)
 }
 
 // `write_extern_arg`, for argument j
@@ -105,7 +101,7 @@ fn write_extern_arg(
         (sink (now (out .exit)) r) ⌝ }
 {
     let a = argument(offsets, j);
-    let typed = write_extern_arg_type(s, t, pool, a.of, out, at);
+    let typed = write_extern_arg_type(s, t, pool, a.of, a.owner, out, at);
     let marked = put_when(out, typed, a.indirect, b"*");
     put_name_of(s, t, pool, a.name, out, marked)
 }

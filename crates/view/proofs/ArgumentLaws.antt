@@ -25,27 +25,27 @@ use Rattle.names.proofs.NameLaws.{Read, name-read}
 use Rattle.view.specs.declared.FunctionView.{FunctionView}
 use Rattle.view.specs.declared.ArgumentView.{ArgumentView}
 use Rattle.view.specs.Values.{nextOf, Yields, namesAt, itemsAt, functionAt, argumentAt, typeHere}
-use Rattle.view.specs.Views.{Finds, FunctionAt, ArgumentsAt, ArgumentOf, FactsOf, unpacked}
+use Rattle.view.specs.Views.{Finds, FunctionAt, ArgumentsAt, ArgumentOf, FactsOf, unpacked, ownerOf, kindOfType}
 
 -- ---- an entry of a table
 
 last-bit : (x k : ℕ) → k < 2 → (x * 2 + k) % 2 ≡ k
 last-bit x k h = omega arith
 
-pub packed : (name : ℕ) (of : Cursor) {indirect string : Bool} (low high : ℕ) → name ≤ mostNames →
-    (low < 2) × (eqb low 1 ≡ indirect) → (high < 2) × (eqb high 1 ≡ string) →
-    unpacked (of .at * 4096 + name * 4 + high * 2 + low) ≡
-    record { name = name; of = of; indirect = indirect; string = string }
-packed name of low high h a b =
-    let e = of .at * 4096 + name * 4 + high * 2 + low in
-    let x = of .at * 1024 + name in
-    let four : e / 4 ≡ x = omega arith in
-    let n : e / 4 % 1024 ≡ name = omega arith in
-    let p : e / 4096 ≡ of .at = omega arith in
+pub packed : (name : ℕ) (of : Cursor) (owner : ℕ) {indirect string : Bool} (low high : ℕ) → name ≤ mostNames →
+    owner < 4 → (low < 2) × (eqb low 1 ≡ indirect) → (high < 2) × (eqb high 1 ≡ string) →
+    unpacked (of .at * 16384 + name * 16 + owner * 4 + high * 2 + low) ≡
+    record { name = name; of = of; owner = owner; indirect = indirect; string = string }
+packed name of owner low high h o a b =
+    let e = of .at * 16384 + name * 16 + owner * 4 + high * 2 + low in
+    let x = of .at * 4096 + name * 4 + owner in
+    let n : e / 16 % 1024 ≡ name = omega arith in
+    let p : e / 16384 ≡ of .at = omega arith in
+    let k : e / 4 % 4 ≡ owner = omega arith in
     let i : e % 2 ≡ low = omega arith in
     let two : e / 2 ≡ x * 2 + high = omega arith in
     let j : e / 2 % 2 ≡ high = rw two (last-bit x high (b .0)) in
-    rw (n, p, i, j, a .1, b .1)
+    rw (n, p, k, i, j, a .1, b .1)
 
 -- ---- values in a row, where all of them are known to be there
 
@@ -87,8 +87,9 @@ module _ (s names : List ℕ) (n at : ℕ) {x : Argument} {m w : ℕ} {r : Found
   typed : type n s (r .next .at) ≡ got (x .type) m
   typed = ap (λ (a : ℕ). type n s a) (sym (name .next)) ∙ parts .2
 
-  argument-of : (b c : Bool) → ArgumentOf s names n x (record { name = r .value; of = r .next; indirect = b; string = c })
-  argument-of b c = record { named = name .there; name = name .name; of = yields typed }
+  argument-of : (o : ℕ) (b c : Bool) →
+      ArgumentOf s names n x (record { name = r .value; of = r .next; owner = o; indirect = b; string = c })
+  argument-of o b c = record { named = name .there; name = name .name; of = yields typed }
 
   type-there : Yields (type n s (r .next .at)) (typeHere n s (r .next .at))
   unfolding typeHere
@@ -142,12 +143,13 @@ module _ (s names items : List ℕ) (v : FunctionView) where
       pub argument-named : r .value < length names
       argument-named = name s names (length items) at (here .0) z g .there
 
-      pub arguments-turn : {m : ℕ} {b₁ b₂ : Bool} (e : ℕ) → i < length b →
+      pub arguments-turn : {m o : ℕ} {b₁ b₂ : Bool} (e : ℕ) → i < length b →
+          o ≡ ownerOf (kindOfType (typeHere (length items) s (r .next .at))) →
           b₁ ≡ needsIndirectAbi (itemsAt s names items) (typeHere (length items) s (r .next .at)) →
           b₂ ≡ isRustString (typeHere (length items) s (r .next .at)) →
-          unpacked e ≡ record { name = r .value; of = r .next; indirect = b₁; string = b₂ } →
+          unpacked e ≡ record { name = r .value; of = r .next; owner = o; indirect = b₁; string = b₂ } →
           m ≡ nextOf (type (length items) s (r .next .at)) → Arguments (i + 1) (set b i e) m
-      arguments-turn {m} {b₁} {b₂} e k h₁ h₂ u q = record {
+      arguments-turn {m} {o} {b₁} {b₂} e k h₀ h₁ h₂ u q = record {
         each = λ j h. by-cases (eqb j i)
             (λ t. let y : j ≡ i = eqb-true j i t in rw (y, getD-set-same b i e 0 k) new)
             (λ t. rw (getD-set-other b i j e 0 (eqb-false j i t))
@@ -159,7 +161,7 @@ module _ (s names items : List ℕ) (v : FunctionView) where
               FactsOf s names items (unpacked e)
           new = subst (λ (a : ArgumentView). ArgumentOf s names (length items) (argumentAt s names items (v .number) i) a ×
               FactsOf s names items a) (sym u)
-              (argument-of s names (length items) at (here .0) z g b₁ b₂, record { indirect = h₁; string = h₂ })
+              (argument-of s names (length items) at (here .0) z g o b₁ b₂, record { owner = h₀; indirect = h₁; string = h₂ })
 
     pub arguments-done : {i : ℕ} {b : List ℕ} (c : Cursor) → Arguments i b (c .at) → i ≤ v .arguments → v .arguments ≤ i →
         ArgumentsAt s names items v b × (c .at ≡ nextOf (many (v .arguments) d s (v .first .at)))

@@ -5,7 +5,8 @@ use mathlib.Core.Bool.{Bool, true, false, not, false≢true}
 use Prim.Native.Nat.{ℕ, zero, suc, _+_, _*_, _<_, _≤_}
 use native.Mathlib.Omega.{arith}
 use lib.ListN.{length, getD, drop}
-use lib.Dec.{leb, eqb}
+use lib.Dec.{leb, ltb, eqb}
+use borrow.Author.Tests.{ltb-false}
 use Rattle.format.specs.Decode.{got, many}
 use Rattle.format.specs.Bits.{bitsAt, bits, bit, widthOf, index}
 use Rattle.format.specs.Types.{Ty, atom, named, template, pointer, str, fn, array}
@@ -17,6 +18,7 @@ use Rattle.format.specs.declared.Atom.{Atom}
 use Rattle.format.specs.declared.Atom.the-variants as Atom
 use Rattle.format.specs.declared.ItemKind.{ItemKind}
 use Rattle.format.specs.declared.ItemKind.the-variants as Part
+use Rattle.format.specs.declared.Template.the-variants as Template
 use Rattle.format.specs.declared.TypeKind.{TypeKind}
 use Rattle.format.specs.declared.TypeKind.the-variants as Kind
 use Rattle.format.specs.Decoding.{atomOf, kinds, kindOf, typeBody, typeAt, type, itemBody, structBody, enumBody}
@@ -29,6 +31,7 @@ use Rattle.types.proofs.KindLaws.{body-type, kind-here, behind-kind}
 use Rattle.view.specs.declared.ItemView.{ItemView}
 use Rattle.view.specs.Values.{nextOf, Yields, namesAt, itemsAt}
 use Rattle.view.specs.Views.{Finds, kindOfBody, ItemAt, isFunctionKind, kindOfType, isNamedKind, isIndirectKind}
+use Rattle.view.specs.Views.{ownerOf}
 use Rattle.cursor.proofs.FieldLaws.{field-lt}
 use Rattle.cursor.proofs.YieldLaws.{in-turn, passed, got-value, bits-there, found-value, found-next, bit-value}
 
@@ -112,6 +115,37 @@ no-name zero z o = absurd (z refl)
 no-name (suc zero) z o = absurd (o refl)
 no-name (suc (suc k)) z o = none-of isNamedKind refl (drop 2 kinds) refl k
 
+-- what a view says of a kind takes two bits
+pub owner-low : (k : ℕ) {o : ℕ} → o ≡ ownerOf (kindOf k) → o < 4
+owner-low k e = rw e (by-kind (kindOf k))
+  where
+    by-kind : (j : TypeKind) → ownerOf j < 4
+    by-kind (Kind.Template Template.RustBox) = omega arith
+    by-kind (Kind.Template Template.UniquePtr) = omega arith
+    by-kind (Kind.Template Template.RustVec) = omega arith
+    by-kind (Kind.Template Template.SharedPtr) = omega arith
+    by-kind (Kind.Template Template.WeakPtr) = omega arith
+    by-kind (Kind.Template Template.CxxVector) = omega arith
+    by-kind (Kind.Pointer k) = omega arith
+    by-kind Kind.Atom = omega arith
+    by-kind Kind.Named = omega arith
+    by-kind Kind.Str = omega arith
+    by-kind Kind.Fn = omega arith
+    by-kind Kind.Array = omega arith
+    by-kind Kind.Bad = omega arith
+
+-- a number of neither owner's kind, as a match tells it
+pub owner-none : (k : ℕ) {u : Type 0} → (u × (k ≡ 2 → ⊥)) × (k ≡ 4 → ⊥) → 0 ≡ ownerOf (kindOf k)
+unfolding kindOf every
+owner-none zero h = refl
+owner-none (suc zero) h = refl
+owner-none (suc (suc zero)) h = absurd (h .0 .1 refl)
+owner-none (suc (suc (suc zero))) h = refl
+owner-none (suc (suc (suc (suc zero)))) h = absurd (h .1 refl)
+owner-none (suc (suc (suc (suc (suc k))))) h =
+    let l = none-of (λ j. ltb 0 (ownerOf j)) refl (drop 5 kinds) refl k in
+    let m = ltb-false 0 (ownerOf (getD (drop 5 kinds) k Kind.Bad)) l in omega arith
+
 module _ (n : ℕ) (s : List ℕ) (at : ℕ) {t : Ty} (y : Yields (type n s at) t) {k : ℕ} (e : k ≡ bitsAt s at 4) where
   kind : kindOf k ≡ kindOfType t
   kind = kind-here n s at y e refl
@@ -119,7 +153,14 @@ module _ (n : ℕ) (s : List ℕ) (at : ℕ) {t : Ty} (y : Yields (type n s at) 
   body-of : {j : TypeKind} → j ≡ kindOf k → typeBody j n (typeAt n 7) s (at + 4) ≡ got t (nextOf (type n s at))
   body-of z = ap (λ (i : TypeKind). typeBody i n (typeAt n 7) s (at + 4)) (z ∙ kind) ∙ behind-kind n s at y
 
+  pub owner-is : {o : ℕ} → o ≡ ownerOf (kindOf k) → o ≡ ownerOf (kindOfType t)
+  owner-is h = h ∙ ap ownerOf kind
+
   module _ (z : k ≡ 0) where
+    pub owner-atom : 0 ≡ ownerOf (kindOfType t)
+    unfolding kindOf
+    owner-atom = owner-is (rw z refl)
+
     atom-body : typeBody Kind.Atom n (typeAt n 7) s (at + 4) ≡ got t (nextOf (type n s at))
     unfolding kindOf
     atom-body = body-of {j = Kind.Atom} (rw z refl)

@@ -11,6 +11,8 @@ use Rattle.format.specs.Bits.{bits}
 use Rattle.format.specs.Types.{Ty, named, Ret, none, gives}
 use Rattle.format.specs.Sheet.{Form, Argument, Function, Body, struct, enum, cxxType, rustType, function, Item}
 use Rattle.format.specs.Decoding.{nameOf, type, line, argument, formOf, itemBody}
+use Rattle.format.specs.declared.Template.{Template}
+use Rattle.format.specs.declared.Template.the-variants.{RustBox, RustVec, UniquePtr, SharedPtr, WeakPtr, CxxVector}
 use Rattle.format.specs.declared.TypeKind.{TypeKind}
 use Rattle.format.specs.declared.TypeKind.the-variants as Kind
 use Rattle.format.specs.declared.ItemKind.{ItemKind}
@@ -109,16 +111,37 @@ pub record ArgumentOf (s names : List ℕ) (n : ℕ) (x : Argument) (v : Argumen
   pub name : nameAt s (getD names (v .name) 0) ≡ x .name
   pub of : Yields (type n s (v .of .at)) (x .type)
 
--- v's two bits are those of the type that stands at its position
+-- what a view says of an argument's type by its kind: 1 for a RustBox, 2 for a UniquePtr
+abbrev pub ownerOfTemplate : Template → ℕ
+ownerOfTemplate RustBox = 1
+ownerOfTemplate UniquePtr = 2
+ownerOfTemplate RustVec = 0
+ownerOfTemplate SharedPtr = 0
+ownerOfTemplate WeakPtr = 0
+ownerOfTemplate CxxVector = 0
+
+abbrev pub ownerOf : TypeKind → ℕ
+ownerOf (Kind.Template k) = ownerOfTemplate k
+ownerOf (Kind.Pointer k) = 0
+ownerOf Kind.Atom = 0
+ownerOf Kind.Named = 0
+ownerOf Kind.Str = 0
+ownerOf Kind.Fn = 0
+ownerOf Kind.Array = 0
+ownerOf Kind.Bad = 0
+
+-- v says of a type what the one that stands at its position is
 pub record FactsOf (s names items : List ℕ) (v : ArgumentView) : Type 0 where
+  pub owner : v .owner ≡ ownerOf (kindOfType (typeHere (length items) s (v .of .at)))
   pub indirect : v .indirect ≡ needsIndirectAbi (itemsAt s names items) (typeHere (length items) s (v .of .at))
   pub string : v .string ≡ isRustString (typeHere (length items) s (v .of .at))
 
 -- the view that an entry of a table of arguments holds
 abbrev pub unpacked : ℕ → ArgumentView
 unpacked e = record {
-  name = e / 4 % 1024;
-  of = record { at = e / 4096 };
+  name = e / 16 % 1024;
+  of = record { at = e / 16384 };
+  owner = e / 4 % 4;
   indirect = eqb (e % 2) 1;
   string = eqb (e / 2 % 2) 1;
 }

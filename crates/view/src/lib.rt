@@ -27,7 +27,7 @@ ghost use Rattle.view.specs.Values.{nextOf, Yields, nameAt, namesAt, ite
 ghost use Rattle.view.specs.Values.{Named, Whole};
 ghost use Rattle.view.specs.Views.{kindOfBody, ItemAt, Formed, FunctionAt, ArgumentsAt, unpacked};
 ghost use Rattle.view.specs.Views.{returnOf, returnHere, isFunctionKind, kindOfType, isNamedKind};
-ghost use Rattle.view.specs.Views.{isIndirectKind, prefixOf};
+ghost use Rattle.view.specs.Views.{isIndirectKind, prefixOf, ownerOf};
 
 // ---- items
 
@@ -277,11 +277,12 @@ pub fn function(s: &[u8], names: &[u32], items: &[u32], v: ItemView) -> Function
     }
 }
 
-// An argument: the index of its name, where its type stands, whether that needs an indirect ABI, and whether it is
-// RustString.
+// An argument: the index of its name, where its type stands, whether that is a RustBox (1), a UniquePtr (2) or
+// another (0), whether it needs an indirect ABI, and whether it is RustString.
 pub struct ArgumentView {
     pub name: u32,
     pub of: Cursor,
+    pub owner: u32,
     pub indirect: bool,
     pub string: bool,
 }
@@ -295,14 +296,26 @@ fn one_if(b: bool) -> u32
     0
 }
 
+// What an argument's view says of a kind, by its number.
+fn owner_of(k: u32) -> u32
+    ensures { λ r. ⌜ r ≡ ownerOf (kindOf k) ⌝ }
+{
+    match k {
+        2 => 1,
+        4 => 2,
+        _ => 0,
+    }
+}
+
 // An argument's view as one entry of a table (`unpacked` of specs/Views.antt).
-fn pack(name: u32, of: Cursor, indirect: bool, string: bool) -> u32
-    requires { ⌜ (name ≤ mostNames) × (of .at ≤ mostBits) ⌝ }
-    ensures { λ r. ⌜ unpacked r ≡ record { name = name; of = of; indirect = indirect; string = string } ⌝ }
+fn pack(name: u32, of: Cursor, owner: u32, indirect: bool, string: bool) -> u32
+    requires { ⌜ (name ≤ mostNames) × (of .at < mostBits) × (owner < 4) ⌝ }
+    ensures { λ r. ⌜ unpacked r ≡
+        record { name = name; of = of; owner = owner; indirect = indirect; string = string } ⌝ }
 {
     let low = one_if(indirect);
     let high = one_if(string);
-    of.at * 4096 + name * 4 + high * 2 + low
+    of.at * 16384 + name * 16 + owner * 4 + high * 2 + low
 }
 
 // Each argument's view, packed, into the front of offsets; the answer is the position behind the last.
@@ -332,12 +345,13 @@ pub fn fill_arguments(
         i = i + 1;
         if k == 0 {
             let a = extract(s, of.at + 4, 4);
-            offsets[j] = pack(name.value, of, 14 <= a, a == 15);
+            offsets[j] = pack(name.value, of, 0, 14 <= a, a == 15);
             next = Cursor::new(of.at + 8);
             continue;
         }
         let indirect = is_indirect_other(s, names, items, of, k);
-        offsets[j] = pack(name.value, of, indirect, false);
+        let owner = owner_of(k);
+        offsets[j] = pack(name.value, of, owner, indirect, false);
         next = skip_type(s, of, n);
     }
     next
@@ -350,10 +364,11 @@ pub fn argument(offsets: &[u32], j: u32) -> ArgumentView
 {
     let k = j as usize;
     let e = offsets[k];
-    let of = Cursor::new(e / 4096);
+    let of = Cursor::new(e / 16384);
     ArgumentView {
-        name: e / 4 % 1024,
+        name: e / 16 % 1024,
         of,
+        owner: e / 4 % 4,
         indirect: e % 2 == 1,
         string: e / 2 % 2 == 1,
     }

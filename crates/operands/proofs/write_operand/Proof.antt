@@ -1,8 +1,7 @@
--- Written by tools/proofkit from answers/write_operand.tpl (22485790 750016f2).
+-- Written by tools/proofkit from answers/write_operand.tpl (a600a2aa ecc3b009).
 use borrow.Author.Needs.{needs}
 use native.Mathlib.Omega.{arith}
 use Rattle.sink.proofs.SinkLaws.{wrote-length}
-use Rattle.shape.proofs.TypeLaws.{here-yields}
 use Rattle.shape.proofs.ArgumentLaws.{argument-at}
 use Rattle.operands.proofs.OperandLaws.{held-is, operand-written}
 use Rattle.operands.proofs.write_operand.Statement.{statement}
@@ -11,20 +10,15 @@ use Rattle.operands.proofs.write_operand.Tie as tie
 argument-requires : tie.Need-argument-requires
 argument-requires c κs = omega arith
 
-shape-requires : tie.Need-shape-requires
-shape-requires c κs =
-    let a = argument-at (c .before .before .before .before .before .pre .1) (c .before .before .before .before .before .pre .2) (c .before .argument .ensures) in
-    (c .before .before .before .before .before .pre .0 .tabled .whole .named .limited, here-yields _ _ _ (a .0 .of))
-
 put-name-of-requires : tie.Need-put-name-of-requires
 put-name-of-requires c κs =
-    let a = argument-at (c .before .before .before .before .before .before .before .before .before .before .before .before .pre .1) (c .before .before .before .before .before .before .before .before .before .before .before .before .pre .2) (c .before .before .before .before .before .before .before .before .argument .ensures) in
-    (c .before .before .before .before .before .before .before .before .before .before .before .before .pre .0, a .0 .named)
+    let a = argument-at (c .before .before .before .before .before .before .before .before .before .before .before .pre .1) (c .before .before .before .before .before .before .before .before .before .before .before .pre .2) (c .before .before .before .before .before .before .before .argument .ensures) in
+    (c .before .before .before .before .before .before .before .before .before .before .before .pre .0, a .0 .named)
 
 returns : tie.Need-returns
 returns c =
-    let a = argument-at (c .before .before .before .before .before .before .before .before .before .before .before .before .before .before .before .before .before .before .before .pre .1) (c .before .before .before .before .before .before .before .before .before .before .before .before .before .before .before .before .before .before .before .pre .2) (c .before .before .before .before .before .before .before .before .before .before .before .before .before .before .before .argument .ensures) in
-    operand-written _ (a .0) (held-is (a .1) (c .before .before .before .before .before .before .before .before .before .before .before .before .before .before .is-held .ensures)) (a .1 .indirect) (c .before .before .before .before .before .before .before .before .before .before .before .before .before .shape .ensures)
+    let a = argument-at (c .before .before .before .before .before .before .before .before .before .before .before .before .before .before .before .before .before .before .pre .1) (c .before .before .before .before .before .before .before .before .before .before .before .before .before .before .before .before .before .before .pre .2) (c .before .before .before .before .before .before .before .before .before .before .before .before .before .before .argument .ensures) in
+    operand-written _ (a .0) (held-is (a .1) (c .before .before .before .before .before .before .before .before .before .before .before .before .before .is-held .ensures)) (a .1 .owner) (a .1 .indirect)
     (c .before .before .before .before .before .before .before .before .before .before .put-when .ensures) (c .before .before .before .before .before .before .put-name-of .ensures) (c .before .before .put-operand-end .ensures)
 
 same-length : tie.Need-same-length
@@ -36,7 +30,6 @@ write-operand-spec =
     (tie.spec
     argument-requires
     (λ c κs. search needs)
-    shape-requires
     (λ c. search needs)
     (λ c κs. search needs)
     put-name-of-requires

@@ -1,4 +1,4 @@
--- Written by tools/proofkit from answers/write_extern_arg.tpl (058dede3 52573175).
+-- Written by tools/proofkit from answers/write_extern_arg.tpl (f25c45a4 67f5262b).
 use borrow.Author.Needs.{needs}
 use native.Mathlib.Omega.{arith}
 use Rattle.shape.proofs.TypeLaws.{here-yields}
@@ -13,7 +13,7 @@ argument-requires c κs = omega arith
 write-extern-arg-type-requires : tie.Need-write-extern-arg-type-requires
 write-extern-arg-type-requires c κs =
     let a = argument-at (c .before .before .before .before .before .pre .1) (c .before .before .before .before .before .pre .2) (c .before .argument .ensures) in
-    (c .before .before .before .before .before .pre .0, here-yields _ _ _ (a .0 .of))
+    (c .before .before .before .before .before .pre .0, here-yields _ _ _ (a .0 .of), a .1 .owner)
 
 put-name-of-requires : tie.Need-put-name-of-requires
 put-name-of-requires c κs =
