@@ -3,14 +3,15 @@ use mathlib.Core.Path.{_≡_, refl, sym, ap, _∙_}
 use mathlib.Core.List.{List, _++_}
 use Prim.Native.Nat.{ℕ, _+_, _*_, _<_, _≤_, _^_}
 use native.Mathlib.Omega.{arith}
-use lib.ListN.{length, set, take, drop, length-append}
+use lib.ListN.{length, getD, set, take, drop, length-append}
 use lib.Seq.{sets-eq, take-at, length-take-le}
 use Rattle.syntax.specs.Items.{itemAt, fullName}
 use Rattle.sink.specs.Sink.{Sink, sink, limit, Wrote}
 use Rattle.sink.proofs.SinkLaws.{wrote-place, wrote-length, wrote-whole}
 use Rattle.sink.proofs.StoreLaws.{buffer-emit}
 use Rattle.sink.proofs.ServiceLaws.{written}
-use Rattle.tables.specs.Tables.{itemsIn, itemsOf, Lent, Filled}
+use Rattle.tables.specs.Tables.{namesIn, itemsIn, itemsOf, Tabled, Lent, Filled}
+use Rattle.tables.proofs.TableLaws.{items-count}
 use Rattle.tables.proofs.PoolLaws.{lent-whole, filled-full}
 
 -- what was written at the front of l
@@ -28,8 +29,8 @@ behind {l} {b} {text} {at} p h g =
     ∙ take-at (take at l ++ text) (drop (at + length text) l) (at + length text)
     (length-append (take at l) text ∙ omega (arith, length-take-le at l (omega arith)))
 
-pub filled-same : {s t pool : List ℕ} {end : ℕ} → Lent s t (take end pool) → end ≤ length pool → Filled s t t pool end
-filled-same l h = record { lent = l; room = h; sameNames = refl; sameItems = refl }
+pub filled-same : {s t : List ℕ} (pool : List ℕ) {end : ℕ} → Lent s t (take end pool) → end ≤ length pool → Filled s t t pool end
+filled-same pool l h = record { lent = l; room = h; sameNames = refl; sameItems = refl }
 
 pub filled-item : {s t pool after l b : List ℕ} {end i count r : ℕ} → Lent s t (take end pool) → i < length (itemsIn t) →
     Wrote (sink l 0) (fullName (itemAt (itemsOf s t) i)) (sink b count) → length l ≡ 520 → count ≤ 520 →
@@ -39,5 +40,22 @@ filled-item {s} {t} {pool} {after} {l} {b} {end} {i} {count} {r} lent h p long f
     let c : length (take count b) ≡ count = length-take-le count b (omega (arith, wrote-length p)) in
     let front : take (end + count) after ≡ take end pool ++ take count b =
     ap (λ (n : ℕ). take (end + n) after) (sym c) ∙ behind q (omega arith) small in
-    filled-full (filled-same {s} {t} {pool} {end} lent (omega arith)) i count (take count b) after c front
+    filled-full (filled-same pool lent (omega arith)) i count (take count b) after c front
     (omega (arith, wrote-length q)) h (spelled p (omega arith) (omega arith)) (omega arith)
+
+-- ---- the loop over the items
+
+module _ {s before t pool : List ℕ} {end : ℕ} (d : Filled s before t pool end) where
+  pub item-left : {i : ℕ} → Tabled s before → i < getD before 1279 0 → i < length (itemsIn t)
+  item-left a h = omega (arith, items-count a, ap length (d .sameItems))
+
+  pub filled-next : {u after : List ℕ} {next : ℕ} → Filled s t u after next → Filled s before u after next
+  filled-next f = record {
+    lent = f .lent;
+    room = f .room;
+    sameNames = f .sameNames ∙ d .sameNames;
+    sameItems = f .sameItems ∙ d .sameItems;
+  }
+
+  pub filled-all : Lent s t pool × (namesIn t ≡ namesIn before) × (itemsIn t ≡ itemsIn before)
+  filled-all = (lent-whole end pool (d .lent), d .sameNames, d .sameItems)

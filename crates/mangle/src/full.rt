@@ -28,20 +28,20 @@ fn fill_full_name(
     ensures { λ r. ⌜ Filled (now (s .entry)) (now (t .entry)) (now (t .exit)) (now (pool .exit)) r ⌝ }
 {
     let v = item(s, t, i);
-    if is_function(v.kind) {
+    let kind = v.kind;
+    if is_function(kind) {
         return end;
     }
     let count = write_full_name(s, t, pool, i, text, 0);
     if LONGEST < count {
         return end;
     }
-    let next = end + count;
-    if Pool::BYTES < next {
+    if Pool::BYTES - count < end {
         return end;
     }
     put_text(pool, end, &text[..count]);
     t[Table::FULL + i as usize] = end as u32 * 1024 + count as u32;
-    next
+    end + count
 }
 
 // The full names of all types, in the pool behind its first `from` bytes.

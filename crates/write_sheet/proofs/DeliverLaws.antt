@@ -18,7 +18,7 @@ use Rattle.marks.specs.Marking.{places}
 use Rattle.decode.specs.Tables.{Tables}
 use Rattle.view.specs.Values.{itemsAt, Ready}
 use Rattle.names.specs.Digests.{digestsAt}
-use Rattle.tables.specs.Tables.{namesIn, itemsOf, Listed}
+use Rattle.tables.specs.Tables.{namesIn, itemsIn, itemsOf, Listed, Lent, Filled}
 use Rattle.view.proofs.WholeLaws.{items-are}
 use Rattle.rules.specs.declared.Checked.{Checked}
 use Rattle.rules.specs.declared.Checked.the-variants.{Accepted, Refused}
@@ -60,11 +60,23 @@ module _ {bytes m : List ℕ} {length₁ : ℕ} (l : List ℕ) (p : Wrote (sink 
 
 -- ---- the table
 
-pub digested : {s names items digests t : List ℕ} → Ready s names items digests → Listed names items t →
+-- the lists of the table that is lent are those that it was filled from
+pub record Lists (names items t : List ℕ) : Type 0 where
+  pub namesAre : namesIn t ≡ names
+  pub itemsAre : itemsIn t ≡ items
+
+pub filled-listed : {s names items t u v pool after : List ℕ} {end : ℕ} → Listed names items t → Filled s t u pool end →
+    Lent s v after × (namesIn v ≡ namesIn u) × (itemsIn v ≡ itemsIn u) → Lists names items v
+filled-listed l f g = record {
+  namesAre = g .1 ∙ f .sameNames ∙ l .namesAre;
+  itemsAre = g .2 ∙ f .sameItems ∙ l .itemsAre;
+}
+
+pub digested : {s names items digests t : List ℕ} → Ready s names items digests → Lists names items t →
     digests ≡ digestsAt s (namesIn t)
 digested r l = rw (l .namesAre) (r .digested)
 
-pub delivered-by : (s : List ℕ) {names items t buffer after : List ℕ} (header doxygen : Bool) {r : Written} → Listed names items t →
+pub delivered-by : (s : List ℕ) {names items t buffer after : List ℕ} (header doxygen : Bool) {r : Written} → Lists names items t →
     Delivers (text (sheetOf header doxygen (itemsOf s t))) buffer r after →
     Delivers (text (sheetOf header doxygen (itemsAt s names items))) buffer r after
 delivered-by s header doxygen l d = rw (l .namesAre, l .itemsAre) at d

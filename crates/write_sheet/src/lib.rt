@@ -3,6 +3,7 @@ use check_sheet::judge_in;
 use decode::Decoded;
 use decode::decode;
 use format::Outline;
+use mangle::fill_full_names;
 use marks::Mark;
 use refusal::Refusal;
 use rules::Checked;
@@ -62,13 +63,14 @@ fn write_accepted(
     pool: &mut [u8; Pool::BYTES],
     buf: &mut [u8],
 ) -> Written
-    requires { ⌜ Ready (now s) (now names) (now items) (now digests) ⌝ }
+    requires { ⌜ Ready (now s) (now names) (now items) (now digests) × (now t ≡ replicate 2558 0) ⌝ }
     ensures { λ r. ⌜ Delivers
         (text (sheetOf header doxygen (itemsAt (now (s .entry)) (now (names .entry)) (now (items .entry)))))
         (now (buf .entry)) r (now (buf .exit)) ⌝ }
 {
     fill_table(names, items, t);
-    fill_pool(s, t, pool);
+    let end = fill_pool(s, t, pool);
+    fill_full_names(s, t, pool, end);
     deliver(s, t, pool, digests, header, doxygen, buf)
 }
 
@@ -86,7 +88,7 @@ fn write_judged(
     buf: &mut [u8],
 ) -> Written
     requires { ⌜ Ready (now s) (now names) (now items) (now digests) ×
-        Marked (now s) (now names) (now items) (now marks) ⌝ }
+        Marked (now s) (now names) (now items) (now marks) × (now t ≡ replicate 2558 0) ⌝ }
     ensures { λ r. ⌜ Judges
         (sheetOf header doxygen (itemsAt (now (s .entry)) (now (names .entry)) (now (items .entry))))
         (now (buf .entry)) r (now (buf .exit)) ⌝ }
@@ -122,7 +124,7 @@ fn write_decoded(
 ) -> Written
     requires { ⌜ Tables (now sheet) (decodeOf (now sheet)) o (now names) (now items) (now digests)
         (replicate places 0) (now marks) × (mostNames ≤ length (now names)) × (mostItems ≤ length (now items)) ×
-        (mostNames ≤ length (now digests)) ⌝ }
+        (mostNames ≤ length (now digests)) × (now t ≡ replicate 2558 0) ⌝ }
     ensures { λ r. ⌜ Writes (now (sheet .entry)) (now (buf .entry)) r (now (buf .exit)) ⌝ }
 {
     let n = o.names as usize;
@@ -154,7 +156,7 @@ fn answer(
     buf: &mut [u8],
 ) -> Written
     requires { ⌜ Answers (now sheet) (decodeOf (now sheet)) d (now names) (now items) (now digests)
-        (replicate places 0) (now marks) ⌝ }
+        (replicate places 0) (now marks) × (now t ≡ replicate 2558 0) ⌝ }
     ensures { λ r. ⌜ Writes (now (sheet .entry)) (now (buf .entry)) r (now (buf .exit)) ⌝ }
 {
     match d {
