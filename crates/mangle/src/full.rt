@@ -13,7 +13,7 @@ ghost use Rattle.tables.specs.Tables.{namesIn, itemsIn, Lent, Filled};
 // The longest full name: eight names of 63 bytes, with `::` before each.
 const LONGEST: usize = 520;
 
-// The full name of item i, spelled in `text`, and then in the pool behind its first `end` bytes where it fits there; the
+// The full name of item i, spelled in `text`, then in the pool behind its first `end` bytes, where it fits there; the
 // answer is the place behind it. A function's name is not spelled.
 fn fill_full_name(
     s: &[u8],

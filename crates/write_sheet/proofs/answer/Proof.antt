@@ -1,4 +1,4 @@
--- Written by tools/proofkit from answers/answer.tpl (3f434df0 2bf43efd).
+-- Written by tools/proofkit from answers/answer.tpl (b0567565 9cf51b4d).
 use borrow.Author.Needs.{needs}
 use Rattle.decode.proofs.AnswerLaws.{refused, whole}
 use Rattle.write_sheet.proofs.DeliverLaws.{writes-refused}
@@ -6,10 +6,10 @@ use Rattle.write_sheet.proofs.answer.Statement.{statement}
 use Rattle.write_sheet.proofs.answer.Tie as tie
 
 write-decoded-requires : tie.Need-write-decoded-requires
-write-decoded-requires c κs = (whole (c .before .before .before .before .before .before .before .before .before .before .before .pre) (c .before .before .before .before .before .before .before .d2 .given .1), search needs, search needs, search needs)
+write-decoded-requires c κs = (whole (c .before .before .before .before .before .before .before .before .before .before .before .pre .0) (c .before .before .before .before .before .before .before .d2 .given .1), search needs, search needs, search needs, c .before .before .before .before .before .before .before .before .before .before .before .pre .1)
 
 returns : tie.Need-returns
-returns c = writes-refused _ _ (refused (c .before .before .before .before .before .pre) (c .before .d .given .1))
+returns c = writes-refused _ _ (refused (c .before .before .before .before .before .pre .0) (c .before .d .given .1))
 
 pub answer-spec : {M : Type 1} → statement M
 answer-spec =
