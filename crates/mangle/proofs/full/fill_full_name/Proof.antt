@@ -1,4 +1,4 @@
--- Written by tools/proofkit from answers/full/fill_full_name.tpl (d1ab8717 b73f91f9).
+-- Written by tools/proofkit from answers/full/fill_full_name.tpl (5c571a0b 9f390e34).
 use borrow.Author.Needs.{needs}
 use native.Mathlib.Omega.{arith}
 use mathlib.Core.Path.{sym}
@@ -14,7 +14,7 @@ returns : tie.Need-returns
 returns c = filled-same _ (c .before .before .before .before .before .before .before .pre .0) (c .before .before .before .before .before .before .before .pre .1)
 
 write-full-name-requires : tie.Need-write-full-name-requires
-write-full-name-requires c κs = (lent-whole (c .before .before .before .before .before .before .before .before .before .before .args .end) _ (c .before .before .before .before .before .before .before .before .before .before .pre .0), c .before .before .before .before .before .before .before .before .before .before .pre .2)
+write-full-name-requires c κs = (lent-whole (c .before .before .before .before .before .before .before .before .before .before .args .end) _ (c .before .before .before .before .before .before .before .before .before .before .pre .0), omega (arith, c .before .before .before .before .before .before .before .before .before .before .pre .2))
 
 returns-2 : tie.Need-returns-2
 returns-2 c = filled-same _ (c .before .before .before .before .before .before .before .before .before .before .before .before .before .before .pre .0) (c .before .before .before .before .before .before .before .before .before .before .before .before .before .before .pre .1)

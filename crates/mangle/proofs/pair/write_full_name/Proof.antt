@@ -1,12 +1,13 @@
--- Written by tools/proofkit from answers/pair/write_full_name.tpl (e382db35 6459f4cc).
+-- Written by tools/proofkit from answers/pair/write_full_name.tpl (0f27148e 1d3763fa).
 use borrow.Author.Needs.{needs}
+use native.Mathlib.Omega.{arith}
 use Rattle.sink.proofs.SinkLaws.{wrote-as}
 use Rattle.mangle.proofs.NameLaws.{full-name}
 use Rattle.mangle.proofs.pair.write_full_name.Statement.{statement}
 use Rattle.mangle.proofs.pair.write_full_name.Tie as tie
 
 put-part-requires : tie.Need-put-part-requires
-put-part-requires c κs = c .before .before .before .before .before .before .pre .0 .full _ (c .before .before .before .before .before .before .pre .1) (c .before .before .if1 .taken) .near
+put-part-requires c κs = omega (arith, c .before .before .before .before .before .before .pre .0 .full _ (c .before .before .before .before .before .before .pre .1) (c .before .before .if1 .taken) .near)
 
 returns : tie.Need-returns
 returns c = wrote-as (c .before .before .put-part .ensures) (c .before .before .before .before .before .before .before .before .before .pre .0 .full _ (c .before .before .before .before .before .before .before .before .before .pre .1) (c .before .before .before .before .before .if1 .taken) .is)
