@@ -5,6 +5,7 @@ use tables::Pool;
 use tables::Table;
 use tables::item;
 use tables::put_name_of;
+use tables::put_part;
 ghost use Prim.Native.Nat.{_<_};
 ghost use lib.ListN.{length};
 ghost use Rattle.sink.specs.Sink.{sink, Wrote};
@@ -43,6 +44,10 @@ pub fn write_full_name(
         (fullName (itemAt (itemsOf (now (s .entry)) (now (t .entry))) i))
         (sink (now (out .exit)) r) ⌝ }
 {
+    let e = t[Table::FULL + i as usize];
+    if e != 0 {
+        return put_part(pool, e / 1024, e % 1024, out, at);
+    }
     let v = item(s, t, i);
     let outer = write_namespace(s, t, pool, v, b"::", b"", out, at);
     let here = put_bytes(out, outer, b"::");

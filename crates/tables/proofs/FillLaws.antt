@@ -5,9 +5,9 @@ use Prim.Native.Nat.{ℕ, _+_, _-_, _<_, _≤_}
 use native.Mathlib.Omega.{arith}
 use lib.ListN.{length, getD, set, take, drop, length-set, length-append, length-drop}
 use lib.Seq.{getD-set-same, getD-set-other, take-take, take-set-le, drop-set-lt, drop-set-add, take-at, drop-at}
-use lib.Seq.{length-take-le}
+use lib.Seq.{length-take-le, drop-drop, drop-append-add}
 use borrow.Rule.Slice.PartAt.{part-count}
-use borrow.Rule.Slice.PartMut.{putMid, postOf, take-put, same-len-mid}
+use borrow.Rule.Slice.PartMut.{putMid, postOf, take-put, drop-put, same-len-mid}
 use Rattle.format.specs.Limits.{mostNames, mostItems}
 use Rattle.tables.specs.Tables.{namesIn, itemsIn, Listed}
 
@@ -21,7 +21,7 @@ front-long {names} {a} t x h =
     length-append a (drop (length names) t) ∙ omega (arith, length-drop (length names) t, ap length x)
 
 pub back-room : {names a : List ℕ} (items t : List ℕ) → a ≡ names → length names ≤ mostNames → length items ≤ mostItems →
-    length t ≡ 1280 →
+    length t ≡ 2558 →
     length (take (1024 + length items - 1024) (drop 1024 (a ++ drop (length names) t))) ≡ length items
 back-room {names} {a} items t x n k l =
     part-long 1024 (length items) (a ++ drop (length names) t) (omega (arith, front-long t x (omega arith)))
@@ -83,15 +83,33 @@ module _ (p f m : ℕ) (names items t a b : List ℕ) where
         ∙ take-at b (postOf f (f + length items - f) front) (length items) (ap length y)
         ∙ y
 
+    -- what is behind all of them stays
+    pub full-rest : (r : ℕ) → f + m < r → drop r full ≡ drop r t
+    full-rest r h =
+        let e = f + length items in
+        let xr : r ≡ e + (r - e) = omega arith in
+        let yr : r ≡ length a + (r - length a) = omega (arith, ap length x) in
+        let z : length names + (r - length a) ≡ r = omega (arith, ap length x) in
+        drop-set-lt r (set both p (length names)) q (length items) (omega arith)
+        ∙ drop-set-lt r both p (length names) (omega arith)
+        ∙ ap (λ (j : ℕ). drop j both) xr
+        ∙ sym (drop-drop (r - e) e both)
+        ∙ ap (drop (r - e)) (drop-put f e front b (omega arith) (omega (arith, long-front)) (ap length y ∙ omega arith))
+        ∙ drop-drop (r - e) e front
+        ∙ ap (λ (j : ℕ). drop j front) (sym xr ∙ yr)
+        ∙ drop-append-add a (drop (length names) t) (r - length a)
+        ∙ drop-drop (r - length a) (length names) t
+        ∙ ap (λ (j : ℕ). drop j t) z
+
 pub both-long : {names items : List ℕ} (t : List ℕ) {a b : List ℕ} → a ≡ names → b ≡ items → length names ≤ mostNames →
-    length items ≤ mostItems → length t ≡ 1280 →
-    length (putMid 1024 (1024 + length items - 1024) (a ++ drop (length names) t) b) ≡ 1280
+    length items ≤ mostItems → length t ≡ 2558 →
+    length (putMid 1024 (1024 + length items - 1024) (a ++ drop (length names) t) b) ≡ 2558
 both-long {names} {items} t {a} {b} x y n k l =
     let h : 1024 + 255 < length t = omega arith in
     long-both 1023 1024 255 names items t a b (omega arith) x y n k h ∙ l
 
 pub listed : {names items : List ℕ} (t : List ℕ) {a b : List ℕ} → a ≡ names → b ≡ items → length names ≤ mostNames →
-    length items ≤ mostItems → length t ≡ 1280 → Listed names items
+    length items ≤ mostItems → length t ≡ 2558 → Listed names items
     (set (set (putMid 1024 (1024 + length items - 1024) (a ++ drop (length names) t) b) 1023 (length names)) 1279
     (length items))
 unfolding namesIn itemsIn
@@ -108,3 +126,10 @@ listed {names} {items} t {a} {b} x y n k l =
       namesCount = omega (arith, c);
       itemsCount = omega (arith, d);
     }
+
+pub words-stay : {names items : List ℕ} (t : List ℕ) {a b : List ℕ} → a ≡ names → b ≡ items → length names ≤ mostNames →
+    length items ≤ mostItems → length t ≡ 2558 →
+    drop 1280 (set (set (putMid 1024 (1024 + length items - 1024) (a ++ drop (length names) t) b) 1023 (length names)) 1279
+    (length items)) ≡ drop 1280 t
+words-stay {names} {items} t {a} {b} x y n k l =
+    full-rest 1023 1024 255 names items t a b (omega arith) x y n k (omega arith) 1280 (omega arith)

@@ -1,3 +1,3 @@
 pub mod TableLaws
 mod FillLaws
-mod SlotLaws
+pub mod PoolLaws

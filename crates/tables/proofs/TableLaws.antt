@@ -1,10 +1,10 @@
 -- The parts of a table.
-use mathlib.Core.Path.{_≡_, refl}
+use mathlib.Core.Path.{_≡_, refl, sym, ap, _∙_}
 use mathlib.Core.List.{List}
 use Prim.Native.Nat.{ℕ, _+_, _-_}
 use native.Mathlib.Omega.{arith}
-use lib.ListN.{length, getD, take, drop, length-drop}
-use lib.Seq.{length-take-le}
+use lib.ListN.{length, getD, take, drop, replicate, length-drop, length-replicate, replicate-append-replicate}
+use lib.Seq.{length-take-le, drop-at}
 use Rattle.format.specs.Bits.{widthOf}
 use Rattle.view.specs.Values.{Whole}
 use Rattle.tables.specs.Tables.{namesIn, itemsIn, Listed, Tabled}
@@ -35,3 +35,9 @@ tabled w l = record {
   items = l .itemsCount;
   whole = rw (l .namesAre, l .itemsAre) w;
 }
+
+-- the words of a table that began as zeros
+pub words-zero : {t words : List ℕ} → t ≡ replicate 2558 0 → words ≡ drop 1280 t → words ≡ replicate 1278 0
+words-zero z e =
+    e ∙ ap (drop 1280) (z ∙ sym (replicate-append-replicate 1280 1278 0))
+    ∙ drop-at (replicate 1280 0) (replicate 1278 0) 1280 (length-replicate {A = ℕ} 1280 0)

@@ -1,7 +1,7 @@
--- The table of positions and the pool of names that a writer is lent.
+-- The table of positions and the pool of texts that a writer is lent.
 use mathlib.Core.Path.{_≡_}
 use mathlib.Core.List.{List}
-use Prim.Native.Nat.{ℕ, _+_, _*_, _<_, _≤_}
+use Prim.Native.Nat.{ℕ, _+_, _/_, _%_, _<_, _≤_}
 use lib.ListN.{length, getD, take, drop}
 use lib.Seq.{slice}
 use Rattle.format.specs.Limits.{mostNames, mostItems}
@@ -9,6 +9,7 @@ use Rattle.format.specs.Decode.{many}
 use Rattle.format.specs.Decoding.{type, argument}
 use Rattle.format.specs.Types.{Ty}
 use Rattle.format.specs.Sheet as Sheet
+use Rattle.syntax.specs.Items.{itemAt, fullName}
 use Rattle.view.specs.declared.ItemView.{ItemView}
 use Rattle.view.specs.declared.FunctionView.{FunctionView}
 use Rattle.view.specs.Values.{nextOf, Yields, nameAt, namesAt, itemsAt, itemNo, functionAt, argumentAt, typeHere, Whole}
@@ -24,7 +25,7 @@ itemsIn t = take (getD t 1279 0) (drop 1024 t)
 
 -- t is the table of these names and items
 pub record Listed (names items t : List ℕ) : Type 0 where
-  pub long : length t ≡ 1280
+  pub long : length t ≡ 2558
   pub namesAre : namesIn t ≡ names
   pub itemsAre : itemsIn t ≡ items
   pub namesCount : getD t 1023 0 ≤ mostNames
@@ -46,7 +47,7 @@ argumentOf s t i j = argumentAt s (namesIn t) (itemsIn t) i j
 
 -- the table of a decoded sheet
 pub record Tabled (s t : List ℕ) : Type 0 where
-  pub long : length t ≡ 1280
+  pub long : length t ≡ 2558
   pub names : getD t 1023 0 ≤ mostNames
   pub items : getD t 1279 0 ≤ mostItems
   pub whole : Whole s (namesIn t) (itemsIn t)
@@ -75,14 +76,22 @@ behindArguments s t v =
 
 -- ---- the pool
 
--- slot i spells a name, and ends in its length
-pub record Slot (pool : List ℕ) (i : ℕ) (name : List ℕ) : Type 0 where
-  pub short : length name < 64
-  pub size : getD pool (64 * i + 63) 0 ≡ length name
-  pub text : slice (64 * i) (64 * i + length name) pool ≡ name
+-- the text is that of so many bytes from start on
+pub record Part (pool : List ℕ) (start count : ℕ) (text : List ℕ) : Type 0 where
+  pub near : start + count ≤ length pool
+  pub is : slice start (start + count) pool ≡ text
 
--- each of the first names has its slot
+-- a word that is not 0 says where its text is: that of a name from place 1280 on, the full name of an item from 2303 on
 pub record Lent (s t pool : List ℕ) : Type 0 where
   pub tabled : Tabled s t
-  pub slots : (i : ℕ) → i < length (namesIn t) → 64 * i + 63 < length pool →
-      Slot pool i (nameAt s (getD (namesIn t) i 0))
+  pub names : (i : ℕ) → i < length (namesIn t) → (getD t (1280 + i) 0 ≡ 0 → ⊥) →
+      Part pool (getD t (1280 + i) 0 / 64) (getD t (1280 + i) 0 % 64) (nameAt s (getD (namesIn t) i 0))
+  pub full : (i : ℕ) → i < length (itemsIn t) → (getD t (2303 + i) 0 ≡ 0 → ⊥) →
+      Part pool (getD t (2303 + i) 0 / 1024) (getD t (2303 + i) 0 % 1024) (fullName (itemAt (itemsOf s t) i))
+
+-- t has the names and items of `before`, and its texts are in the first bytes of the pool, up to `end`
+pub record Filled (s before t pool : List ℕ) (end : ℕ) : Type 0 where
+  pub lent : Lent s t (take end pool)
+  pub room : end ≤ length pool
+  pub sameNames : namesIn t ≡ namesIn before
+  pub sameItems : itemsIn t ≡ itemsIn before

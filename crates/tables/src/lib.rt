@@ -1,10 +1,9 @@
-// What every writer is lent beside the sheet: the positions of its names and items in one table, and the names spelled
-// in a pool. A table of known length costs a writer one register.
+// What every writer is lent beside the sheet: the positions of its names and items in one table, and their texts in a
+// pool. A table of known length costs a writer one register.
 use cursor::Cursor;
 use cursor::fields::field;
 use format::Outline;
 use format::TypeKind;
-use names::Name;
 use names::name_reads;
 use put_name::put_name;
 use sink::put_text;
@@ -15,7 +14,7 @@ use view::ItemView;
 ghost use mathlib.Core.Path.{_≡_};
 ghost use mathlib.Core.List.{[]};
 ghost use Prim.Native.Nat.{_+_, _≤_, _<_};
-ghost use lib.ListN.{length, getD};
+ghost use lib.ListN.{length, getD, drop, replicate};
 ghost use lib.Seq.{slice};
 ghost use Rattle.lexical.specs.Bytes.{same};
 ghost use Rattle.sink.specs.Sink.{sink, Wrote};
@@ -27,9 +26,10 @@ ghost use Rattle.syntax.specs.Types.{needsIndirectAbi};
 ghost use Rattle.view.specs.Values.{nameAt};
 ghost use Rattle.view.specs.Views.{kindOfType};
 ghost use Rattle.tables.specs.Tables.{namesIn, itemsIn, Listed, itemsOf, Tabled, Item};
-ghost use Rattle.tables.specs.Tables.{Function, Arguments, behindArguments, Lent, typeOf, Typed};
+ghost use Rattle.tables.specs.Tables.{Function, Arguments, behindArguments, Lent, Filled, typeOf, Typed};
 
-// The table: the positions of the names and behind them their number, then the same of the items.
+// The table: the positions of the names and behind them their number, the same of the items, and then for each name and
+// for each item one word that says where its text is in the pool, or is 0.
 pub struct Table {
     pub place: usize,
 }
@@ -42,21 +42,24 @@ impl Table {
     // Where their number stands.
     pub const ITEMS: usize = Table::FIRST + Outline::ITEMS;
 
-    pub const PLACES: usize = Table::ITEMS + 1;
+    // Where the words of the names begin: 64 times the text's first place, and its length.
+    pub const SPELLED: usize = Table::ITEMS + 1;
+    // Where the words of the items begin: 1024 times the first place of the full name, and its length.
+    pub const FULL: usize = Table::SPELLED + Outline::NAMES;
+
+    pub const PLACES: usize = Table::FULL + Outline::ITEMS;
 }
 
-// The pool: a slot for each of the first names, with the name's length in its last byte. It is lent the bytes that
-// held the edges of the structs.
+// The pool: names, one behind the other, and behind them full names. It is lent the bytes that held the edges of the
+// structs.
 pub struct Pool {
     pub place: usize,
 }
 
 impl Pool {
-    pub const SLOT: usize = Name::LONGEST + 1;
-
     pub const BYTES: usize = Traversal::HELD;
-
-    pub const SLOTS: usize = Pool::BYTES / Pool::SLOT;
+    // The most bytes that names take.
+    pub const NAMES: usize = 12000;
 }
 
 // ---- the table
@@ -73,10 +76,11 @@ fn copy_words(from: &[u32], to: &mut [u32])
     }
 }
 
-// The table of these names and items.
+// The table of these names and items; its words stay.
 pub fn fill_table(names: &[u32], items: &[u32], t: &mut [u32])
-    requires { ⌜ (length (now names) ≤ mostNames) × (length (now items) ≤ mostItems) × (length (now t) ≡ 1280) ⌝ }
-    ensures { λ _. ⌜ Listed (now (names .entry)) (now (items .entry)) (now (t .exit)) ⌝ }
+    requires { ⌜ (length (now names) ≤ mostNames) × (length (now items) ≤ mostItems) × (length (now t) ≡ 2558) ⌝ }
+    ensures { λ _. ⌜ Listed (now (names .entry)) (now (items .entry)) (now (t .exit)) ×
+        (drop 1280 (now (t .exit)) ≡ drop 1280 (now (t .entry))) ⌝ }
 {
     let n = names.len();
     let k = items.len();
@@ -171,38 +175,38 @@ pub fn reads(s: &[u8], t: &[u32], i: u32, text: &[u8]) -> bool
 
 // ---- the pool
 
-// Spells the first names, as many as there are slots.
-pub fn fill_pool(s: &[u8], t: &[u32], pool: &mut [u8])
-    requires { ⌜ Tabled (now s) (now t) ⌝ }
-    ensures { λ _. ⌜ Lent (now (s .entry)) (now (t .entry)) (now (pool .exit)) ⌝ }
+// Spells the first names, up to the first that does not fit; the answer is the place behind them.
+pub fn fill_pool(s: &[u8], t: &mut [u32], pool: &mut [u8]) -> usize
+    requires { ⌜ Tabled (now s) (now t) × (drop 1280 (now t) ≡ replicate 1278 0) × (12000 ≤ length (now pool)) ⌝ }
+    ensures { λ r. ⌜ Filled (now (s .entry)) (now (t .entry)) (now (t .exit)) (now (pool .exit)) r ⌝ }
 {
     let n = t[Table::NAMES] as usize;
-    let slots = pool.len() / Pool::SLOT;
+    let mut end: usize = 0;
     let mut i: usize = 0;
     while i < n {
-        if slots <= i {
-            return;
-        }
         let length = field(s, Cursor::new(t[i]), 6);
-        let start = Pool::SLOT * i;
-        let last = start + Name::LONGEST;
-        let end = start + length.value as usize;
-        unpack(s, length.next.at, length.value, &mut pool[start..end]);
-        pool[last] = length.value as u8;
+        let next = end + length.value as usize;
+        if Pool::NAMES < next {
+            return end;
+        }
+        unpack(s, length.next.at, length.value, &mut pool[end..next]);
+        let word = Table::SPELLED + i;
+        t[word] = end as u32 * 64 + length.value;
+        end = next;
         i = i + 1;
     }
+    end
 }
 
-// The bytes of a slot, from `start` on.
-fn put_slot(pool: &[u8], start: usize, out: &mut [u8], at: usize) -> usize
-    requires { ⌜ (start + getD (now pool) (start + 63) 0 ≤ length (now pool)) × (start + 63 < length (now pool)) ⌝ }
-    ensures { λ r. ⌜ Wrote (sink (now (out .entry)) at)
-        (slice start (start + getD (now (pool .entry)) (start + 63) 0) (now (pool .entry)))
+// So many bytes of the pool, from `start` on.
+pub fn put_part(pool: &[u8], start: u32, count: u32, out: &mut [u8], at: usize) -> usize
+    requires { ⌜ start + count ≤ length (now pool) ⌝ }
+    ensures { λ r. ⌜ Wrote (sink (now (out .entry)) at) (slice start (start + count) (now (pool .entry)))
         (sink (now (out .exit)) r) ⌝ }
 {
-    let last = start + Name::LONGEST;
-    let end = start + pool[last] as usize;
-    put_text(out, at, &pool[start..end])
+    let first = start as usize;
+    let end = first + count as usize;
+    put_text(out, at, &pool[first..end])
 }
 
 // Name i.
@@ -219,8 +223,9 @@ pub fn put_name_of(
         (nameAt (now (s .entry)) (getD (namesIn (now (t .entry))) i 0)) (sink (now (out .exit)) r) ⌝ }
 {
     let k = i as usize;
-    if Pool::SLOTS <= k {
+    let e = t[Table::SPELLED + k];
+    if e == 0 {
         return put_name(s, t[k], out, at);
     }
-    put_slot(pool, Pool::SLOT * k, out, at)
+    put_part(pool, e / 64, e % 64, out, at)
 }

@@ -1,5 +1,5 @@
 -- The text of a table's items is that of the names and items that it was filled from.
-use mathlib.Core.Path.{_≡_}
+use mathlib.Core.Path.{_≡_, _∙_}
 use mathlib.Core.List.{List}
 use mathlib.Core.Bool.{Bool}
 use Prim.Native.Nat.{ℕ}
@@ -7,14 +7,26 @@ use Rattle.bridge.specs.Write.{text}
 use Rattle.sink.specs.Sink.{Sink, Wrote}
 use Rattle.names.specs.Digests.{digestsAt}
 use Rattle.view.specs.Values.{itemsAt, Ready}
-use Rattle.tables.specs.Tables.{namesIn, itemsOf, Listed}
+use Rattle.tables.specs.Tables.{namesIn, itemsIn, itemsOf, Listed, Lent, Filled}
 use Rattle.sections.specs.Runs.{sheetOf}
 
-pub digested : {s names items digests t : List ℕ} → Ready s names items digests → Listed names items t →
+-- the lists of the table that is lent are those that it was filled from
+pub record Lists (names items t : List ℕ) : Type 0 where
+  pub namesAre : namesIn t ≡ names
+  pub itemsAre : itemsIn t ≡ items
+
+pub filled-lists : {s names items t u v pool after : List ℕ} {end : ℕ} → Listed names items t → Filled s t u pool end →
+    Lent s v after × (namesIn v ≡ namesIn u) × (itemsIn v ≡ itemsIn u) → Lists names items v
+filled-lists l f g = record {
+  namesAre = g .1 ∙ f .sameNames ∙ l .namesAre;
+  itemsAre = g .2 ∙ f .sameItems ∙ l .itemsAre;
+}
+
+pub digested : {s names items digests t : List ℕ} → Ready s names items digests → Lists names items t →
     digests ≡ digestsAt s (namesIn t)
 digested r l = rw (l .namesAre) (r .digested)
 
-pub text-of : (s : List ℕ) {names items t : List ℕ} (header doxygen : Bool) {before after : Sink} → Listed names items t →
+pub text-of : (s : List ℕ) {names items t : List ℕ} (header doxygen : Bool) {before after : Sink} → Lists names items t →
     Wrote before (text (sheetOf header doxygen (itemsOf s t))) after →
     Wrote before (text (sheetOf header doxygen (itemsAt s names items))) after
 text-of s header doxygen l w = rw (l .namesAre, l .itemsAre) at w

@@ -3,6 +3,7 @@
 use content::flush;
 use format::ItemKind;
 use forward::write_forward_declarations;
+use mangle::fill_full_names;
 use out::Content;
 use out::next_section;
 use out::placed;
@@ -261,6 +262,7 @@ pub fn write_text(
 {
     let mut t = [0u32; Table::PLACES];
     fill_table(names, items, &mut t);
-    fill_pool(s, &t, pool);
+    let end = fill_pool(s, &mut t, pool);
+    fill_full_names(s, &mut t, pool, end);
     write_tabled(s, &t, pool, digests, header, doxygen, out)
 }

@@ -1,10 +1,10 @@
--- Written by tools/proofkit from answers/fill_table.tpl (23c09a79 9440d89c).
+-- Written by tools/proofkit from answers/fill_table.tpl (a04b1306 c4916ed1).
 use borrow.Author.Needs.{needs}
 use native.Mathlib.Omega.{arith}
 use mathlib.Core.Path.{sym, _∙_}
 use lib.ListN.{length-set}
 use lib.Seq.{length-take-le}
-use Rattle.tables.proofs.FillLaws.{front-long, back-room, both-long, listed}
+use Rattle.tables.proofs.FillLaws.{front-long, back-room, both-long, listed, words-stay}
 use Rattle.tables.proofs.fill_table.Statement.{statement}
 use Rattle.tables.proofs.fill_table.Tie as tie
 
@@ -36,7 +36,10 @@ same-length c =
     simp length-set (long ∙ sym (c .before .before .before .before .before .before .before .before .before .before .before .pre .2))
 
 returns : tie.Need-returns
-returns c = listed _ (c .before .before .before .before .before .before .copy-words .ensures) (c .before .before .copy-words2 .ensures) (c .before .before .before .before .before .before .before .before .before .before .before .pre .0) (c .before .before .before .before .before .before .before .before .before .before .before .pre .1) (c .before .before .before .before .before .before .before .before .before .before .before .pre .2)
+returns c = (
+  listed _ (c .before .before .before .before .before .before .copy-words .ensures) (c .before .before .copy-words2 .ensures) (c .before .before .before .before .before .before .before .before .before .before .before .pre .0) (c .before .before .before .before .before .before .before .before .before .before .before .pre .1) (c .before .before .before .before .before .before .before .before .before .before .before .pre .2),
+  words-stay _ (c .before .before .before .before .before .before .copy-words .ensures) (c .before .before .copy-words2 .ensures) (c .before .before .before .before .before .before .before .before .before .before .before .pre .0) (c .before .before .before .before .before .before .before .before .before .before .before .pre .1) (c .before .before .before .before .before .before .before .before .before .before .before .pre .2),
+)
 
 pub fill-table-spec : {M : Type 1} → statement M
 fill-table-spec =
