@@ -32,7 +32,7 @@ use Rattle.types.proofs.KindLaws.{body-type}
 use Rattle.write_atom.specs.Texts.{spaceOfKind}
 use Rattle.write_type.proofs.TypeLaws.{space-is}
 use Rattle.shape.specs.declared.count.Inner.{Inner}
-use Rattle.shape.specs.Counts.{aroundOf, constOf, moreOf, InnerOf, writeTypeAs, Counts, CountsPast}
+use Rattle.shape.specs.Counts.{aroundOf, constOf, moreOf, InnerOf, writeTypeAs, Counts}
 
 -- ---- numbers that a match leaves
 
@@ -434,16 +434,7 @@ module _ (n : ℕ) (s : List ℕ) (items : List Item) where
 pub counts-none : (text : List ℕ) → Counts text 0
 counts-none text = record { exact = λ h. absurd (h refl) }
 
-module _ {size at : ℕ} {text : List ℕ} where
-  pub counts-past : {r : ℕ} → size < at → Counts text r → CountsPast size at text r
-  counts-past l c = record { past = λ h. l; exact = c .exact }
-
-  pub counts-nothing : CountsPast size at text 0
-  counts-nothing = record { past = λ h. absurd (h refl); exact = λ h. absurd (h refl) }
-
--- a text that was counted
-pub wrote-counted : {l text : List ℕ} {at n r : ℕ} → CountsPast (length l) at text n → 0 < n → at ≤ limit →
+-- a text that was counted, where the buffer ends before the place
+pub wrote-counted : {l text : List ℕ} {at n r : ℕ} → length l < at → Counts text n → 0 < n → at ≤ limit →
     r ≡ min limit (at + n) → Wrote (sink l at) text (sink l r)
-wrote-counted {n = n} c h g e =
-    let some : (n ≡ 0 → ⊥) = λ z. omega arith in
-    wrote-none (sym (c .exact some)) (omega (arith, c .past some)) g e
+wrote-counted past c h g e = wrote-none (sym (c .exact (λ z. omega arith))) (omega arith) g e

@@ -2,7 +2,7 @@
 use mathlib.Core.Path.{_≡_}
 use mathlib.Core.List.{List, _++_}
 use mathlib.Core.Bool.{Bool, true, false}
-use Prim.Native.Nat.{ℕ, _+_, _<_}
+use Prim.Native.Nat.{ℕ, _+_}
 use lib.Dec.{eqb}
 use lib.ListN.{length}
 use Rattle.lexical.specs.Bytes.{bytes}
@@ -67,9 +67,4 @@ writeTypeAs false items t = writeType items t
 
 -- r is the length of the text, or 0
 pub record Counts (text : List ℕ) (r : ℕ) : Type 0 where
-  pub exact : (r ≡ 0 → ⊥) → r ≡ length text
-
--- r is the length of the text, and a buffer of length `size` ends before the place; or r is 0
-pub record CountsPast (size at : ℕ) (text : List ℕ) (r : ℕ) : Type 0 where
-  pub past : (r ≡ 0 → ⊥) → size < at
   pub exact : (r ≡ 0 → ⊥) → r ≡ length text

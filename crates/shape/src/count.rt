@@ -16,7 +16,7 @@ ghost use Rattle.view.specs.Views.{prefixOf};
 ghost use Rattle.write_atom.specs.Texts.{spaceOfKind};
 ghost use Rattle.write_type.specs.TypeAt.{tyAt};
 ghost use Rattle.tables.specs.Tables.{itemsIn, itemsOf};
-ghost use Rattle.shape.specs.Counts.{aroundOf, constOf, InnerOf, writeTypeAs, Counts, CountsPast};
+ghost use Rattle.shape.specs.Counts.{aroundOf, constOf, InnerOf, writeTypeAs, Counts};
 
 // ---- lengths, by the number of an atom or of a kind
 
@@ -142,7 +142,7 @@ fn inner_type(s: &[u8], at: u32, k: u32) -> Inner
 
 // The length of the type at c, with the space behind it or without; 0 where it is not counted, for a named type, Fn or
 // Array in it.
-fn count_type(s: &[u8], t: &[u32; Table::PLACES], c: Cursor, levels: u32, spaced: bool) -> usize
+pub fn count_type(s: &[u8], t: &[u32; Table::PLACES], c: Cursor, levels: u32, spaced: bool) -> usize
     requires { ⌜ Limited (now s) ×
         Yields (typeAt (length (itemsIn (now t))) levels (now s) (c .at))
         (tyAt (length (itemsIn (now t))) levels (now s) (c .at)) ⌝ }
@@ -166,28 +166,6 @@ fn count_type(s: &[u8], t: &[u32; Table::PLACES], c: Cursor, levels: u32, spaced
     }
     if k == 9 {
         return sum + 11;
-    }
-    0
-}
-
-// The same where a buffer of length `len` ends before the place, so that no text has room there; 0 elsewhere.
-pub fn count_past(
-    s: &[u8],
-    t: &[u32; Table::PLACES],
-    c: Cursor,
-    levels: u32,
-    spaced: bool,
-    len: usize,
-    at: usize,
-) -> usize
-    requires { ⌜ Limited (now s) ×
-        Yields (typeAt (length (itemsIn (now t))) levels (now s) (c .at))
-        (tyAt (length (itemsIn (now t))) levels (now s) (c .at)) ⌝ }
-    ensures { λ r. ⌜ CountsPast len at (writeTypeAs spaced (itemsOf (now (s .entry)) (now (t .entry)))
-        (tyAt (length (itemsIn (now (t .entry)))) levels (now (s .entry)) (c .at))) r ⌝ }
-{
-    if len < at {
-        return count_type(s, t, c, levels, spaced);
     }
     0
 }

@@ -1,7 +1,7 @@
 // The types that a call treats in a way of their own, and what a declaration and a shim write alike.
 mod count;
 
-use crate::count::count_past;
+use crate::count::count_type;
 use cursor::Cursor;
 use cursor::fields::field;
 use format::Pointer;
@@ -148,9 +148,11 @@ pub fn write_outermost(
         (writeType (itemsOf (now (s .entry)) (now (t .entry)))
         (typeOf (now (s .entry)) (now (t .entry)) (c .at))) (sink (now (out .exit)) r) ⌝ }
 {
-    let n = count_past(s, t, c, Levels::MOST, false, out.len(), at);
-    if 0 < n {
-        return advance(at, n);
+    if out.len() < at {
+        let n = count_type(s, t, c, Levels::MOST, false);
+        if 0 < n {
+            return advance(at, n);
+        }
     }
     let walked = write_type(s, t, pool, c, Levels::MOST, out, at);
     walked.at
@@ -173,9 +175,11 @@ fn write_spaced(
         (writeTypeSpace (itemsOf (now (s .entry)) (now (t .entry)))
         (tyAt (length (itemsIn (now (t .entry)))) levels (now (s .entry)) (c .at))) (sink (now (out .exit)) r) ⌝ }
 {
-    let n = count_past(s, t, c, levels, true, out.len(), at);
-    if 0 < n {
-        return advance(at, n);
+    if out.len() < at {
+        let n = count_type(s, t, c, levels, true);
+        if 0 < n {
+            return advance(at, n);
+        }
     }
     let walked = write_type_space(s, t, pool, c, levels, out, at);
     walked.at

@@ -1,4 +1,4 @@
--- Written by tools/proofkit from answers/write_outermost.tpl (68f1402e 43e9f858).
+-- Written by tools/proofkit from answers/write_outermost.tpl (c2f18065 44e1415d).
 use borrow.Author.Needs.{needs}
 use native.Mathlib.Omega.{arith}
 use Rattle.write_type.proofs.TypeLaws.{outermost-yields}
@@ -7,14 +7,14 @@ use Rattle.shape.proofs.CountLaws.{wrote-counted}
 use Rattle.shape.proofs.write_outermost.Statement.{statement}
 use Rattle.shape.proofs.write_outermost.Tie as tie
 
-count-past-requires : tie.Need-count-past-requires
-count-past-requires c κs = (c .before .before .pre .0 .tabled .whole .named .limited, outermost-yields _ _ _ (c .before .before .pre .1))
+count-type-requires : tie.Need-count-type-requires
+count-type-requires c κs = (c .before .before .before .pre .0 .tabled .whole .named .limited, outermost-yields _ _ _ (c .before .before .before .pre .1))
 
 returns : tie.Need-returns
-returns c = rw (type-at _ _ _) (wrote-counted (c .before .before .count-past .ensures) (c .before .if1 .taken) (omega arith) (c .advance .ensures))
+returns c = rw (type-at _ _ _) (wrote-counted (c .before .before .before .if1 .taken) (c .before .before .count-type .ensures) (c .before .if2 .taken) (omega arith) (c .advance .ensures))
 
 write-type-requires : tie.Need-write-type-requires
-write-type-requires c κs = (c .before .before .before .before .before .pre .0, outermost-yields _ _ _ (c .before .before .before .before .before .pre .1))
+write-type-requires c κs = (c .before .before .before .before .pre .0, outermost-yields _ _ _ (c .before .before .before .before .pre .1))
 
 returns-2 : tie.Need-returns-2
 returns-2 c = rw (type-at _ _ _) (c .before .before .write-type .ensures .0)
@@ -23,7 +23,7 @@ pub write-outermost-spec : {M : Type 1} → statement M
 write-outermost-spec =
     tie.close
     (tie.spec
-    count-past-requires
+    count-type-requires
     (λ c κs. search needs)
     returns
     write-type-requires

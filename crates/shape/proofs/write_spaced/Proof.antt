@@ -1,4 +1,4 @@
--- Written by tools/proofkit from answers/write_spaced.tpl (55106043 30cb08f4).
+-- Written by tools/proofkit from answers/write_spaced.tpl (ae676f40 0d951a3e).
 use borrow.Author.Needs.{needs}
 use native.Mathlib.Omega.{arith}
 use Rattle.shape.proofs.CountLaws.{wrote-counted}
@@ -6,7 +6,7 @@ use Rattle.shape.proofs.write_spaced.Statement.{statement}
 use Rattle.shape.proofs.write_spaced.Tie as tie
 
 returns : tie.Need-returns
-returns c = wrote-counted (c .before .before .count-past .ensures) (c .before .if1 .taken) (omega arith) (c .advance .ensures)
+returns c = wrote-counted (c .before .before .before .if1 .taken) (c .before .before .count-type .ensures) (c .before .if2 .taken) (omega arith) (c .advance .ensures)
 
 pub write-spaced-spec : {M : Type 1} → statement M
 write-spaced-spec =
