@@ -13,6 +13,9 @@ ghost use Rattle.tables.specs.Tables.{namesIn, itemsIn, Lent, Filled};
 // The longest full name: eight names of 63 bytes, with `::` before each.
 const LONGEST: usize = 520;
 
+// A sheet of at most so many bytes names a type too seldom for this to pay.
+const SMALL: usize = 512;
+
 // The full name of item i, spelled in `text`, then in the pool behind its first `end` bytes, where it fits there; the
 // answer is the place behind it. A function's name is not spelled.
 fn fill_full_name(
@@ -44,7 +47,7 @@ fn fill_full_name(
     end + count
 }
 
-// The full names of all types, in the pool behind its first `from` bytes.
+// The full names of all types, in the pool behind its first `from` bytes; none of a small sheet.
 pub fn fill_full_names(
     s: &[u8],
     t: &mut [u32; Table::PLACES],
@@ -56,6 +59,9 @@ pub fn fill_full_names(
         (namesIn (now (t .exit)) ≡ namesIn (now (t .entry))) ×
         (itemsIn (now (t .exit)) ≡ itemsIn (now (t .entry))) ⌝ }
 {
+    if s.len() <= SMALL {
+        return;
+    }
     let n = t[Table::ITEMS];
     let mut text = [0u8; LONGEST];
     let mut end = from;

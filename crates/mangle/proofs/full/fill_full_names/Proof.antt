@@ -1,4 +1,4 @@
--- Written by tools/proofkit from answers/full/fill_full_names.tpl (ff3e5231 f2693af8).
+-- Written by tools/proofkit from answers/full/fill_full_names.tpl (6f432133 8c804965).
 use borrow.Author.Needs.{needs}
 use native.Mathlib.Omega.{arith}
 use Prim.Native.Nat.{_≤_, _-_}
@@ -16,19 +16,22 @@ abbrev μ-loop : tie.MeasureT-loop
 μ-loop s t₀ pool₀ from n text₀ end₀ i₀ t pool text end i = n - i
 
 loop-holds : tie.Need-loop-holds Inv-loop μ-loop
-loop-holds c = (omega arith, refl, filled-same _ (c .before .before .pre .0) (c .before .before .pre .1))
+loop-holds c = (omega arith, refl, filled-same _ (c .before .before .before .pre .0) (c .before .before .before .pre .1))
 
 fill-full-name-requires : tie.Need-fill-full-name-requires Inv-loop μ-loop
-fill-full-name-requires c κs = (c .before .before .before .before .loop .inv .2 .lent, c .before .before .before .before .loop .inv .2 .room, item-left (c .before .before .before .before .loop .inv .2) (c .before .before .before .before .before .before .before .pre .0 .tabled) (omega arith), c .before .before .before .before .loop .inv .1)
+fill-full-name-requires c κs = (c .before .before .before .before .loop .inv .2 .lent, c .before .before .before .before .loop .inv .2 .room, item-left (c .before .before .before .before .loop .inv .2) (c .before .before .before .before .before .before .before .before .pre .0 .tabled) (omega arith), c .before .before .before .before .loop .inv .1)
 
 add-i : tie.Need-add-i Inv-loop μ-loop
-add-i c = omega (arith, c .before .before .before .before .before .before .before .before .before .pre .0 .tabled .items)
+add-i c = omega (arith, c .before .before .before .before .before .before .before .before .before .before .pre .0 .tabled .items)
 
 loop-again : tie.Need-loop-again Inv-loop μ-loop
 loop-again c = (omega arith, search (needs, c .before .before .before .before .before .before .loop .inv .1), filled-next (c .before .before .before .before .before .before .loop .inv .2) (c .before .fill-full-name .ensures))
 
 returns : tie.Need-returns Inv-loop μ-loop
-returns c = filled-all (c .before .loop .inv .2)
+returns c = filled-all (filled-same _ (c .before .before .pre .0) (c .before .before .pre .1))
+
+returns-2 : tie.Need-returns-2 Inv-loop μ-loop
+returns-2 c = filled-all (c .before .loop .inv .2)
 
 pub fill-full-names-spec : {M : Type 1} → statement M
 fill-full-names-spec =
@@ -36,6 +39,7 @@ fill-full-names-spec =
     (tie.spec
     Inv-loop
     μ-loop
+    returns
     (λ c. search needs)
     loop-holds
     (λ c. search needs)
@@ -43,4 +47,4 @@ fill-full-names-spec =
     add-i
     (λ c. search needs)
     loop-again
-    returns)
+    returns-2)
