@@ -1,6 +1,7 @@
 // What out.rs does to the state of a text, and what nested.rs asks of items, by the table of names and items.
 use nested::EnumView;
 use out::Content;
+use tables::Pool;
 use tables::Table;
 use view::ItemView;
 ghost use mathlib.Core.Path.{_≡_};
@@ -13,7 +14,7 @@ ghost use Rattle.nested.specs.Groups.{EnumOf, isDirect, Next};
 ghost use Rattle.pieces.specs.Between.{named};
 ghost use Rattle.out.specs.State.{Listed, Standing, inside};
 ghost use Rattle.out.specs.Steps.{Turns, Sets, Prepares, Flushes};
-ghost use Rattle.tables.specs.Tables.{namesIn, itemsIn, itemsOf, itemOf, Tabled, Item};
+ghost use Rattle.tables.specs.Tables.{namesIn, itemsIn, itemsOf, itemOf, Tabled, Lent, Item};
 
 // The namespace of an item.
 pub fn set_namespace(s: &[u8], t: &[u32], digests: &[u32], c: Content, v: ItemView) -> Content
@@ -47,22 +48,33 @@ pub fn end_extern_c(s: &[u8], t: &[u32], digests: &[u32], c: Content) -> Content
 }
 
 // What `write` does before it appends a text that is not empty.
-pub fn prepare(s: &[u8], t: &[u32], c: Content, out: &mut [u8]) -> Content
-    requires { ⌜ Tabled (now s) (now t) × Listed (namesIn (now t)) c ⌝ }
+pub fn prepare(
+    s: &[u8],
+    t: &[u32; Table::PLACES],
+    pool: &[u8; Pool::BYTES],
+    c: Content,
+    out: &mut [u8],
+) -> Content
+    requires { ⌜ Lent (now s) (now t) (now pool) × Listed (namesIn (now t)) c ⌝ }
     ensures { λ r. ⌜ Prepares (now (s .entry)) (namesIn (now (t .entry))) (now (out .entry)) (now (out .exit)) c r ⌝ }
 {
-    let n = t[Table::NAMES] as usize;
-    out::prepare(s, &t[..n], c, out)
+    out::prepare(s, t, pool, c, out)
 }
 
 // The end of the text: every block is closed.
-pub fn flush(s: &[u8], t: &[u32], digests: &[u32], c: Content, out: &mut [u8]) -> usize
-    requires { ⌜ Tabled (now s) (now t) × (now digests ≡ digestsAt (now s) (namesIn (now t))) ×
+pub fn flush(
+    s: &[u8],
+    t: &[u32; Table::PLACES],
+    pool: &[u8; Pool::BYTES],
+    digests: &[u32],
+    c: Content,
+    out: &mut [u8],
+) -> usize
+    requires { ⌜ Lent (now s) (now t) (now pool) × (now digests ≡ digestsAt (now s) (namesIn (now t))) ×
         Standing (now s) (namesIn (now t)) named c ⌝ }
     ensures { λ r. ⌜ Flushes (now (s .entry)) (namesIn (now (t .entry))) (now (out .entry)) (now (out .exit)) c r ⌝ }
 {
-    let n = t[Table::NAMES] as usize;
-    out::flush(s, &t[..n], digests, c, out)
+    out::flush(s, t, pool, digests, c, out)
 }
 
 // ---- nested.rs

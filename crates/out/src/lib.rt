@@ -4,9 +4,11 @@ use cursor::Cursor;
 use cursor::fields::field;
 use cursor::width;
 use names::same_name;
-use put_name::put_name;
 use sink::put_bytes;
 use sink::put_when;
+use tables::Pool;
+use tables::Table;
+use tables::put_name_of;
 use view::ItemView;
 ghost use mathlib.Core.Path.{_≡_};
 ghost use mathlib.Core.List.{[]};
@@ -23,6 +25,7 @@ ghost use Rattle.view.specs.Views.{ItemAt};
 ghost use Rattle.bridge.specs.Block as block;
 ghost use Rattle.bridge.specs.Out as machine;
 ghost use Rattle.pieces.specs.Between.{named};
+ghost use Rattle.tables.specs.Tables.{namesIn, Tabled, Lent};
 ghost use Rattle.out.specs.State.{blockOf, boundaryOf, KnownBlock, Known, pendingOf, Listed, namespaceAt, Spaces};
 ghost use Rattle.out.specs.State.{SmallBlock, Small, packedBlock, packed, unpackedBlock, unpacked};
 ghost use Rattle.out.specs.State.{maxPending, Standing, inside};
@@ -37,37 +40,57 @@ pub enum Block {
     ExternC,
 }
 
-fn write_common(s: &[u8], names: &[u32], b: Block, out: &mut [u8], at: usize) -> usize
-    requires { ⌜ Named (now s) (now names) × KnownBlock (now names) b ⌝ }
+fn write_common(
+    s: &[u8],
+    t: &[u32; Table::PLACES],
+    pool: &[u8; Pool::BYTES],
+    b: Block,
+    out: &mut [u8],
+    at: usize,
+) -> usize
+    requires { ⌜ Lent (now s) (now t) (now pool) × KnownBlock (namesIn (now t)) b ⌝ }
     ensures { λ r. ⌜ Wrote (sink (now (out .entry)) at)
-        (block.writeCommon (blockOf (now (s .entry)) (now (names .entry)) b)) (sink (now (out .exit)) r) ⌝ }
+        (block.writeCommon (blockOf (now (s .entry)) (namesIn (now (t .entry))) b)) (sink (now (out .exit)) r) ⌝ }
 {
     match b {
         Block::UserDefinedNamespace(name) => {
             let next = put_bytes(out, at, b"namespace ");
-            let k = name as usize;
-            put_name(s, names[k], out, next)
+            put_name_of(s, t, pool, name, out, next)
         }
         Block::ExternC => put_bytes(out, at, b"extern \"C\""),
     }
 }
 
-fn write_begin(s: &[u8], names: &[u32], b: Block, out: &mut [u8], at: usize) -> usize
-    requires { ⌜ Named (now s) (now names) × KnownBlock (now names) b ⌝ }
+fn write_begin(
+    s: &[u8],
+    t: &[u32; Table::PLACES],
+    pool: &[u8; Pool::BYTES],
+    b: Block,
+    out: &mut [u8],
+    at: usize,
+) -> usize
+    requires { ⌜ Lent (now s) (now t) (now pool) × KnownBlock (namesIn (now t)) b ⌝ }
     ensures { λ r. ⌜ Wrote (sink (now (out .entry)) at)
-        (block.writeBegin (blockOf (now (s .entry)) (now (names .entry)) b)) (sink (now (out .exit)) r) ⌝ }
+        (block.writeBegin (blockOf (now (s .entry)) (namesIn (now (t .entry))) b)) (sink (now (out .exit)) r) ⌝ }
 {
-    let next = write_common(s, names, b, out, at);
+    let next = write_common(s, t, pool, b, out, at);
     put_bytes(out, next, b" {\n")
 }
 
-fn write_end(s: &[u8], names: &[u32], b: Block, out: &mut [u8], at: usize) -> usize
-    requires { ⌜ Named (now s) (now names) × KnownBlock (now names) b ⌝ }
+fn write_end(
+    s: &[u8],
+    t: &[u32; Table::PLACES],
+    pool: &[u8; Pool::BYTES],
+    b: Block,
+    out: &mut [u8],
+    at: usize,
+) -> usize
+    requires { ⌜ Lent (now s) (now t) (now pool) × KnownBlock (namesIn (now t)) b ⌝ }
     ensures { λ r. ⌜ Wrote (sink (now (out .entry)) at)
-        (block.writeEnd (blockOf (now (s .entry)) (now (names .entry)) b)) (sink (now (out .exit)) r) ⌝ }
+        (block.writeEnd (blockOf (now (s .entry)) (namesIn (now (t .entry))) b)) (sink (now (out .exit)) r) ⌝ }
 {
     let next = put_bytes(out, at, b"} // ");
-    let end = write_common(s, names, b, out, next);
+    let end = write_common(s, t, pool, b, out, next);
     put_bytes(out, end, b"\n")
 }
 
@@ -390,29 +413,36 @@ fn is_end(boundary: Boundary) -> bool
 // One turn of its loop.
 fn flush_boundary(
     s: &[u8],
-    names: &[u32],
+    t: &[u32; Table::PLACES],
+    pool: &[u8; Pool::BYTES],
     boundary: Boundary,
     section: bool,
     out: &mut [u8],
     at: usize,
 ) -> usize
-    requires { ⌜ Named (now s) (now names) × Known (now names) boundary ⌝ }
+    requires { ⌜ Lent (now s) (now t) (now pool) × Known (namesIn (now t)) boundary ⌝ }
     ensures { λ r. ⌜ Wrote (sink (now (out .entry)) at) (boundaryText section
-        (boundaryOf (now (s .entry)) (now (names .entry)) boundary)) (sink (now (out .exit)) r) ⌝ }
+        (boundaryOf (now (s .entry)) (namesIn (now (t .entry))) boundary)) (sink (now (out .exit)) r) ⌝ }
 {
     match boundary {
         Boundary::Begin(block) => {
             let next = put_when(out, at, section, b"\n");
-            write_begin(s, names, block, out, next)
+            write_begin(s, t, pool, block, out, next)
         }
-        Boundary::End(block) => write_end(s, names, block, out, at),
+        Boundary::End(block) => write_end(s, t, pool, block, out, at),
     }
 }
 
 // Its loop.
-fn flush_all(s: &[u8], names: &[u32], c: Content, out: &mut [u8]) -> Flushed
-    requires { ⌜ Named (now s) (now names) × Listed (now names) c ⌝ }
-    ensures { λ r. ⌜ Flushing (now (s .entry)) (now (names .entry)) (now (out .entry)) (now (out .exit))
+fn flush_all(
+    s: &[u8],
+    t: &[u32; Table::PLACES],
+    pool: &[u8; Pool::BYTES],
+    c: Content,
+    out: &mut [u8],
+) -> Flushed
+    requires { ⌜ Lent (now s) (now t) (now pool) × Listed (namesIn (now t)) c ⌝ }
+    ensures { λ r. ⌜ Flushing (now (s .entry)) (namesIn (now (t .entry))) (now (out .entry)) (now (out .exit))
         machine.flushAll c r ⌝ }
 {
     let mut at = c.at;
@@ -421,16 +451,22 @@ fn flush_all(s: &[u8], names: &[u32], c: Content, out: &mut [u8]) -> Flushed
     while i < c.count {
         let p = c.pending[i];
         let boundary = unpack(p);
-        at = flush_boundary(s, names, boundary, section, out, at);
+        at = flush_boundary(s, t, pool, boundary, section, out, at);
         section = is_end(boundary);
         i = i + 1;
     }
     Flushed { at, section }
 }
 
-fn flush_blocks(s: &[u8], names: &[u32], c: Content, out: &mut [u8]) -> Flushed
-    requires { ⌜ Named (now s) (now names) × Listed (now names) c ⌝ }
-    ensures { λ r. ⌜ Flushing (now (s .entry)) (now (names .entry)) (now (out .entry)) (now (out .exit))
+fn flush_blocks(
+    s: &[u8],
+    t: &[u32; Table::PLACES],
+    pool: &[u8; Pool::BYTES],
+    c: Content,
+    out: &mut [u8],
+) -> Flushed
+    requires { ⌜ Lent (now s) (now t) (now pool) × Listed (namesIn (now t)) c ⌝ }
+    ensures { λ r. ⌜ Flushing (now (s .entry)) (namesIn (now (t .entry))) (now (out .entry)) (now (out .exit))
         (λ _ m. machine.flushBlocks m) c r ⌝ }
 {
     if c.count == 0 {
@@ -439,7 +475,7 @@ fn flush_blocks(s: &[u8], names: &[u32], c: Content, out: &mut [u8]) -> Flushed
             section: c.section_pending,
         };
     }
-    flush_all(s, names, c, out)
+    flush_all(s, t, pool, c, out)
 }
 
 // ---- write and flush
@@ -455,11 +491,17 @@ fn is_blank(f: Flushed) -> bool
 }
 
 // What `write` does before it appends a text that is not empty.
-pub fn prepare(s: &[u8], names: &[u32], mut c: Content, out: &mut [u8]) -> Content
-    requires { ⌜ Named (now s) (now names) × Listed (now names) c ⌝ }
-    ensures { λ r. ⌜ Prepares (now (s .entry)) (now (names .entry)) (now (out .entry)) (now (out .exit)) c r ⌝ }
+pub fn prepare(
+    s: &[u8],
+    t: &[u32; Table::PLACES],
+    pool: &[u8; Pool::BYTES],
+    mut c: Content,
+    out: &mut [u8],
+) -> Content
+    requires { ⌜ Lent (now s) (now t) (now pool) × Listed (namesIn (now t)) c ⌝ }
+    ensures { λ r. ⌜ Prepares (now (s .entry)) (namesIn (now (t .entry))) (now (out .entry)) (now (out .exit)) c r ⌝ }
 {
-    let f = flush_blocks(s, names, c, out);
+    let f = flush_blocks(s, t, pool, c, out);
     let blank = is_blank(f);
     let at = put_when(out, f.at, blank, b"\n");
     c.at = at;
@@ -468,14 +510,31 @@ pub fn prepare(s: &[u8], names: &[u32], mut c: Content, out: &mut [u8]) -> Conte
     c
 }
 
-// The end of the text: every block is closed.
-pub fn flush(s: &[u8], names: &[u32], digests: &[u32], c: Content, out: &mut [u8]) -> usize
-    requires { ⌜ Named (now s) (now names) × (now digests ≡ digestsAt (now s) (now names)) ×
-        Standing (now s) (now names) named c ⌝ }
-    ensures { λ r. ⌜ Flushes (now (s .entry)) (now (names .entry)) (now (out .entry)) (now (out .exit)) c r ⌝ }
+// No namespace is set.
+fn set_none(s: &[u8], t: &[u32], digests: &[u32], c: Content) -> Content
+    requires { ⌜ Tabled (now s) (now t) × (now digests ≡ digestsAt (now s) (namesIn (now t))) ×
+        Standing (now s) (namesIn (now t)) named c ⌝ }
+    ensures { λ r. ⌜ Sets (now (s .entry)) (namesIn (now (t .entry))) [] c r ⌝ }
 {
+    let n = t[Table::NAMES] as usize;
     let spaces = Cursor::new(0);
-    let outermost = set_spaces(s, names, digests, c, spaces, 0);
-    let f = flush_blocks(s, names, outermost, out);
+    set_spaces(s, &t[..n], digests, c, spaces, 0)
+}
+
+// The end of the text: every block is closed.
+pub fn flush(
+    s: &[u8],
+    t: &[u32; Table::PLACES],
+    pool: &[u8; Pool::BYTES],
+    digests: &[u32],
+    c: Content,
+    out: &mut [u8],
+) -> usize
+    requires { ⌜ Lent (now s) (now t) (now pool) × (now digests ≡ digestsAt (now s) (namesIn (now t))) ×
+        Standing (now s) (namesIn (now t)) named c ⌝ }
+    ensures { λ r. ⌜ Flushes (now (s .entry)) (namesIn (now (t .entry))) (now (out .entry)) (now (out .exit)) c r ⌝ }
+{
+    let outermost = set_none(s, t, digests, c);
+    let f = flush_blocks(s, t, pool, outermost, out);
     f.at
 }

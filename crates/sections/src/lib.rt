@@ -55,7 +55,7 @@ pub fn write_rust_function_decl(
     let inside = set_namespace(s, t, digests, c, v);
     let begun = begin_extern_c(s, t, digests, inside);
     let asked = next_section(begun);
-    let ready = prepare(s, t, asked, out);
+    let ready = prepare(s, t, pool, asked, out);
     let at = write_function_decl(s, t, pool, v, f, offsets, out, ready.at);
     let written = placed(ready, at);
     end_extern_c(s, t, digests, written)
@@ -78,7 +78,7 @@ pub fn write_opaque_type_layout_decls(
 {
     let inside = set_namespace(s, t, digests, c, v);
     let begun = begin_extern_c(s, t, digests, inside);
-    let ready = prepare(s, t, begun, out);
+    let ready = prepare(s, t, pool, begun, out);
     let next = write_layout_decl(s, t, pool, v, b"sizeof", out, ready.at);
     let at = write_layout_decl(s, t, pool, v, b"alignof", out, next);
     let written = placed(ready, at);
@@ -106,7 +106,7 @@ fn write_layout(
         (now (member .entry)) (now (name .entry)))) c r ⌝ }
 {
     let asked = next_section(c);
-    let ready = prepare(s, t, asked, out);
+    let ready = prepare(s, t, pool, asked, out);
     let at = write_layout_definition(s, t, pool, v, member, name, out, ready.at);
     placed(ready, at)
 }
@@ -170,7 +170,7 @@ pub fn write_rust_function_shim(
     if hidden {
         return inside;
     }
-    let ready = prepare(s, t, inside, out);
+    let ready = prepare(s, t, pool, inside, out);
     let at = write_function_shim(
         s,
         t,

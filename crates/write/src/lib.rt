@@ -220,7 +220,7 @@ fn write_body(
 {
     let mut offsets = [0u32; FunctionView::ARGUMENTS];
     let written = write_functions(s, t, pool, digests, header, doxygen, &mut offsets, c, out);
-    flush(s, t, digests, written, out)
+    flush(s, t, pool, digests, written, out)
 }
 
 // The text by its table and pool.

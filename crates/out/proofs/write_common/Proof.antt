@@ -1,17 +1,14 @@
--- Written by tools/proofkit from answers/write_common.tpl (ab083246 5a0daa25).
+-- Written by tools/proofkit from answers/write_common.tpl (464b1e98 a6a5ee29).
 use borrow.Author.Needs.{needs}
 use Rattle.out.proofs.BlockLaws.{known-index, common-name, common-extern-c}
 use Rattle.out.proofs.write_common.Statement.{statement}
 use Rattle.out.proofs.write_common.Tie as tie
 
-shared-slice-read-put-name : tie.Need-shared-slice-read-put-name
-shared-slice-read-put-name c = known-index _ (c .before .before .before .before .before .before .before .b .given .1) (c .before .before .before .before .before .before .before .before .before .before .before .before .pre .1)
-
-put-name-requires : tie.Need-put-name-requires
-put-name-requires c κs = (c .before .before .before .before .before .before .before .before .before .before .before .before .before .pre .0 .limited, c .before .before .before .before .before .before .before .before .before .before .before .before .before .pre .0 .each _ (known-index _ (c .before .before .before .before .before .before .before .before .b .given .1) (c .before .before .before .before .before .before .before .before .before .before .before .before .before .pre .1)))
+put-name-of-requires : tie.Need-put-name-of-requires
+put-name-of-requires c κs = (c .before .before .before .before .before .before .before .before .before .before .before .pre .0, known-index _ (c .before .before .before .before .before .before .before .b .given .1) (c .before .before .before .before .before .before .before .before .before .before .before .pre .1))
 
 returns : tie.Need-returns
-returns c = common-name _ _ (c .before .before .before .before .before .before .before .before .before .before .before .b .given .1) (c .before .before .before .before .before .before .before .put-bytes .ensures) (c .before .before .put-name .ensures)
+returns c = common-name _ _ (c .before .before .before .before .before .before .before .before .before .before .b .given .1) (c .before .before .before .before .before .before .put-bytes .ensures) (c .before .before .put-name-of .ensures)
 
 returns-2 : tie.Need-returns-2
 returns-2 c = common-extern-c _ _ (c .before .before .before .before .before .enum-told .given .1) (c .before .before .put-bytes2 .ensures)
@@ -23,10 +20,7 @@ write-common-spec =
     (λ c. search needs)
     (λ c. search needs)
     (λ c κs. search needs)
-    (λ c. search needs)
-    (λ c. search needs)
-    shared-slice-read-put-name
-    put-name-requires
+    put-name-of-requires
     (λ c. search needs)
     (λ c. search needs)
     (λ c κs. search needs)

@@ -1,4 +1,4 @@
--- Written by tools/proofkit from answers/write_opaque_type_layout_decls.tpl (a01c4f62 718f4369).
+-- Written by tools/proofkit from answers/write_opaque_type_layout_decls.tpl (b8e8571b d105c57f).
 use borrow.Author.Needs.{needs}
 use native.Mathlib.Omega.{arith}
 use Rattle.bridge.specs.Write.{writeOpaqueTypeLayoutDecls}
@@ -16,23 +16,23 @@ begin-extern-c-requires : tie.Need-begin-extern-c-requires
 begin-extern-c-requires c κs = (c .before .before .before .before .before .before .pre .0 .tabled, c .before .before .before .before .before .before .pre .1, stood-standing (stood-set (representing-stood (c .before .before .before .before .before .before .pre .3)) (c .before .set-namespace .ensures)))
 
 prepare-requires : tie.Need-prepare-requires
-prepare-requires c κs = (c .before .before .before .before .before .before .before .before .before .pre .0 .tabled, stood-listed (stood-turned (stood-set (representing-stood (c .before .before .before .before .before .before .before .before .before .pre .3)) (c .before .before .before .before .set-namespace .ensures)) (c .before .before .begin-extern-c .ensures)))
+prepare-requires c κs = (c .before .before .before .before .before .before .before .before .pre .0, stood-listed (stood-turned (stood-set (representing-stood (c .before .before .before .before .before .before .before .before .pre .3)) (c .before .before .before .set-namespace .ensures)) (c .before .begin-extern-c .ensures)))
 
 write-layout-decl-requires : tie.Need-write-layout-decl-requires
-write-layout-decl-requires c κs = (c .before .before .before .before .before .before .before .before .before .before .before .before .before .before .pre .0, c .before .before .before .before .before .before .before .before .before .before .before .before .before .before .pre .2)
+write-layout-decl-requires c κs = (c .before .before .before .before .before .before .before .before .before .before .before .before .before .pre .0, c .before .before .before .before .before .before .before .before .before .before .before .before .before .pre .2)
 
 write-layout-decl-requires-2 : tie.Need-write-layout-decl-requires-2
-write-layout-decl-requires-2 c κs = (c .before .before .before .before .before .before .before .before .before .before .before .before .before .before .before .before .before .before .before .pre .0, c .before .before .before .before .before .before .before .before .before .before .before .before .before .before .before .before .before .before .before .pre .2)
+write-layout-decl-requires-2 c κs = (c .before .before .before .before .before .before .before .before .before .before .before .before .before .before .before .before .before .before .pre .0, c .before .before .before .before .before .before .before .before .before .before .before .before .before .before .before .before .before .before .pre .2)
 
 end-extern-c-requires : tie.Need-end-extern-c-requires
-end-extern-c-requires c κs = (c .before .before .before .before .before .before .before .before .before .before .before .before .before .before .before .before .before .before .before .before .before .before .before .before .pre .0 .tabled, c .before .before .before .before .before .before .before .before .before .before .before .before .before .before .before .before .before .before .before .before .before .before .before .before .pre .1, stood-standing (stood-placed (stood-ready (stood-turned (stood-set (representing-stood (c .before .before .before .before .before .before .before .before .before .before .before .before .before .before .before .before .before .before .before .before .before .before .before .before .pre .3)) (c .before .before .before .before .before .before .before .before .before .before .before .before .before .before .before .before .before .before .before .set-namespace .ensures)) (c .before .before .before .before .before .before .before .before .before .before .before .before .before .before .before .before .before .begin-extern-c .ensures)) (c .before .before .before .before .before .before .before .before .before .before .before .before .before .before .prepare .ensures)) (c .before .before .before .before .before .before .before .before .before .write-layout-decl .ensures ▷ c .before .before .before .before .write-layout-decl2 .ensures) (c .before .placed .ensures)))
+end-extern-c-requires c κs = (c .before .before .before .before .before .before .before .before .before .before .before .before .before .before .before .before .before .before .before .before .before .before .before .pre .0 .tabled, c .before .before .before .before .before .before .before .before .before .before .before .before .before .before .before .before .before .before .before .before .before .before .before .pre .1, stood-standing (stood-placed (stood-ready (stood-turned (stood-set (representing-stood (c .before .before .before .before .before .before .before .before .before .before .before .before .before .before .before .before .before .before .before .before .before .before .before .pre .3)) (c .before .before .before .before .before .before .before .before .before .before .before .before .before .before .before .before .before .before .set-namespace .ensures)) (c .before .before .before .before .before .before .before .before .before .before .before .before .before .before .before .before .begin-extern-c .ensures)) (c .before .before .before .before .before .before .before .before .before .before .before .before .before .before .prepare .ensures)) (c .before .before .before .before .before .before .before .before .before .write-layout-decl .ensures ▷ c .before .before .before .before .write-layout-decl2 .ensures) (c .before .placed .ensures)))
 
 same-length : tie.Need-same-length
 same-length c = omega (arith, c .before .before .before .before .before .before .before .before .before .before .before .before .before .before .before .prepare .kept, c .before .before .before .before .before .before .before .before .before .before .write-layout-decl .kept, c .before .before .before .before .before .write-layout-decl2 .kept)
 
 returns : tie.Need-returns
 unfolding writeOpaqueTypeLayoutDecls
-returns c = runs-declared-two (c .before .before .before .before .before .before .before .before .before .before .before .before .before .before .before .before .before .before .before .before .set-namespace .ensures) (c .before .before .before .before .before .before .before .before .before .before .before .before .before .before .before .before .before .before .begin-extern-c .ensures) _ _ (some-layout-decl _ _) (some-layout-decl _ _) (c .before .before .before .before .before .before .before .before .before .before .before .before .before .before .before .prepare .ensures) (c .before .before .before .before .before .before .before .before .before .before .write-layout-decl .ensures ▷ c .before .before .before .before .before .write-layout-decl2 .ensures) (c .before .before .placed .ensures) (c .end-extern-c .ensures)
+returns c = runs-declared-two (c .before .before .before .before .before .before .before .before .before .before .before .before .before .before .before .before .before .before .before .set-namespace .ensures) (c .before .before .before .before .before .before .before .before .before .before .before .before .before .before .before .before .before .begin-extern-c .ensures) _ _ (some-layout-decl _ _) (some-layout-decl _ _) (c .before .before .before .before .before .before .before .before .before .before .before .before .before .before .before .prepare .ensures) (c .before .before .before .before .before .before .before .before .before .before .write-layout-decl .ensures ▷ c .before .before .before .before .before .write-layout-decl2 .ensures) (c .before .before .placed .ensures) (c .end-extern-c .ensures)
 
 pub write-opaque-type-layout-decls-spec : {M : Type 1} → statement M
 write-opaque-type-layout-decls-spec =

@@ -1,4 +1,4 @@
--- Written by tools/proofkit from answers/write_rust_function_decl.tpl (59238c91 c351fd59).
+-- Written by tools/proofkit from answers/write_rust_function_decl.tpl (0b122609 6f9ad480).
 use borrow.Author.Needs.{needs}
 use native.Mathlib.Omega.{arith}
 use Rattle.bridge.specs.Write.{writeRustFunctionDecl}
@@ -15,20 +15,20 @@ begin-extern-c-requires : tie.Need-begin-extern-c-requires
 begin-extern-c-requires c κs = (c .before .before .before .before .before .before .before .before .before .before .before .before .before .before .pre .0 .tabled, c .before .before .before .before .before .before .before .before .before .before .before .before .before .before .pre .1, stood-standing (stood-set (representing-stood (c .before .before .before .before .before .before .before .before .before .before .before .before .before .before .pre .5)) (c .before .set-namespace .ensures)))
 
 prepare-requires : tie.Need-prepare-requires
-prepare-requires c κs = (c .before .before .before .before .before .before .before .before .before .before .before .before .before .before .before .before .before .before .pre .0 .tabled, stood-listed (stood-asked (stood-turned (stood-set (representing-stood (c .before .before .before .before .before .before .before .before .before .before .before .before .before .before .before .before .before .before .pre .5)) (c .before .before .before .before .before .set-namespace .ensures)) (c .before .before .before .begin-extern-c .ensures)) (c .before .before .next-section .ensures)))
+prepare-requires c κs = (c .before .before .before .before .before .before .before .before .before .before .before .before .before .before .before .before .before .pre .0, stood-listed (stood-asked (stood-turned (stood-set (representing-stood (c .before .before .before .before .before .before .before .before .before .before .before .before .before .before .before .before .before .pre .5)) (c .before .before .before .before .set-namespace .ensures)) (c .before .before .begin-extern-c .ensures)) (c .before .next-section .ensures)))
 
 write-function-decl-requires : tie.Need-write-function-decl-requires
-write-function-decl-requires c κs = (c .before .before .before .before .before .before .before .before .before .before .before .before .before .before .before .before .before .before .before .before .before .before .before .pre .0, c .before .before .before .before .before .before .before .before .before .before .before .before .before .before .before .before .before .before .before .before .before .before .before .pre .2, c .before .before .before .before .before .before .before .before .before .before .before .before .before .before .before .before .before .function .ensures .1, c .before .before .before .before .before .before .before .before .before .before .before .before .before .before .before .before .before .function .ensures .0, c .before .before .before .before .before .before .before .before .before .before .before .before .before .before .fill-arguments .ensures .0, omega (arith, c .before .before .before .before .before .before .before .before .before .before .before .before .before .before .before .before .before .function .ensures .1 .view .few, c .before .before .before .before .before .before .before .before .before .before .before .before .before .before .fill-arguments .kept, c .before .before .before .before .before .before .before .before .before .before .before .before .before .before .before .before .before .before .before .before .before .before .before .pre .4))
+write-function-decl-requires c κs = (c .before .before .before .before .before .before .before .before .before .before .before .before .before .before .before .before .before .before .before .before .before .before .pre .0, c .before .before .before .before .before .before .before .before .before .before .before .before .before .before .before .before .before .before .before .before .before .before .pre .2, c .before .before .before .before .before .before .before .before .before .before .before .before .before .before .before .before .function .ensures .1, c .before .before .before .before .before .before .before .before .before .before .before .before .before .before .before .before .function .ensures .0, c .before .before .before .before .before .before .before .before .before .before .before .before .before .fill-arguments .ensures .0, omega (arith, c .before .before .before .before .before .before .before .before .before .before .before .before .before .before .before .before .function .ensures .1 .view .few, c .before .before .before .before .before .before .before .before .before .before .before .before .before .fill-arguments .kept, c .before .before .before .before .before .before .before .before .before .before .before .before .before .before .before .before .before .before .before .before .before .before .pre .4))
 
 end-extern-c-requires : tie.Need-end-extern-c-requires
-end-extern-c-requires c κs = (c .before .before .before .before .before .before .before .before .before .before .before .before .before .before .before .before .before .before .before .before .before .before .before .before .before .before .before .before .pre .0 .tabled, c .before .before .before .before .before .before .before .before .before .before .before .before .before .before .before .before .before .before .before .before .before .before .before .before .before .before .before .before .pre .1, stood-standing (stood-placed (stood-ready (stood-asked (stood-turned (stood-set (representing-stood (c .before .before .before .before .before .before .before .before .before .before .before .before .before .before .before .before .before .before .before .before .before .before .before .before .before .before .before .before .pre .5)) (c .before .before .before .before .before .before .before .before .before .before .before .before .before .before .before .set-namespace .ensures)) (c .before .before .before .before .before .before .before .before .before .before .before .before .before .begin-extern-c .ensures)) (c .before .before .before .before .before .before .before .before .before .before .before .before .next-section .ensures)) (c .before .before .before .before .before .before .before .before .before .prepare .ensures)) (c .before .before .before .before .write-function-decl .ensures) (c .before .placed .ensures)))
+end-extern-c-requires c κs = (c .before .before .before .before .before .before .before .before .before .before .before .before .before .before .before .before .before .before .before .before .before .before .before .before .before .before .before .pre .0 .tabled, c .before .before .before .before .before .before .before .before .before .before .before .before .before .before .before .before .before .before .before .before .before .before .before .before .before .before .before .pre .1, stood-standing (stood-placed (stood-ready (stood-asked (stood-turned (stood-set (representing-stood (c .before .before .before .before .before .before .before .before .before .before .before .before .before .before .before .before .before .before .before .before .before .before .before .before .before .before .before .pre .5)) (c .before .before .before .before .before .before .before .before .before .before .before .before .before .before .set-namespace .ensures)) (c .before .before .before .before .before .before .before .before .before .before .before .before .begin-extern-c .ensures)) (c .before .before .before .before .before .before .before .before .before .before .before .next-section .ensures)) (c .before .before .before .before .before .before .before .before .before .prepare .ensures)) (c .before .before .before .before .write-function-decl .ensures) (c .before .placed .ensures)))
 
 same-length : tie.Need-same-length
-same-length c = omega (arith, c .before .before .before .before .before .before .before .before .before .before .before .before .before .before .before .before .before .before .before .before .fill-arguments .kept)
+same-length c = omega (arith, c .before .before .before .before .before .before .before .before .before .before .before .before .before .before .before .before .before .before .before .fill-arguments .kept)
 
 returns : tie.Need-returns
 unfolding writeRustFunctionDecl
-returns c = runs-declared (c .before .before .before .before .before .before .before .before .before .before .before .before .before .before .before .before .set-namespace .ensures) (c .before .before .before .before .before .before .before .before .before .before .before .before .before .before .begin-extern-c .ensures) _ (some-function-decl _ _ _) (c .before .before .before .before .before .before .before .before .before .before .before .before .before .next-section .ensures) (c .before .before .before .before .before .before .before .before .before .before .prepare .ensures) (c .before .before .before .before .before .write-function-decl .ensures) (c .before .before .placed .ensures) (c .end-extern-c .ensures)
+returns c = runs-declared (c .before .before .before .before .before .before .before .before .before .before .before .before .before .before .before .set-namespace .ensures) (c .before .before .before .before .before .before .before .before .before .before .before .before .before .begin-extern-c .ensures) _ (some-function-decl _ _ _) (c .before .before .before .before .before .before .before .before .before .before .before .before .next-section .ensures) (c .before .before .before .before .before .before .before .before .before .before .prepare .ensures) (c .before .before .before .before .before .write-function-decl .ensures) (c .before .before .placed .ensures) (c .end-extern-c .ensures)
 
 pub write-rust-function-decl-spec : {M : Type 1} → statement M
 write-rust-function-decl-spec =

@@ -1,4 +1,4 @@
--- Written by tools/proofkit from answers/write_rust_function_shim.tpl (5c0e0eec 787d3a39).
+-- Written by tools/proofkit from answers/write_rust_function_shim.tpl (0a8e184e b9979d6e).
 use borrow.Author.Needs.{needs}
 use native.Mathlib.Omega.{arith}
 use mathlib.Core.Path.{sym, _∙_}
@@ -17,16 +17,16 @@ returns : tie.Need-returns
 returns c = runs-as (hidden-shim _ _ (functionOf _ _) (c .before .before .before .before .before .before .before .before .before .before .function .result .form) (c .before .before .before .before .before .before .before .before .before .before .function .result .owner) (c .before .before .before .before .before .before .before .before .before .before .function .ensures .0) (c .before .before .before .before .before .before .before .before .before .before .function .ensures .1 .view .form) (sym (c .before .is-hidden .ensures) ∙ c .if1 .taken)) (runs-then (runs-asked (c .before .before .before .before .next-section .ensures)) (runs-set (c .before .before .set-namespace .ensures)))
 
 prepare-requires : tie.Need-prepare-requires
-prepare-requires c κs = (c .before .before .before .before .before .before .before .before .before .before .before .before .before .before .before .before .before .before .pre .0 .tabled, stood-listed (stood-set (stood-asked (representing-stood (c .before .before .before .before .before .before .before .before .before .before .before .before .before .before .before .before .before .before .pre .5)) (c .before .before .before .before .before .before .next-section .ensures)) (c .before .before .before .before .set-namespace .ensures)))
+prepare-requires c κs = (c .before .before .before .before .before .before .before .before .before .before .before .before .before .before .before .before .before .pre .0, stood-listed (stood-set (stood-asked (representing-stood (c .before .before .before .before .before .before .before .before .before .before .before .before .before .before .before .before .before .pre .5)) (c .before .before .before .before .before .next-section .ensures)) (c .before .before .before .set-namespace .ensures)))
 
 write-function-shim-requires : tie.Need-write-function-shim-requires
-write-function-shim-requires c κs = (c .before .before .before .before .before .before .before .before .before .before .before .before .before .before .before .before .before .before .before .before .before .before .before .pre .0, c .before .before .before .before .before .before .before .before .before .before .before .before .before .before .before .before .before .before .before .before .before .before .before .pre .2, c .before .before .before .before .before .before .before .before .before .before .before .before .before .before .before .before .before .function .ensures .1, c .before .before .before .before .before .before .before .before .before .before .before .before .before .before .before .before .before .function .ensures .0, c .before .before .before .before .before .before .before .before .before .before .before .before .before .before .fill-arguments .ensures .0, omega (arith, c .before .before .before .before .before .before .before .before .before .before .before .before .before .before .before .before .before .function .ensures .1 .view .few, c .before .before .before .before .before .before .before .before .before .before .before .before .before .before .fill-arguments .kept, c .before .before .before .before .before .before .before .before .before .before .before .before .before .before .before .before .before .before .before .before .before .before .before .pre .4), c .before .before .before .before .before .before .before .before .before .before .before .before .before .before .fill-arguments .ensures .1)
+write-function-shim-requires c κs = (c .before .before .before .before .before .before .before .before .before .before .before .before .before .before .before .before .before .before .before .before .before .before .pre .0, c .before .before .before .before .before .before .before .before .before .before .before .before .before .before .before .before .before .before .before .before .before .before .pre .2, c .before .before .before .before .before .before .before .before .before .before .before .before .before .before .before .before .function .ensures .1, c .before .before .before .before .before .before .before .before .before .before .before .before .before .before .before .before .function .ensures .0, c .before .before .before .before .before .before .before .before .before .before .before .before .before .fill-arguments .ensures .0, omega (arith, c .before .before .before .before .before .before .before .before .before .before .before .before .before .before .before .before .function .ensures .1 .view .few, c .before .before .before .before .before .before .before .before .before .before .before .before .before .fill-arguments .kept, c .before .before .before .before .before .before .before .before .before .before .before .before .before .before .before .before .before .before .before .before .before .before .pre .4), c .before .before .before .before .before .before .before .before .before .before .before .before .before .fill-arguments .ensures .1)
 
 same-length-2 : tie.Need-same-length-2
-same-length-2 c = omega (arith, c .before .before .before .before .before .before .before .before .before .before .before .before .before .before .before .before .before .before .fill-arguments .kept)
+same-length-2 c = omega (arith, c .before .before .before .before .before .before .before .before .before .before .before .before .before .before .before .before .before .fill-arguments .kept)
 
 returns-2 : tie.Need-returns-2
-returns-2 c = runs-as (shown-shim _ _ (functionOf _ _) (c .before .before .before .before .before .before .before .before .before .before .before .before .before .before .before .before .before .before .before .before .before .function .result .form) (c .before .before .before .before .before .before .before .before .before .before .before .before .before .before .before .before .before .before .before .before .before .function .result .owner) (c .before .before .before .before .before .before .before .before .before .before .before .before .before .before .before .before .before .before .before .before .before .function .ensures .0) (c .before .before .before .before .before .before .before .before .before .before .before .before .before .before .before .before .before .before .before .before .before .function .ensures .1 .view .form) (sym (c .before .before .before .before .before .before .before .before .before .before .before .before .is-hidden .ensures) ∙ c .before .before .before .before .before .before .before .before .before .before .before .if1 .left)) (runs-then (runs-then (runs-asked (c .before .before .before .before .before .before .before .before .before .before .before .before .before .before .before .next-section .ensures)) (runs-set (c .before .before .before .before .before .before .before .before .before .before .before .before .before .set-namespace .ensures))) (runs-written (some-shim _ _ _) (c .before .before .before .before .before .before .before .before .prepare .ensures) (c .before .before .before .write-function-shim .ensures) (c .placed .ensures)))
+returns-2 c = runs-as (shown-shim _ _ (functionOf _ _) (c .before .before .before .before .before .before .before .before .before .before .before .before .before .before .before .before .before .before .before .before .function .result .form) (c .before .before .before .before .before .before .before .before .before .before .before .before .before .before .before .before .before .before .before .before .function .result .owner) (c .before .before .before .before .before .before .before .before .before .before .before .before .before .before .before .before .before .before .before .before .function .ensures .0) (c .before .before .before .before .before .before .before .before .before .before .before .before .before .before .before .before .before .before .before .before .function .ensures .1 .view .form) (sym (c .before .before .before .before .before .before .before .before .before .before .before .is-hidden .ensures) ∙ c .before .before .before .before .before .before .before .before .before .before .if1 .left)) (runs-then (runs-then (runs-asked (c .before .before .before .before .before .before .before .before .before .before .before .before .before .before .next-section .ensures)) (runs-set (c .before .before .before .before .before .before .before .before .before .before .before .before .set-namespace .ensures))) (runs-written (some-shim _ _ _) (c .before .before .before .before .before .before .before .before .prepare .ensures) (c .before .before .before .write-function-shim .ensures) (c .placed .ensures)))
 
 pub write-rust-function-shim-spec : {M : Type 1} → statement M
 write-rust-function-shim-spec =
