@@ -1,7 +1,6 @@
 // What out.rs does to the state of a text, and what nested.rs asks of items, by the table of names and items.
 use nested::EnumView;
 use out::Content;
-use tables::Pool;
 use tables::Table;
 use view::ItemView;
 ghost use mathlib.Core.Path.{_≡_};
@@ -12,9 +11,9 @@ ghost use Rattle.syntax.specs.Items.{itemAt};
 ghost use Rattle.names.specs.Digests.{digestsAt};
 ghost use Rattle.nested.specs.Groups.{EnumOf, isDirect, Next};
 ghost use Rattle.pieces.specs.Between.{named};
-ghost use Rattle.out.specs.State.{Listed, Standing, inside};
-ghost use Rattle.out.specs.Steps.{Turns, Sets, Prepares, Flushes};
-ghost use Rattle.tables.specs.Tables.{namesIn, itemsIn, itemsOf, itemOf, Tabled, Lent, Item};
+ghost use Rattle.out.specs.State.{Standing, inside};
+ghost use Rattle.out.specs.Steps.{Turns, Sets};
+ghost use Rattle.tables.specs.Tables.{namesIn, itemsIn, itemsOf, itemOf, Tabled, Item};
 
 // The namespace of an item.
 pub fn set_namespace(s: &[u8], t: &[u32], digests: &[u32], c: Content, v: ItemView) -> Content
@@ -45,36 +44,6 @@ pub fn end_extern_c(s: &[u8], t: &[u32], digests: &[u32], c: Content) -> Content
 {
     let n = t[Table::NAMES] as usize;
     out::end_extern_c(s, &t[..n], digests, c)
-}
-
-// What `write` does before it appends a text that is not empty.
-pub fn prepare(
-    s: &[u8],
-    t: &[u32; Table::PLACES],
-    pool: &[u8; Pool::BYTES],
-    c: Content,
-    out: &mut [u8],
-) -> Content
-    requires { ⌜ Lent (now s) (now t) (now pool) × Listed (namesIn (now t)) c ⌝ }
-    ensures { λ r. ⌜ Prepares (now (s .entry)) (namesIn (now (t .entry))) (now (out .entry)) (now (out .exit)) c r ⌝ }
-{
-    out::prepare(s, t, pool, c, out)
-}
-
-// The end of the text: every block is closed.
-pub fn flush(
-    s: &[u8],
-    t: &[u32; Table::PLACES],
-    pool: &[u8; Pool::BYTES],
-    digests: &[u32],
-    c: Content,
-    out: &mut [u8],
-) -> usize
-    requires { ⌜ Lent (now s) (now t) (now pool) × (now digests ≡ digestsAt (now s) (namesIn (now t))) ×
-        Standing (now s) (namesIn (now t)) named c ⌝ }
-    ensures { λ r. ⌜ Flushes (now (s .entry)) (namesIn (now (t .entry))) (now (out .entry)) (now (out .exit)) c r ⌝ }
-{
-    out::flush(s, t, pool, digests, c, out)
 }
 
 // ---- nested.rs

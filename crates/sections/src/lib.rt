@@ -3,7 +3,6 @@
 // function's writer also room for the views of its arguments.
 use content::begin_extern_c;
 use content::end_extern_c;
-use content::prepare;
 use content::set_namespace;
 use declaration::write_function_decl;
 use declaration::write_layout_decl;
@@ -11,6 +10,7 @@ use declaration::write_layout_definition;
 use out::Content;
 use out::next_section;
 use out::placed;
+use out::prepare;
 use shim::write_function_shim;
 use tables::Pool;
 use tables::Table;

@@ -1,10 +1,10 @@
 // The text of a sheet: the port of write.rs' two passes. Every function is lent the sheet, the table and the
 // pool, the digests of the names, room for the views of a function's arguments, and the buffer.
-use content::flush;
 use format::ItemKind;
 use forward::write_forward_declarations;
 use mangle::fill_full_names;
 use out::Content;
+use out::flush;
 use out::next_section;
 use out::placed;
 use sections::write_opaque_type_layout;
