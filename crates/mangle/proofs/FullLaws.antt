@@ -6,19 +6,13 @@ use native.Mathlib.Omega.{arith}
 use lib.ListN.{length, getD, set, take, drop, length-append}
 use lib.Seq.{sets-eq, take-at, length-take-le}
 use Rattle.syntax.specs.Items.{itemAt, fullName}
-use Rattle.sink.specs.Sink.{Sink, sink, limit, Wrote}
-use Rattle.sink.proofs.SinkLaws.{wrote-place, wrote-length, wrote-whole}
+use Rattle.sink.specs.Sink.{Sink, sink, Wrote}
+use Rattle.sink.proofs.SinkLaws.{wrote-length, wrote-whole}
 use Rattle.sink.proofs.StoreLaws.{buffer-emit}
-use Rattle.sink.proofs.ServiceLaws.{written}
+use Rattle.sink.proofs.ServiceLaws.{written-front}
 use Rattle.tables.specs.Tables.{namesIn, itemsIn, itemsOf, Tabled, Lent, Filled}
 use Rattle.tables.proofs.TableLaws.{items-count}
 use Rattle.tables.proofs.PoolLaws.{lent-whole, filled-full}
-
--- what was written at the front of l
-spelled : {l b text : List ℕ} {r : ℕ} → Wrote (sink l 0) text (sink b r) → r ≤ length l → length l < 2 ^ 63 → take r b ≡ text
-spelled {l} {b} {text} {r} p h g =
-    let k : r ≡ length text = omega (arith, wrote-place p (omega arith)) in
-    ap (take r) (written l p (omega arith) g) ∙ take-at text (drop (length text) l) r (sym k)
 
 -- what was written behind the first bytes of l
 behind : {l b text : List ℕ} {at r : ℕ} → Wrote (sink l at) text (sink b r) → at + length text ≤ length l →
@@ -41,7 +35,7 @@ filled-item {s} {t} {pool} {after} {l} {b} {end} {i} {count} {r} lent h p long f
     let front : take (end + count) after ≡ take end pool ++ take count b =
     ap (λ (n : ℕ). take (end + n) after) (sym c) ∙ behind q (omega arith) small in
     filled-full (filled-same pool lent (omega arith)) i count (take count b) after c front
-    (omega (arith, wrote-length q)) h (spelled p (omega arith) (omega arith)) (omega arith)
+    (omega (arith, wrote-length q)) h (written-front l p (omega arith) (omega arith)) (omega arith)
 
 -- ---- the loop over the items
 

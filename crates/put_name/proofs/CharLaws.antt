@@ -91,8 +91,5 @@ module _ (s : List ℕ) (at : ℕ) {f : Found} (y : Yields (name s at) (nameAt s
       by-count zero z = omega (arith, start)
       by-count (suc n) z = in-sheet s (suc n) (f .next .at) (omega arith) (z .is)
 
-  pub name-count : length (nameAt s at) ≡ f .value
-  name-count = ap length (sym name-is) ∙ chars-count s (f .value) (f .next .at) name-inside
-
   pub name-held : {b : List ℕ} → Holds s (f .next .at) (f .value) b → length b ≡ f .value → b ≡ nameAt s at
   name-held g l = chars-held s (f .value) (f .next .at) name-inside g l ∙ name-is

@@ -1,11 +1,11 @@
 -- Texts in the pool, one behind the other.
 use mathlib.Core.Path.{_≡_, refl, sym, ap, _∙_}
 use mathlib.Core.Logic.{by-cases}
-use mathlib.Core.List.{List, [], _++_}
+use mathlib.Core.List.{List, _++_}
 use Prim.Native.Nat.{ℕ, _+_, _-_, _*_, _/_, _%_, _<_, _≤_}
 use native.Mathlib.Omega.{arith}
 use native.Mathlib.Decide.{ℕ-discrete}
-use lib.ListN.{length, getD, set, take, drop, replicate, length-set, length-append, length-drop, getD-replicate}
+use lib.ListN.{length, getD, set, take, drop, replicate, length-set, length-append, getD-replicate}
 use lib.ListN.{take-append-drop}
 use lib.Seq.{slice, getD-set-same, getD-set-other, getD-take, getD-drop, take-set-le, drop-set-add, take-add, take-at}
 use lib.Seq.{drop-at, length-take-le, take-append-le, take-append-add, drop-append-seam, take-length}
@@ -16,7 +16,7 @@ use Rattle.syntax.specs.Items.{itemAt, fullName}
 use Rattle.cursor.specs.declared.Found.{Found}
 use Rattle.text.specs.Text.{Holds}
 use Rattle.view.specs.Views.{Finds}
-use Rattle.put_name.proofs.CharLaws.{name-inside, name-held, name-count as name-length}
+use Rattle.put_name.proofs.CharLaws.{name-inside, name-held}
 use Rattle.view.specs.Values.{Yields, nameAt}
 use Rattle.tables.specs.Tables.{namesIn, itemsIn, itemsOf, Tabled, Part, Lent, Filled}
 use Rattle.tables.proofs.FillLaws.{part-long}

@@ -1,5 +1,5 @@
 -- From the passes over a sheet, and from the rules, to the promise of the service.
-use mathlib.Core.Path.{_≡_, refl, sym, ap, _∙_}
+use mathlib.Core.Path.{_≡_, refl, sym, _∙_}
 use mathlib.Core.List.{List, [], _++_, append-nil}
 use mathlib.Core.Bool.{Bool, true, false}
 use Prim.Native.Nat.{ℕ, _≤_, _<_, _^_, min}
@@ -7,7 +7,7 @@ use native.Mathlib.Omega.{arith}
 use native.Mathlib.Nat.{le-trans}
 use lib.ListN.{length, take, drop, replicate, drop-of-length-le}
 use lib.Dec.{leb}
-use lib.Seq.{length-take-le, take-at}
+use lib.Seq.{length-take-le}
 use borrow.Author.Tests.{le-leb, lt-leb}
 use Rattle.refusal.specs.declared.Refusal.{Refusal}
 use Rattle.refusal.specs.declared.Refusal.the-variants.{Overrun, WrongPart, Taken, UnfitArgument, Ring}
@@ -29,7 +29,7 @@ use Rattle.services.specs.declared.Written.the-variants as Written
 use Rattle.services.specs.Services.{Writes}
 use Rattle.sink.specs.Sink.{sink, limit, Wrote}
 use Rattle.sink.proofs.SinkLaws.{wrote-place}
-use Rattle.sink.proofs.ServiceLaws.{written}
+use Rattle.sink.proofs.ServiceLaws.{written, written-front}
 use Rattle.check_sheet.specs.Ruled.{ruledParts, elseChecked, ruledItems}
 use Rattle.sections.specs.Runs.{sheetOf}
 use Rattle.write_sheet.specs.Delivers.{Delivers, JudgedBy, Judges}
@@ -56,9 +56,7 @@ module _ {bytes short after : List ℕ} {n : ℕ} (buffer : List ℕ) (p : Wrote
     pub deliver-short : {e : List ℕ} {at : ℕ} → n ≤ length short → length short < 2 ^ 63 →
         Wrote (sink buffer 0) (take n after) (sink e at) → Delivers bytes buffer (Written.Length n) e
     deliver-short {e} k near q =
-        let whole : after ≡ bytes ++ drop (length bytes) short = written short p (omega (arith, exact)) near in
-        let front : take n after ≡ bytes =
-        ap (take n) whole ∙ take-at bytes (drop (length bytes) short) n (sym exact) in
+        let front : take n after ≡ bytes = written-front short p k near in
         let stored : e ≡ bytes ++ drop (length bytes) buffer =
         written buffer (rw front at q) (omega (arith, exact)) small in
         record { answers = rw (fits, exact); leaves = rw (fits, stored) }

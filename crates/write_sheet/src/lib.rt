@@ -10,7 +10,6 @@ use services::Written;
 use sink::put_bytes;
 use tables::Pool;
 use write::write_text;
-ghost use mathlib.Core.Path.{_≡_};
 ghost use Prim.Native.Nat.{_≤_};
 ghost use lib.ListN.{length, replicate};
 ghost use Rattle.format.specs.Limits.{mostNames, mostItems};

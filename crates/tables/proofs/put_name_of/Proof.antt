@@ -1,6 +1,5 @@
--- Written by tools/proofkit from answers/put_name_of.tpl (c4ecb059 98850fa3).
+-- Written by tools/proofkit from answers/put_name_of.tpl (f86581e6 e526fa62).
 use borrow.Author.Needs.{needs}
-use native.Mathlib.Omega.{arith}
 use mathlib.Core.Path.{ap}
 use Rattle.sink.proofs.SinkLaws.{wrote-as}
 use Rattle.view.specs.Values.{nameAt}

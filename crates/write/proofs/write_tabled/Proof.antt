@@ -1,6 +1,5 @@
--- Written by tools/proofkit from answers/write_tabled.tpl (9667bf75 d572c6f0).
+-- Written by tools/proofkit from answers/write_tabled.tpl (d6e3cc80 047439f0).
 use borrow.Author.Needs.{needs}
-use native.Mathlib.Omega.{arith}
 use Rattle.write.proofs.PassLaws.{begun, whole-text}
 use Rattle.write.proofs.write_tabled.Statement.{statement}
 use Rattle.write.proofs.write_tabled.Tie as tie

@@ -1,8 +1,8 @@
--- Written by tools/proofkit from answers/full/fill_full_names.tpl (6f432133 8c804965).
+-- Written by tools/proofkit from answers/full/fill_full_names.tpl (e19c2f30 5fcb2b67).
 use borrow.Author.Needs.{needs}
 use native.Mathlib.Omega.{arith}
 use Prim.Native.Nat.{_≤_, _-_}
-use mathlib.Core.Path.{_≡_, refl, _∙_}
+use mathlib.Core.Path.{_≡_, refl}
 use lib.ListN.{length}
 use Rattle.tables.specs.Tables.{Filled}
 use Rattle.mangle.proofs.FullLaws.{filled-same, item-left, filled-next, filled-all}
