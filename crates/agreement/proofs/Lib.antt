@@ -1,2 +1,3 @@
 pub mod AgreesTest
 pub mod Disagreeing
+pub mod NamesLaws

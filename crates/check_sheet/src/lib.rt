@@ -1,4 +1,4 @@
-// The check service: what document 01 answers to any bytes.
+// The check service: what documents 01 and 02 answer to any bytes.
 use decode::Decoded;
 use decode::decode;
 use format::Outline;

@@ -1,27 +1,25 @@
 -- The names of a decoded sheet's items keep the name rule.
 use mathlib.Core.Path.{_≡_, refl, sym, ap, _∙_}
 use mathlib.Core.List.{List, [], _∷_}
-use mathlib.Core.Bool.{Bool, true, false, false≢true}
+use mathlib.Core.Bool.{true, false, false≢true}
 use Prim.Native.Nat.{ℕ, zero, suc, _<_}
-use native.Mathlib.Omega.{arith}
 use lib.Dec.{eqb}
 use lib.ListN.{length, getD}
-use Rattle.refusal.specs.declared.Refusal.{Refusal}
 use Rattle.refusal.specs.declared.Refusal.the-variants.{BadName}
 use Rattle.lexical.specs.Bytes.{every}
 use Rattle.lexical.specs.Names.{isName}
 use Rattle.lexical.proofs.BoolLaws.{by-cases}
-use Rattle.format.specs.Decode.{fault, got, pick, many}
+use Rattle.format.specs.Decode.{got, many}
 use Rattle.format.specs.Bits.{bits, index}
 use Rattle.format.specs.Sheet.{Name, Form, Function, Body, struct, enum, cxxType, rustType, function, Item}
-use Rattle.format.specs.Decoding.{name, nameOf, formOf, form, partOf, itemBody}
+use Rattle.format.specs.Decoding.{nameBy, name, nameOf, formOf, form, partOf, itemBody}
 use Rattle.format.specs.declared.ItemKind.{ItemKind}
 use Rattle.format.specs.declared.ItemKind.the-variants.{Struct, Enum, CxxType, RustType, RustFunction, Bad}
 use Rattle.syntax.specs.Items.{itemAt, isFunction}
 use Rattle.cursor.proofs.WidthLaws.{index-lt}
 use Rattle.view.specs.Values.{nameAt, namesAt, itemsAt, functionIn, Whole, itemNo}
 use Rattle.view.specs.Views.{kindOfBody, isFunctionKind}
-use Rattle.cursor.proofs.YieldLaws.{in-turn, got-value}
+use Rattle.cursor.proofs.YieldLaws.{in-turn, passed, test-passed, got-value}
 use Rattle.view.proofs.PartLaws.{ItemParts, item-parts, FunctionParts, function-parts, body-kind}
 use Rattle.names.proofs.NameLaws.{indexed}
 use Rattle.clash.specs.Clashes.{ownerNames}
@@ -48,12 +46,6 @@ pub record Proper (items : List Item) (x : Item) : Type 0 where
   pub rust : isFunction (x .body) ≡ true → isName (functionIn (x .body) .rust) ≡ true
   pub owner : isFunction (x .body) ≡ true → every isName (ownerNames items (functionIn (x .body) .form)) ≡ true
 
--- what a decoder gave behind a test passed it
-tested : {A : Type 0} (test : A → Bool) (b : Bool) (x : A) (n : ℕ) (e : Refusal) {y : A} {m : ℕ} → test x ≡ b →
-    pick b (got x n) (fault e) ≡ got y m → test y ≡ true
-tested test true x n e {y} h q = let z : x ≡ y = got-value q in sym (ap test z) ∙ h
-tested test false x n e h q = absurd (let z : _≡_ {A = ℕ} 0 1 = cc in omega arith)
-
 module _ {s names items : List ℕ} (whole : Whole s names items) where
   abbrev table : List Name
   table = namesAt s names
@@ -62,10 +54,11 @@ module _ {s names items : List ℕ} (whole : Whole s names items) where
   all = itemsAt s names items
 
   pub name-ok : (i : ℕ) → i < length names → isName (nameAt s (getD names i 0)) ≡ true
-  unfolding name
+  unfolding name nameBy
   name-ok i l =
       in-turn (bits 6 s (getD names i 0)) _ (whole .named .each i l .is) (λ n a e₁ h₁.
-      in-turn (many n (bits 7) s a) _ h₁ (λ cs b e₂ h₂. tested isName (isName cs) cs b BadName refl h₂))
+      in-turn (many n (bits 7) s a) _ h₁ (λ cs b e₂ h₂.
+      rw (← got-value (passed (isName cs) (got cs b) BadName h₂)) (test-passed (isName cs) (got cs b) BadName h₂)))
 
   index-ok : (at : ℕ) {x : Name} {m : ℕ} → nameOf table s at ≡ got x m → isName x ≡ true
   index-ok at h = let q = indexed s names at h in rw (← q .1 .name) (name-ok (q .0) (q .1 .there))

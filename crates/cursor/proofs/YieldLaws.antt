@@ -43,6 +43,11 @@ pub passed : {A : Type 0} (b : Bool) (p : Got A) (e : Refusal) {y : A} {m : ℕ}
 passed true p e h = h
 passed false p e h = absurd (let z : _≡_ {A = ℕ} 0 1 = cc in omega arith)
 
+pub test-passed : {A : Type 0} (b : Bool) (p : Got A) (e : Refusal) {y : A} {m : ℕ} → pick b p (fault e) ≡ got y m →
+    b ≡ true
+test-passed true p e h = refl
+test-passed false p e h = absurd (let z : _≡_ {A = ℕ} 0 1 = cc in omega arith)
+
 pub got-value : {A : Type 0} {x y : A} {n m : ℕ} → got x n ≡ got y m → x ≡ y
 got-value h = cc
 

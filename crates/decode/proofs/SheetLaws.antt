@@ -9,15 +9,17 @@ use lib.Dec.{eqb, leb}
 use borrow.Author.Tests.{eq-eqb, ne-eqb, lt-leb, le-leb}
 use Rattle.refusal.specs.declared.Refusal.{Refusal}
 use Rattle.refusal.specs.declared.Refusal.the-variants.{CutSheet, Tail}
+use Rattle.lexical.specs.Names.{reserved, sheetName}
+use Rattle.lexical.proofs.NameLaws.{sheet-name-base}
 use Rattle.format.specs.Limits.{mostBytes}
 use Rattle.format.specs.Decode.{Got, fault, got, pick, after, many}
 use Rattle.format.specs.Bits.{bits}
 use Rattle.format.specs.Sheet.{Name, Sheet}
-use Rattle.format.specs.Decoding.{name, item, nameTable, itemTable, tail}
+use Rattle.format.specs.Decoding.{name, item, tableName, nameTable, itemTable, tail}
 use Rattle.cursor.specs.declared.Cursor.{Cursor}
 use Rattle.cursor.specs.declared.Step.{Step}
 use Rattle.cursor.specs.declared.Step.the-variants.{At, Fault}
-use Rattle.cursor.specs.Checking.{Limited, Checks, positionOf, Fills}
+use Rattle.cursor.specs.Checking.{Limited, Checks, positionOf, Fills, Table}
 use Rattle.cursor.proofs.FieldLaws.{field-lt}
 use Rattle.cursor.proofs.CheckLaws.{stepped, stopped}
 use Rattle.cursor.proofs.TableLaws.{fills-checks, placed-checks, Located, located}
@@ -27,7 +29,7 @@ use Rattle.marks.specs.Marking.{markItem}
 use Rattle.marks.proofs.GatherLaws.{facts}
 use Rattle.names.specs.Naming.{namesAt, Named}
 use Rattle.names.specs.Digests.{digestOf, digestsAt}
-use Rattle.names.proofs.NamedLaws.{table-names, table-digests, table-named}
+use Rattle.names.proofs.NamedLaws.{table-base, table-names, table-digests, table-named}
 use Rattle.decode.specs.declared.Decoded.{Decoded}
 use Rattle.decode.specs.declared.Decoded.the-variants.{Whole, Refused}
 use Rattle.decode.specs.Tables.{behindNames, behindBits, AnswersItems, Answers}
@@ -114,19 +116,23 @@ module _ (s : List ℕ) (h d : Bool) (names : List Name) (at : ℕ) {b m₀ m₁
 
 -- ---- both tables
 
+base : {s : List ℕ} {n : ℕ} {offsets : List ℕ} {values : List Name} → Table tableName s n offsets values →
+    Table name s n offsets values
+base t = table-base (sheetName reserved) (sheet-name-base reserved) t
+
 behind-is : (s : List ℕ) (h d : Bool) (at : ℕ) {n m k : ℕ} {ns : List Name} → bits 10 s at ≡ got n m →
-    many n name s m ≡ got ns k → behindBits h d s at ≡ behindNames h d ns s k
+    many n tableName s m ≡ got ns k → behindBits h d s at ≡ behindNames h d ns s k
 unfolding behindBits nameTable
 behind-is s h d at q e = rw (q, e)
 
 -- what the names are known to be before the items are read
 pub names-ready : (s : List ℕ) (at n m : ℕ) {b g : List ℕ} {r : Step} {c : Cursor} → bits 10 s at ≡ got n m →
-    Fills (many n (positionOf name) s m) r n b × Fills (many n (digestOf name) s m) r n g → r ≡ At c → Limited s →
+    Fills (many n (positionOf tableName) s m) r n b × Fills (many n (digestOf tableName) s m) r n g → r ≡ At c → Limited s →
     n ≤ length b → Named s (take n b) × (take n g ≡ digestsAt s (take n b))
 names-ready s at n m q f t l room =
-    let k = located name s n m (f .0) t in (
-      table-named (k .table) room l (omega (arith, field-lt 10 s at q)),
-      table-digests (k .table) room (digests-filled name s n m (f .1) t (k .decoded)),
+    let k = located tableName s n m (f .0) t in (
+      table-named (base (k .table)) room l (omega (arith, field-lt 10 s at q)),
+      table-digests (base (k .table)) room (digests-filled tableName s n m (f .1) t (k .decoded)),
     )
 
 module _ (s : List ℕ) (h d : Bool) (at : ℕ) {b i g m₀ m₁ : List ℕ} where
@@ -135,19 +141,19 @@ module _ (s : List ℕ) (h d : Bool) (at : ℕ) {b i g m₀ m₁ : List ℕ} whe
   tables-cut e = record { says = rw e }
 
   module _ {n m : ℕ} (q : bits 10 s at ≡ got n m) {r : Step}
-      (f : Fills (many n (positionOf name) s m) r n b × Fills (many n (digestOf name) s m) r n g) where
+      (f : Fills (many n (positionOf tableName) s m) r n b × Fills (many n (digestOf tableName) s m) r n g) where
     pub tables-fault : {e : Refusal} → r ≡ Fault e → Answers s (behindBits h d s at) (Refused e) b i g m₀ m₁
     unfolding behindBits nameTable
-    tables-fault t = record { says = rw (q, stopped (placed-checks name n s m (fills-checks (f .0))) t) }
+    tables-fault t = record { says = rw (q, stopped (placed-checks tableName n s m (fills-checks (f .0))) t) }
 
     pub tables-rest : {c : Cursor} {u : Decoded} → r ≡ At c → n ≤ length b →
         AnswersItems s (namesAt s (take n b)) (behindNames h d (namesAt s (take n b)) s (c .at)) u i m₀ m₁ →
         Answers s (behindBits h d s at) u b i g m₀ m₁
     tables-rest {c} {u} t room a =
-        let l = located name s n m (f .0) t in
-        by-answer u l (rw (table-names (l .table) room) at a)
+        let l = located tableName s n m (f .0) t in
+        by-answer u l (rw (table-names (base (l .table)) room) at a)
       where
-        by-answer : (u : Decoded) (l : Located name s n m b (c .at)) →
+        by-answer : (u : Decoded) (l : Located tableName s n m b (c .at)) →
             AnswersItems s (l .values) (behindNames h d (l .values) s (c .at)) u i m₀ m₁ →
             Answers s (behindBits h d s at) u b i g m₀ m₁
         by-answer (Refused e) l a = record { says = behind-is s h d at q (l .decoded) ∙ a .says }
@@ -157,8 +163,8 @@ module _ (s : List ℕ) (h d : Bool) (at : ℕ) {b i g m₀ m₁ : List ℕ} whe
               says = record {
                 names = l .values;
                 few = omega (arith, field-lt 10 s at q);
-                table = rw z at (l .table);
-                digested = rw z at (digests-filled name s n m (f .1) t (l .decoded));
+                table = rw z at (base (l .table));
+                digested = rw z at (digests-filled tableName s n m (f .1) t (l .decoded));
                 items = rw (behind-is s h d at q (l .decoded)) (a .says);
               };
             }

@@ -9,7 +9,6 @@ use lib.Dec.{leb, ltb, eqb}
 use lib.ListN.{length, getD}
 use Rattle.refusal.specs.declared.Refusal.the-variants.{CutSheet, Edition, BadName, BadKind, BadComment, Tail}
 use Rattle.lexical.specs.Bytes.{every, within}
-use Rattle.lexical.specs.Names.{isName}
 use Rattle.lexical.proofs.BoolLaws.{both, and-of}
 use Rattle.format.specs.declared.TypeKind.{TypeKind}
 use Rattle.format.specs.declared.TypeKind.the-variants as Kind
@@ -19,11 +18,11 @@ use Rattle.format.specs.Decode.{got, Dec, pure, many}
 use Rattle.format.specs.Bits.{bits, bit}
 use Rattle.format.specs.Types.{Ty, atom, named, template, pointer, str, fn, array, Ret, none, gives, Tys, tys}
 use Rattle.format.specs.Sheet.{Name, Item, Sheet}
-use Rattle.format.specs.Decoding.{name, nameOf, kindOf, optional, typeBody, typeAt, type, lineOk, line, argument}
+use Rattle.format.specs.Decoding.{nameBy, nameOf, kindOf, optional, typeBody, typeAt, type, lineOk, line, argument}
 use Rattle.format.specs.Decoding.{formOf, form, functionBody, structBody, enumBody, partOf, itemBody, isBad, namespace}
 use Rattle.format.specs.Decoding.{item, tail, itemTable, nameTable, sheet, decode}
 use Rattle.decoded.specs.Fits.{depth, depthRet, depthTys, count, partsFit, partsFitRet, partsFitTys, typeFits}
-use Rattle.decoded.specs.Fits.{returnFits, argumentFits, formFits, commentFits, functionFits, bodyFits, itemFits}
+use Rattle.decoded.specs.Fits.{nameFits, returnFits, argumentFits, formFits, commentFits, functionFits, bodyFits, itemFits}
 use Rattle.decoded.specs.Fits.{sheetFits}
 use Rattle.decoded.proofs.Yields.{Yields, then-yields, pure-yields, refuse-yields, pick-yields, unless-yields}
 use Rattle.decoded.proofs.Yields.{weaker, Run, many-yields, bits-yields, any-yields, index-yields}
@@ -34,13 +33,13 @@ use Rattle.decoded.proofs.Yields.{weaker, Run, many-yields, bits-yields
 abbrev Passes : {A : Type 0} → (A → Bool) → Dec A → Type 0
 Passes test d = Yields (λ x. test x ≡ true) d
 
-name-passes : Passes isName name
-unfolding name
-name-passes =
+name-passes : (rule : Name → Bool) → Passes rule (nameBy rule)
+unfolding nameBy
+name-passes rule =
     then-yields (any-yields {d = bits 6})
-    (λ n p. then-yields (any-yields {d = many n (bits 7)}) (λ cs q. unless-yields (isName cs) BadName pure-yields))
+    (λ n p. then-yields (any-yields {d = many n (bits 7)}) (λ cs q. unless-yields (rule cs) BadName pure-yields))
 
-every-at : {A : Type 0} (test : A → Bool) (xs : List A) (i : ℕ) (d : A) → every test xs ≡ true →
+pub every-at : {A : Type 0} (test : A → Bool) (xs : List A) (i : ℕ) (d : A) → every test xs ≡ true →
     ltb i (length xs) ≡ true →
     test (getD xs i d) ≡ true
 unfolding every
@@ -50,10 +49,10 @@ every-at test (x ∷ xs) (suc i) d h l =
     let q : suc i < suc (length xs) = ltb-true (suc i) (suc (length xs)) l in
     every-at test xs i d (both (test x) (every test xs) h .1) (lt-ltb i (length xs) (omega arith))
 
-nameOf-passes : (names : List Name) → every isName names ≡ true → Passes isName (nameOf names)
+nameOf-passes : (names : List Name) → every nameFits names ≡ true → Passes nameFits (nameOf names)
 unfolding nameOf
 nameOf-passes names h =
-    then-yields (index-yields (length names)) (λ i l. pure-yields (every-at isName names i [] h l))
+    then-yields (index-yields (length names)) (λ i l. pure-yields (every-at nameFits names i [] h l))
 
 -- ---- types
 
@@ -210,13 +209,13 @@ enum-passes items =
     (λ p u. then-yields (any-yields {d = bits 4})
     (λ a v. unless-yields (within 2 11 a) BadKind (λ h. then-yields (any-yields {d = bit}) (λ c w. pure-yields refl))))
 
-module _ (names : List Name) (items : ℕ) (named : every isName names ≡ true) where
+module _ (names : List Name) (items : ℕ) (named : every nameFits names ≡ true) where
   argument-passes : Passes (argumentFits items) (argument names items)
   unfolding argument argumentFits
   argument-passes =
       then-yields (nameOf-passes names named)
       (λ n h. then-yields (type-passes items)
-      (λ t g. pure-yields (and-of (isName n) (typeFits 8 items t) h g)))
+      (λ t g. pure-yields (and-of (nameFits n) (typeFits 8 items t) h g)))
 
   function-passes : Passes (bodyFits items) (functionBody names items)
   unfolding functionBody functionFits bodyFits
@@ -238,11 +237,11 @@ module _ (names : List Name) (items : ℕ) (named : every isName names ≡ true)
   body-passes Part.RustFunction = function-passes
   body-passes Part.Bad = refuse-yields
 
-  namespace-yields : Yields (λ ns. (leb (length ns) 7 ≡ true) × (every isName ns ≡ true)) (namespace names)
+  namespace-yields : Yields (λ ns. (leb (length ns) 7 ≡ true) × (every nameFits ns ≡ true)) (namespace names)
   unfolding namespace
   namespace-yields =
       then-yields (bits-yields 3)
-      (λ d l. weaker (many-yields isName d (nameOf-passes names named)) (λ ns q. (at-most (q .0) (omega arith), q .1)))
+      (λ d l. weaker (many-yields nameFits d (nameOf-passes names named)) (λ ns q. (at-most (q .0) (omega arith), q .1)))
 
   item-passes : Passes (itemFits items) (item names items)
   unfolding item itemFits
@@ -256,7 +255,7 @@ module _ (names : List Name) (items : ℕ) (named : every isName names ≡ true)
 abbrev tableFits : List Item → Bool
 tableFits items = leb (length items) 255 && every (itemFits (length items)) items
 
-itemTable-passes : (names : List Name) → every isName names ≡ true → Passes tableFits (itemTable names)
+itemTable-passes : (names : List Name) → every nameFits names ≡ true → Passes tableFits (itemTable names)
 unfolding itemTable
 itemTable-passes names h =
     then-yields (bits-yields 8)
@@ -264,10 +263,10 @@ itemTable-passes names h =
     (λ xs q. and-of (leb (length xs) 255) (every (itemFits (length xs)) xs) (at-most (q .0) (omega arith))
     (rw (q .0) (q .1))))
 
-nameTable-yields : Passes (every isName) nameTable
+nameTable-yields : Passes (every nameFits) nameTable
 unfolding nameTable
 nameTable-yields =
-    then-yields (any-yields {d = bits 10}) (λ n u. weaker (many-yields isName n name-passes) (λ xs q. q .1))
+    then-yields (any-yields {d = bits 10}) (λ n u. weaker (many-yields nameFits n (name-passes nameFits)) (λ xs q. q .1))
 
 tail-yields : {A : Type 0} {P : A → Type 0} (x : A) → P x → Yields P (tail x)
 unfolding tail

@@ -1,11 +1,11 @@
 -- Demand 3: the text of every accepted sheet with header bit 0 has exactly one reading, and it agrees with the sheet.
 use mathlib.Core.Path.{_≡_, refl}
-use mathlib.Core.List.{List, [], _∷_}
-use mathlib.Core.Bool.{Bool, true, false}
+use mathlib.Core.List.{List}
+use mathlib.Core.Bool.{true, false}
 use Prim.Native.Nat.{ℕ}
 use lib.ListN.{length}
 use Rattle.lexical.specs.Bytes.{every}
-use Rattle.lexical.proofs.ByteLaws.{Each}
+use Rattle.lexical.proofs.ByteLaws.{Each, each-of, every-of}
 use Rattle.format.specs.Sheet.{Body, struct, enum, cxxType, rustType, function, Item, Sheet}
 use Rattle.rules.specs.Judge.{accepted, judge}
 use Rattle.decoded.proofs.Accepted.{judge-accepted}
@@ -19,7 +19,7 @@ use Rattle.spelling.proofs.Pieces.{layoutDefinition-laid, layoutDefinition-keep
 use Rattle.spelling.proofs.Matching.{function-matches}
 use Rattle.pieces.proofs.ForwardTree.{itemNamed}
 use Rattle.pieces.proofs.SheetEntries.{Trees, Spelled, RulesKept}
-use Rattle.pieces.proofs.SheetAgreement.{Matched, demand-3}
+use Rattle.pieces.proofs.SheetAgreement.{Matched, TreesFit, demand-3}
 
 -- the trees of a sheet's items
 abbrev pub treesOf : Sheet → Trees
@@ -30,16 +30,6 @@ treesOf s =
       layoutDefined = layoutDefinitionOf;
       functionDefined = shimTree s;
     }
-
-each-of : {A : Type 0} (P Q : A → Type 0) → ((x : A) → P x → Q x) → (xs : List A) → Each P xs → Each Q xs
-each-of P Q f [] h = tt
-each-of P Q f (x ∷ xs) h = (f x (h .0), each-of P Q f xs (h .1))
-
-every-of : {A : Type 0} (P : A → Type 0) (test : A → Bool) → ((x : A) → P x → test x ≡ true) → (xs : List A) →
-    Each P xs → every test xs ≡ true
-unfolding every
-every-of P test f [] h = refl
-every-of P test f (x ∷ xs) h = rw (f x (h .0)) (every-of P test f xs (h .1))
 
 named : {items : List Item} (x : Item) → ItemKept items x → itemNamed x ≡ true
 unfolding itemNamed
@@ -83,18 +73,16 @@ module _ (s : Sheet) (noHeader : s .header ≡ false) (kept : Each (ItemKept (s 
     matched (rustType p) e = (refl, refl)
     matched (function f) e = let g = k .function f e in (g .rustName, function-matches s x f g)
 
-  kept-demand-3 : Demand3 s
-  kept-demand-3 =
-      demand-3 s (treesOf s)
-      (record {
-        noHeader = noHeader;
-        named = every-of (ItemKept (s .items)) itemNamed named (s .items) kept;
-        spelled = each-of (ItemKept (s .items)) _ (λ x k. spelled x k (x .body) refl) (s .items) kept;
-        kept = each-of (ItemKept (s .items)) _ (λ x k. rulesKept x k (x .body) refl) (s .items) kept;
-        matched = each-of (ItemKept (s .items)) _ (λ x k. matched x k (x .body) refl) (s .items) kept;
-      })
+  pub trees-fit : TreesFit s (treesOf s)
+  trees-fit = record {
+    noHeader = noHeader;
+    named = every-of (ItemKept (s .items)) itemNamed named (s .items) kept;
+    spelled = each-of (ItemKept (s .items)) _ (λ x k. spelled x k (x .body) refl) (s .items) kept;
+    kept = each-of (ItemKept (s .items)) _ (λ x k. rulesKept x k (x .body) refl) (s .items) kept;
+    matched = each-of (ItemKept (s .items)) _ (λ x k. matched x k (x .body) refl) (s .items) kept;
+  }
 
 -- the text is the one that the write service promises
 pub accepted-demand-3 : (sheet : List ℕ) (s : Sheet) → judge sheet ≡ accepted s → s .header ≡ false → Demand3 s
 accepted-demand-3 sheet s e noHeader =
-    kept-demand-3 s noHeader (accepted-kept sheet s (judge-accepted sheet s e))
+    demand-3 s (treesOf s) (trees-fit s noHeader (accepted-kept sheet s (judge-accepted sheet s e)))

@@ -9,6 +9,8 @@ use lib.ListN.{length, take, drop, length-append, length-drop}
 use lib.Seq.{drop-append-seam}
 use borrow.Author.Tests.{le-leb}
 use lib.IntN.{ℤ, pos, negsuc, negℤ}
+use Rattle.lexical.specs.Bytes.{every}
+use Rattle.lexical.specs.Names.{reserved, sheetName}
 use Rattle.refusal.specs.declared.Refusal.{Refusal}
 use Rattle.refusal.specs.declared.Refusal.the-variants.{CutSheet, Edition, BadName, LooseIndex, BadKind, TooDeep}
 use Rattle.refusal.specs.declared.Refusal.the-variants.{BadComment, Tail, WrongPart, Taken, UnfitArgument, Ring}
@@ -18,14 +20,17 @@ use Rattle.format.specs.Decode.{pick}
 use Rattle.format.specs.Sheet.{Sheet}
 use Rattle.rules.specs.Judge.{Judged, refused, accepted, judge}
 use Rattle.bridge.specs.Write.{text}
-use Rattle.grammar.specs.Reading.{OneReading}
+use Rattle.grammar.specs.Tree.{Text}
+use Rattle.grammar.specs.Reading.{Reading, OneReading}
 use Rattle.agreement.specs.Agreement.{Agrees}
+use Rattle.agreement.specs.Names.{namesOf}
 use Rattle.services.specs.declared.Written.{Written}
 use Rattle.services.specs.declared.Written.the-variants as Written
 use Rattle.services.specs.Services.{answerOf, bufferOf, Writes, writtenCode}
 use Rattle.struct_order.proofs.ServeLaws.{served-inside}
 use Rattle.write_sheet.proofs.WrittenLaws.{written-text}
 use Rattle.demand3.proofs.Demand3.{accepted-demand-3}
+use Rattle.demand3.proofs.Names.{accepted-names}
 use Rattle.exports.specs.Codes.{WritesCode}
 use Rattle.end_to_end.specs.TextAtFront.{TextAtFront}
 
@@ -61,6 +66,10 @@ module _ {sheet buffer after : List ℕ} {n : ℕ} {s : Sheet} (w : Writes sheet
       let d = accepted-demand-3 sheet s e h in
       rw (written-text w e) (d .reading, d .agrees)
 
+  front-names : s .header ≡ false → (tree : Text) → Reading tree (take n after) →
+      every (sheetName reserved) (namesOf tree) ≡ true
+  front-names h tree r = accepted-names sheet s e h tree (rw (written-text w e) at r)
+
 pub text-at-front : {sheet buffer after : List ℕ} {n : ℕ} → Writes sheet buffer (Written.Length n) after →
     TextAtFront sheet buffer n after
 text-at-front {sheet} {buffer} {after} {n} w = go (judge sheet) refl
@@ -73,6 +82,7 @@ text-at-front {sheet} {buffer} {after} {n} w = go (judge sheet) refl
       value = s;
       accepts = e;
       demand3 = front w e;
+      names = front-names w e;
       inside = served-inside w refl;
       behind = unchanged w e .0;
       sameLength = unchanged w e .1;

@@ -16,7 +16,7 @@ use Rattle.bridge.specs.Write.{text}
 use Rattle.examples.proofs.Computing.{computes}
 
 -- the number of a check
-abbrev number : List ℕ → ℕ
+abbrev pub number : List ℕ → ℕ
 number sheet = checkedNumber (check sheet)
 
 -- the spelling of a type of a sheet without items

@@ -1,5 +1,7 @@
 pub mod Computing
 pub mod ByHand
+pub mod Reserved
 pub mod Mill
 pub mod Sheets
 pub mod MillReading
+pub mod TreeNames

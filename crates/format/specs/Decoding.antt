@@ -1,4 +1,5 @@
--- From bytes to the value of a sheet, or to the first fault of 1 to 8 (document 01, "The sheet", rules 1 to 4).
+-- From bytes to the value of a sheet, or to the first fault of 1 to 8 (document 01, "The sheet", rules 1 to 4; of names
+-- also document 02, order 3).
 use mathlib.Core.List.{List, [], _∷_}
 use mathlib.Core.Bool.{Bool, true, false, not, _&&_}
 use Prim.Native.Nat.{ℕ, zero, suc, _-_, _*_, _%_}
@@ -7,7 +8,7 @@ use lib.Dec.{leb, eqb}
 use Rattle.refusal.specs.declared.Refusal.{Refusal}
 use Rattle.refusal.specs.declared.Refusal.the-variants.{CutSheet, Edition, BadName, BadKind, TooDeep, BadComment, Tail}
 use Rattle.lexical.specs.Bytes.{within, every}
-use Rattle.lexical.specs.Names.{isName}
+use Rattle.lexical.specs.Names.{reserved, isName, sheetName}
 use Rattle.format.specs.declared.Atom.{Atom}
 use Rattle.format.specs.declared.Atom.the-variants as Atom
 use Rattle.format.specs.declared.Template.the-variants.{RustBox, RustVec, UniquePtr, SharedPtr, WeakPtr}
@@ -26,9 +27,13 @@ use Rattle.format.specs.Sheet.{struct, enum, cxxType, rustType, function
 
 -- ---- names
 
--- a name with its length is one field: cut before bad
+-- a name under a rule; with its length it is one field: cut before bad
+unfoldable pub nameBy : (List ℕ → Bool) → Dec Name
+nameBy rule = bits 6 >> λ n. many n (bits 7) >> λ cs. unless (rule cs) BadName (pure cs)
+
+-- under the base rule: what stands at the position of an accepted name
 unfoldable pub name : Dec Name
-name = bits 6 >> λ n. many n (bits 7) >> λ cs. unless (isName cs) BadName (pure cs)
+name = nameBy isName
 
 -- a name of the table, by its index
 unfoldable pub nameOf : List Name → Dec Name
@@ -168,8 +173,12 @@ tail x s at =
 unfoldable pub itemTable : List Name → Dec (List Item)
 itemTable names = bits 8 >> λ n. many n (item names n)
 
+-- a name of the table, used or not, keeps the sheet's rule
+abbrev pub tableName : Dec Name
+tableName = nameBy (sheetName reserved)
+
 unfoldable pub nameTable : Dec (List Name)
-nameTable = bits 10 >> λ n. many n name
+nameTable = bits 10 >> λ n. many n tableName
 
 unfoldable pub sheet : Dec Sheet
 sheet =

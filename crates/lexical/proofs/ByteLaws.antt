@@ -36,6 +36,21 @@ abbrev pub Each : {A : Type 0} → (A → Type 0) → List A → Type 0
 Each P [] = Unit {0}
 Each P (x ∷ xs) = P x × Each P xs
 
+pub each-of : {A : Type 0} (P Q : A → Type 0) → ((x : A) → P x → Q x) → (xs : List A) → Each P xs → Each Q xs
+each-of P Q f [] h = tt
+each-of P Q f (x ∷ xs) h = (f x (h .0), each-of P Q f xs (h .1))
+
+pub every-of : {A : Type 0} (P : A → Type 0) (test : A → Bool) → ((x : A) → P x → test x ≡ true) → (xs : List A) →
+    Each P xs → every test xs ≡ true
+unfolding every
+every-of P test f [] h = refl
+every-of P test f (x ∷ xs) h = rw (f x (h .0)) (every-of P test f xs (h .1))
+
+pub each-true : {A : Type 0} (test : A → Bool) (xs : List A) → every test xs ≡ true → Each (λ x. test x ≡ true) xs
+unfolding every
+each-true test [] h = tt
+each-true test (x ∷ xs) h = let q = both (test x) (every test xs) h in (q .0, each-true test xs (q .1))
+
 -- what holds of each byte of a list holds of every byte that the list has
 pub each : (P : ℕ → Type 0) (s : List ℕ) → Each P s → (c : ℕ) → elem c s ≡ true → P c
 each P [] h c e = absurd (false≢true e)

@@ -6,7 +6,7 @@ use Prim.Native.Nat.{ℕ}
 use lib.ListN.{length}
 use Rattle.lexical.specs.Bytes.{every, same, member}
 use Rattle.lexical.specs.Names.{nameStart, nameChar, starts, nameShape, nameOk, keywords, alternativeTokens}
-use Rattle.lexical.specs.Names.{reserved}
+use Rattle.lexical.specs.Names.{reserved, reservedShape, sheetName}
 use Rattle.lexical.proofs.BoolLaws.{both, and-of, not-true, fails-too, by-cases}
 use Rattle.lexical.proofs.ByteLaws.{same-eq, member-append-left}
 
@@ -34,6 +34,16 @@ name-starts table s h = both (starts nameStart s) (every nameChar s) (name-shape
 pub name-chars : (table : List (List ℕ)) (s : List ℕ) → nameOk table s ≡ true → every nameChar s ≡ true
 unfolding nameShape
 name-chars table s h = both (starts nameStart s) (every nameChar s) (name-shape table s h) .1
+
+-- a sheet's rule is the base rule, and reserved identifiers are none of its names
+
+pub sheet-name-base : (table : List (List ℕ)) (s : List ℕ) → sheetName table s ≡ true → nameOk table s ≡ true
+unfolding sheetName
+sheet-name-base table s h = both (nameOk table s) (not (reservedShape s)) h .0
+
+pub sheet-name-free : (table : List (List ℕ)) (s : List ℕ) → sheetName table s ≡ true → reservedShape s ≡ false
+unfolding sheetName
+sheet-name-free table s h = not-true (reservedShape s) (both (nameOk table s) (not (reservedShape s)) h .1)
 
 -- a larger table only forbids more
 pub name-smaller : (table more : List (List ℕ)) (s : List ℕ) → nameOk (table ++ more) s ≡ true → nameOk table s ≡ true

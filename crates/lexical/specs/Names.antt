@@ -1,4 +1,4 @@
--- Characters and the name rule (document 01, "The sheet", rule 2).
+-- Characters and the name rule (document 01, "The sheet", rule 2; document 02, order 3).
 use mathlib.Core.List.{List, [], _∷_, _++_}
 use mathlib.Core.Bool.{Bool, false, _&&_, _||_, not}
 use Prim.Native.Nat.{ℕ}
@@ -57,6 +57,30 @@ alternativeTokens =
 unfoldable pub reserved : List (List ℕ)
 reserved = keywords ++ alternativeTokens
 
--- the name rule of edition 1
+-- the base rule: the table of edition 1, reserved identifiers let through. The grammar has names by this one.
 abbrev pub isName : List ℕ → Bool
 isName s = nameOk reserved s
+
+-- ---- identifiers that ISO C++ [lex.name] reserves: "each identifier that contains a double underscore __ or begins
+-- with an underscore followed by an uppercase letter"
+
+abbrev pub underscore : ℕ → Bool
+underscore c = eqb c 95
+
+abbrev pub capital : ℕ → Bool
+capital c = within 65 90 c
+
+unfoldable pub doubleUnderscore : List ℕ → Bool
+doubleUnderscore [] = false
+doubleUnderscore (c ∷ s) = (underscore c && starts underscore s) || doubleUnderscore s
+
+unfoldable pub underscoreCapital : List ℕ → Bool
+underscoreCapital [] = false
+underscoreCapital (c ∷ s) = underscore c && starts capital s
+
+unfoldable pub reservedShape : List ℕ → Bool
+reservedShape s = doubleUnderscore s || underscoreCapital s
+
+-- the name rule of a sheet with this table of words (document 02, order 3)
+unfoldable pub sheetName : List (List ℕ) → List ℕ → Bool
+sheetName table s = nameOk table s && not (reservedShape s)

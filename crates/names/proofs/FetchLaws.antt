@@ -11,7 +11,7 @@ use Rattle.refusal.specs.declared.Refusal.the-variants.{BadName}
 use Rattle.format.specs.Limits.{longestName}
 use Rattle.format.specs.Decode.{Got, fault, got, pick}
 use Rattle.format.specs.Sheet.{Name}
-use Rattle.format.specs.Decoding.{name}
+use Rattle.format.specs.Decoding.{nameBy, name}
 use Rattle.cursor.specs.declared.Cursor.{Cursor}
 use Rattle.cursor.specs.declared.Field.{Field}
 use Rattle.cursor.specs.declared.Field.the-variants.{Value, Cut}
@@ -27,11 +27,11 @@ no-name e n b l h = record {
 
 module _ (s : List ℕ) (at : ℕ) {b : List ℕ} {r : Field} (h : Spelled 6 s at r b) where
   pub fetch-none : r ≡ Cut → Fetched (name s at) 0 b
-  unfolding name ruledText
+  unfolding name nameBy ruledText
   fetch-none t = no-name _ 0 b (omega arith) (text-none 6 s at h t isName BadName)
 
   pub fetch-value : {n : ℕ} {c : Cursor} → r ≡ Value n c → Fetched (name s at) n b
-  unfolding name ruledText
+  unfolding name nameBy ruledText
   fetch-value {n} {c} t =
       by-rule (omega (arith, text-lt 6 s at h t)) (isName (take n b)) (text-value 6 s at h t isName BadName)
     where

@@ -78,7 +78,7 @@ namesOf (userDefinedNamespace n ∷ bs) = n ∷ namesOf bs
 namesOf (externC ∷ bs) = namesOf bs
 
 module _ {C M : Type 0} (into : C → Tree.Block → C) where
-  nothing-closed : (onOpen : C → Tree.Block → M → M) (c : C) (P : List Block) (r : M) →
+  pub nothing-closed : (onOpen : C → Tree.Block → M → M) (c : C) (P : List Block) (r : M) →
       closes into onOpen (λ c b r. r) c P r ≡ r
   nothing-closed onOpen c [] r = refl
   nothing-closed onOpen c (a ∷ P) r = nothing-closed onOpen (into c (treeBlock a)) P r
@@ -87,12 +87,23 @@ module _ {C M : Type 0} (into : C → Tree.Block → C) where
   nothing-opened c [] r = refl
   nothing-opened c (b ∷ Q) r = nothing-opened (into c (treeBlock b)) Q r
 
+  -- what opening keeps, moving keeps
+  pub moves-keep : (onOpen : C → Tree.Block → M → M) (Fits : C → List Block → Type 0) (Good : M → Type 0) →
+      ((c : C) (b : Block) (Q : List Block) → Fits c (b ∷ Q) → Fits (into c (treeBlock b)) Q) →
+      ((c : C) (Q : List Block) (r : M) → Fits c Q → Good r → Good (opens into onOpen (λ c b r. r) c Q r)) →
+      (c : C) (P Q : List Block) (r : M) → Fits c Q → Good r → Good (moves into onOpen (λ c b r. r) c P Q r)
+  moves-keep onOpen Fits Good inner opened c [] Q r h e = opened c Q r h e
+  moves-keep onOpen Fits Good inner opened c (a ∷ P) [] r h e = rw (nothing-closed onOpen c (a ∷ P) r) e
+  moves-keep onOpen Fits Good inner opened c (a ∷ P) (b ∷ Q) r h e =
+      by-cases (sameBlock a b)
+      (λ q. rw (q, block-eq a b q)
+      (moves-keep onOpen Fits Good inner opened (into c (treeBlock b)) P Q r (inner c b Q h) e))
+      (λ q. rw (q, nothing-closed onOpen c (a ∷ P)) (opened c (b ∷ Q) r h e))
+
   nothing-moved : (c : C) (P Q : List Block) (r : M) → moves into (λ c b r. r) (λ c b r. r) c P Q r ≡ r
-  nothing-moved c [] Q r = nothing-opened c Q r
-  nothing-moved c (a ∷ P) [] r = nothing-closed (λ c b r. r) c (a ∷ P) r
-  nothing-moved c (a ∷ P) (b ∷ Q) r =
-      by-cases (sameBlock a b) (λ e. rw e (nothing-moved (into c (treeBlock a)) P Q r))
-      (λ e. rw e (nothing-closed (λ c b r. r) c (a ∷ P) _ ∙ nothing-opened c (b ∷ Q) r))
+  nothing-moved c P Q r =
+      moves-keep (λ c b r. r) (λ c Q. Unit {0}) (λ x. x ≡ r) (λ c b Q h. h)
+      (λ c Q x h e. nothing-opened c Q x ∙ e) c P Q r tt refl
 
 abbrev intoName : List Name → Tree.Block → List Name
 intoName ns (Tree.namespace x) = ns ++ (x ∷ [])
@@ -264,12 +275,7 @@ opens-ok c (externC ∷ Q) r h e = opens-ok (c .0, true) Q r (fits-in c externC 
 
 moves-ok : (c : Place) (P Q : List Block) (r : Bool) → Fits c Q → r ≡ true →
     moves intoPlace okOpen (λ c b r. r) c P Q r ≡ true
-moves-ok c [] Q r h e = opens-ok c Q r h e
-moves-ok c (a ∷ P) [] r h e = nothing-closed intoPlace okOpen c (a ∷ P) r ∙ e
-moves-ok c (a ∷ P) (b ∷ Q) r h e =
-    by-cases (sameBlock a b)
-    (λ q. rw (q, block-eq a b q) (moves-ok (intoPlace c (treeBlock b)) P Q r (fits-in c b Q h) e))
-    (λ q. rw q (nothing-closed intoPlace okOpen c (a ∷ P) _ ∙ opens-ok c (b ∷ Q) r h e))
+moves-ok = moves-keep intoPlace okOpen Fits (λ r. r ≡ true) fits-in opens-ok
 
 entries-ok : (P : List Block) (es : List Entry) → every entryOk es ≡ true →
     foldEntries intoPlace okOpen (λ c b r. r) okItem (0, false) P es true ≡ true

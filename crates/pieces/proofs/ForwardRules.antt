@@ -21,7 +21,7 @@ use Rattle.grammar.specs.Tree.{Forward, forwardEnd}
 use Rattle.grammar.specs.Rules.{ofStdOrRust, fullNameOk, forwardLineOk, forwardOk}
 use Rattle.grammar.proofs.TextBack.{hasLines, forwardFilled}
 use Rattle.pieces.proofs.ForwardTree.{lineTree, linesTree, namespacesTree, entriesTree, forwardOf, itemNamed, Named}
-use Rattle.pieces.proofs.ForwardTree.{named-item, every-filter, distinct-every, direct-named, inner-named}
+use Rattle.pieces.proofs.ForwardTree.{named-item, every-filter, distinct-every, direct-every, inner-every}
 use Rattle.pieces.proofs.ForwardTree.{nested-named}
 
 -- ---- the rules
@@ -73,12 +73,14 @@ namespaces-ok depth tree step l (n ∷ ns) h =
 entries-ok : (levels depth : ℕ) (apis : List Item) → depth + levels ≤ 7 → every itemNamed apis ≡ true →
     forwardOk depth (entriesTree levels depth apis) ≡ true
 unfolding entriesTree forwardOk
-entries-ok zero depth apis l h = lines-ok depth (directContent depth apis) forwardEnd (direct-named depth apis h) refl
+entries-ok zero depth apis l h =
+    lines-ok depth (directContent depth apis) forwardEnd (direct-every itemNamed depth apis h) refl
 entries-ok (suc levels) depth apis l h =
-    lines-ok depth (directContent depth apis) _ (direct-named depth apis h)
+    lines-ok depth (directContent depth apis) _ (direct-every itemNamed depth apis h)
     (namespaces-ok depth (λ name. entriesTree levels (depth + 1) (nestedContent depth name apis))
     (λ name. rw (← add-one depth)
-    (entries-ok levels (depth + 1) (nestedContent depth name apis) (omega arith) (inner-named depth name apis h)))
+    (entries-ok levels (depth + 1) (nestedContent depth name apis) (omega arith)
+    (inner-every itemNamed depth name apis h)))
     (omega arith) (nestedNames depth apis) (nested-named depth apis h))
 
 pub forward-ok : (items : List Item) → every itemNamed items ≡ true → forwardOk 0 (forwardOf items) ≡ true
@@ -143,14 +145,6 @@ inner-passes : (depth : ℕ) (n : Name) (x : Item) (xs : List Item) → Nested.s
 unfolding nestedContent filter
 inner-passes depth n x xs e = rw e
 
-direct-needs : (depth : ℕ) (xs : List Item) → every needs xs ≡ true → every needs (directContent depth xs) ≡ true
-unfolding directContent
-direct-needs depth xs h = every-filter needs _ xs h
-
-inner-needs : (depth : ℕ) (n : Name) (xs : List Item) → every needs xs ≡ true → every needs (nestedContent depth n xs) ≡ true
-unfolding nestedContent
-inner-needs depth n xs h = every-filter needs _ xs h
-
 -- a level with an item has its line, or a namespace where levels are left
 entries-have : (levels depth : ℕ) (x : Item) (xs : List Item) → depth + levels ≡ 7 →
     every itemNamed (x ∷ xs) ≡ true → every needs (x ∷ xs) ≡ true → hasLines (entriesTree levels depth (x ∷ xs)) ≡ true
@@ -169,7 +163,8 @@ entries-have (suc levels) depth x xs l h g = go (nth depth x) refl
         hasLines (linesTree (directContent depth (x ∷ xs)) (namespacesTree tree (nestedNames depth (x ∷ xs)))) ≡ true
     go [] e = rw (direct-begins depth x xs e) (line-has x (x .body) _ (every-cons needs x xs g .0))
     go (n ∷ ns) e =
-        lines-have (directContent depth (x ∷ xs)) _ (direct-needs depth (x ∷ xs) g) (rw (nested-begins depth x xs n ns e))
+        lines-have (directContent depth (x ∷ xs)) _ (direct-every needs depth (x ∷ xs) g)
+        (rw (nested-begins depth x xs n ns e))
 
 -- ---- and so has each namespace inside
 
@@ -238,8 +233,8 @@ entries-filled (suc levels) depth apis l h g =
     lines-filled (directContent depth apis) _
     (namespaces-filled (λ name. entriesTree levels (depth + 1) (nestedContent depth name apis)) (λ n. member n (nthNames depth apis))
     (λ n e.
-    let named = inner-named depth n apis h in
-    let needed = inner-needs depth n apis g in
+    let named = inner-every itemNamed depth n apis h in
+    let needed = inner-every needs depth n apis g in
     let k = inner-holds depth n apis e in
     let q = k .are in (
       rw q (entries-have levels (depth + 1) (k .one) (k .others) (omega arith) (rw q at named) (rw q at needed)),

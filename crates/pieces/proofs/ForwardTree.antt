@@ -8,7 +8,7 @@ use lib.ListN.{length, drop, replicate}
 use Rattle.lexical.specs.Bytes.{bytes, every, member}
 use Rattle.lexical.specs.Names.{isName}
 use Rattle.lexical.proofs.BoolLaws.{both, by-cases}
-use Rattle.lexical.proofs.ByteLaws.{every-cons, every-append, every-snoc}
+use Rattle.lexical.proofs.ByteLaws.{every-cons, every-append, every-snoc, every-weaken}
 use Rattle.format.specs.declared.Atom.{Atom}
 use Rattle.format.specs.declared.Atom.the-variants as Atom
 use Rattle.format.specs.Sheet.{Name, Body, struct, enum, cxxType, rustType, function, Item}
@@ -87,6 +87,16 @@ every-filter test keep (x ∷ xs) h =
     let q = every-cons test x xs h in
     by-cases (keep x) (λ e. rw (e, q .0) (every-filter test keep xs (q .1)))
     (λ e. rw e (every-filter test keep xs (q .1)))
+
+pub direct-every : (test : Item → Bool) (depth : ℕ) (xs : List Item) → every test xs ≡ true →
+    every test (directContent depth xs) ≡ true
+unfolding directContent
+direct-every test depth xs h = every-filter test _ xs h
+
+pub inner-every : (test : Item → Bool) (depth : ℕ) (name : Name) (xs : List Item) → every test xs ≡ true →
+    every test (nestedContent depth name xs) ≡ true
+unfolding nestedContent
+inner-every test depth name xs h = every-filter test _ xs h
 
 -- ---- lines
 
@@ -193,25 +203,6 @@ module _ (depth : ℕ) (tree : Name → Forward) (spelled : Name → List ℕ)
 
 -- ---- the names of a level
 
-drop-named : (n : ℕ) (ns : List Name) → every isName ns ≡ true → every isName (drop n ns) ≡ true
-drop-named zero ns h = h
-drop-named (suc n) [] h = h
-drop-named (suc n) (x ∷ ns) h = drop-named n ns (every-cons isName x ns h .1)
-
-first-named : (ns : List Name) → every isName ns ≡ true → every isName (firstName ns) ≡ true
-unfolding every
-first-named [] h = refl
-first-named (x ∷ ns) h = rw (every-cons isName x ns h .0)
-
-names-named : (depth : ℕ) (xs : List Item) → every itemNamed xs ≡ true → every isName (nthNames depth xs) ≡ true
-unfolding every nthNames nth
-names-named depth [] h = refl
-names-named depth (x ∷ xs) h =
-    let q = every-cons itemNamed x xs h in
-    every-append isName (nth depth x) (nthNames depth xs)
-    (first-named (drop depth (x .namespace)) (drop-named depth (x .namespace) (named-item x (q .0) .namespaces)))
-    (names-named depth xs (q .1))
-
 -- what holds of each name holds of each distinct one
 pub distinct-every : (test : Name → Bool) (seen ns : List Name) → every test ns ≡ true →
     every test (distinct seen ns) ≡ true
@@ -222,35 +213,53 @@ distinct-every test seen (n ∷ ns) h =
     by-cases (member n seen) (λ e. rw e (distinct-every test seen ns (q .1)))
     (λ e. rw (e, q .0) (distinct-every test (n ∷ seen) ns (q .1)))
 
+module _ (rule : Name → Bool) where
+  drop-kept : (n : ℕ) (ns : List Name) → every rule ns ≡ true → every rule (drop n ns) ≡ true
+  drop-kept zero ns h = h
+  drop-kept (suc n) [] h = h
+  drop-kept (suc n) (x ∷ ns) h = drop-kept n ns (every-cons rule x ns h .1)
+
+  first-kept : (ns : List Name) → every rule ns ≡ true → every rule (firstName ns) ≡ true
+  unfolding every
+  first-kept [] h = refl
+  first-kept (x ∷ ns) h = rw (every-cons rule x ns h .0)
+
+  names-kept : (depth : ℕ) (xs : List Item) → every (λ x. every rule (x .namespace)) xs ≡ true →
+      every rule (nthNames depth xs) ≡ true
+  unfolding every nthNames nth
+  names-kept depth [] h = refl
+  names-kept depth (x ∷ xs) h =
+      let q = every-cons (λ x. every rule (x .namespace)) x xs h in
+      every-append rule (nth depth x) (nthNames depth xs)
+      (first-kept (drop depth (x .namespace)) (drop-kept depth (x .namespace) (q .0))) (names-kept depth xs (q .1))
+
+  pub nested-kept : (depth : ℕ) (xs : List Item) → every (λ x. every rule (x .namespace)) xs ≡ true →
+      every rule (nestedNames depth xs) ≡ true
+  unfolding nestedNames
+  nested-kept depth xs h = distinct-every rule [] (nthNames depth xs) (names-kept depth xs h)
+
 pub nested-named : (depth : ℕ) (xs : List Item) → every itemNamed xs ≡ true → every isName (nestedNames depth xs) ≡ true
-unfolding nestedNames
-nested-named depth xs h = distinct-every isName [] (nthNames depth xs) (names-named depth xs h)
+nested-named depth xs h =
+    nested-kept isName depth xs
+    (every-weaken itemNamed (λ x. every isName (x .namespace)) (λ x e. named-item x e .namespaces) xs h)
 
 -- ---- the layout
-
-pub direct-named : (depth : ℕ) (xs : List Item) → every itemNamed xs ≡ true → every itemNamed (directContent depth xs) ≡ true
-unfolding directContent
-direct-named depth xs h = every-filter itemNamed _ xs h
-
-pub inner-named : (depth : ℕ) (name : Name) (xs : List Item) → every itemNamed xs ≡ true →
-    every itemNamed (nestedContent depth name xs) ≡ true
-unfolding nestedContent
-inner-named depth name xs h = every-filter itemNamed _ xs h
 
 entries-laid : (levels depth : ℕ) (apis : List Item) (ts : List Token) (r : List ℕ) → every itemNamed apis ≡ true →
     Layout ts r → Layout (forwardTokens (entriesTree levels depth apis) ts) (writeEntries levels depth apis ++ r)
 unfolding entriesTree writeEntries writeDirect
 entries-laid zero depth apis ts r h d =
-    lines-laid depth (directContent depth apis) forwardEnd ts r (direct-named depth apis h) d
+    lines-laid depth (directContent depth apis) forwardEnd ts r (direct-every itemNamed depth apis h) d
 entries-laid (suc levels) depth apis ts r h d =
     let tree : Name → Forward = λ name. entriesTree levels (depth + 1) (nestedContent depth name apis) in
     let spelled : Name → List ℕ = λ name. writeEntries levels (depth + 1) (nestedContent depth name apis) in
     let step : (name : Name) (ts : List Token) (r : List ℕ) → Layout ts r →
     Layout (forwardTokens (tree name) ts) (spelled name ++ r)
-    = λ name ts r d. entries-laid levels (depth + 1) (nestedContent depth name apis) ts r (inner-named depth name apis h) d in
+    = λ name ts r d. entries-laid levels (depth + 1) (nestedContent depth name apis) ts r
+    (inner-every itemNamed depth name apis h) d in
     rw (append-assoc (writeDirect depth apis) (gather (written depth tree spelled step) (nestedNames depth apis)) r)
     (lines-laid depth (directContent depth apis) (namespacesTree tree (nestedNames depth apis)) ts
-    (gather (written depth tree spelled step) (nestedNames depth apis) ++ r) (direct-named depth apis h)
+    (gather (written depth tree spelled step) (nestedNames depth apis) ++ r) (direct-every itemNamed depth apis h)
     (namespaces-laid depth tree spelled step (nestedNames depth apis) ts r (nested-named depth apis h) d))
 
 pub forward-laid : (items : List Item) (ts : List Token) (r : List ℕ) → every itemNamed items ≡ true → Layout ts r →

@@ -9,3 +9,4 @@ pub mod ForwardRules
 pub mod SheetEntries
 pub mod SheetReading
 pub mod SheetAgreement
+pub mod SheetNames

@@ -9,6 +9,7 @@ use Rattle.lexical.proofs.ByteLaws.{Each, every-cons, every-append}
 use Rattle.format.specs.Decode.{pick}
 use Rattle.format.specs.Sheet.{Name, Function, Body, struct, enum, cxxType, rustType, function, Item, Sheet}
 use Rattle.rules.specs.Rules.{gather}
+use Rattle.rules.proofs.EveryLaws.{every-gather}
 use Rattle.grammar.specs.Tree as Tree
 use Rattle.grammar.specs.Tree.{Declaration, LayoutDefinition, Shim, Measure, size, align, declares, defines, shim}
 use Rattle.grammar.specs.Rules.{itemOk}
@@ -62,13 +63,6 @@ module _ {A : Type 0} (P : A → Type 0) where
   spell-gather f g step (x ∷ xs) h =
       spell-append (f x) (gather f xs) (g x) (gather g xs) (step x (h .0)) (spell-gather f g step xs (h .1))
 
-  every-gather : {B : Type 0} (test : B → Bool) (g : A → List B) → ((x : A) → P x → every test (g x) ≡ true) →
-      (xs : List A) → Each P xs → every test (gather g xs) ≡ true
-  unfolding gather every
-  every-gather test g step [] h = refl
-  every-gather test g step (x ∷ xs) h =
-      every-append test (g x) (gather g xs) (step x (h .0)) (every-gather test g step xs (h .1))
-
 with-test : {A : Type 0} (test : A → Bool) (P : A → Type 0) (xs : List A) → every test xs ≡ true → Each P xs →
     Each (λ x. (test x ≡ true) × P x) xs
 with-test test P [] h p = tt
@@ -87,7 +81,7 @@ pub record Trees : Type 0 where
 abbrev declaredEntry : Item → Declaration → Entry
 declaredEntry x d = (namespaces x ++ (externC ∷ []), declares d)
 
-abbrev declaredEntries : Trees → Item → Body → List Entry
+abbrev pub declaredEntries : Trees → Item → Body → List Entry
 declaredEntries trees x (struct p ts) = []
 declaredEntries trees x (enum p a cxx) = []
 declaredEntries trees x (cxxType p) = []
@@ -95,7 +89,7 @@ declaredEntries trees x (rustType p) =
     declaredEntry x (trees .layoutDeclared x size) ∷ declaredEntry x (trees .layoutDeclared x align) ∷ []
 declaredEntries trees x (function f) = declaredEntry x (trees .functionDeclared x f) ∷ []
 
-abbrev definedEntries : Trees → Item → Body → List Entry
+abbrev pub definedEntries : Trees → Item → Body → List Entry
 definedEntries trees x (struct p ts) = []
 definedEntries trees x (enum p a cxx) = []
 definedEntries trees x (cxxType p) = []
@@ -106,6 +100,18 @@ definedEntries trees x (function f) = (namespaces x, shim (trees .functionDefine
 pub entriesOf : Trees → List Item → List Entry
 entriesOf trees items =
     gather (λ x. declaredEntries trees x (x .body)) items ++ gather (λ x. definedEntries trees x (x .body)) items
+
+-- what holds of the entries of each item holds of the sheet's entries
+pub entries-every : (test : Entry → Bool) (keep : Item → Bool) (P : Item → Type 0) (trees : Trees) →
+    ((x : Item) → keep x ≡ true → P x →
+    (every test (declaredEntries trees x (x .body)) ≡ true) × (every test (definedEntries trees x (x .body)) ≡ true)) →
+    (items : List Item) → every keep items ≡ true → Each P items → every test (entriesOf trees items) ≡ true
+unfolding entriesOf
+entries-every test keep P trees step items n h =
+    let k = with-test keep P items n h in
+    every-append test (gather (λ x. declaredEntries trees x (x .body)) items) _
+    (every-gather (λ x. (keep x ≡ true) × P x) test _ (λ x k. step x (k .0) (k .1) .0) items k)
+    (every-gather (λ x. (keep x ≡ true) × P x) test _ (λ x k. step x (k .0) (k .1) .1) items k)
 
 -- ---- what the trees of an item must be
 
@@ -242,14 +248,9 @@ module _ (x : Item) (named : itemNamed x ≡ true) where
 
 pub entries-ok : (trees : Trees) (items : List Item) → every itemNamed items ≡ true →
     Each (λ x. RulesKept trees x (x .body)) items → every entryOk (entriesOf trees items) ≡ true
-unfolding entriesOf
-entries-ok trees items n h =
-    let k = with-test itemNamed (λ x. RulesKept trees x (x .body)) items n h in
-    every-append entryOk (gather (λ x. declaredEntries trees x (x .body)) items) _
-    (every-gather (λ x. (itemNamed x ≡ true) × RulesKept trees x (x .body)) entryOk _
-    (λ x k. declared-entries-ok x (k .0) trees (x .body) (k .1)) items k)
-    (every-gather (λ x. (itemNamed x ≡ true) × RulesKept trees x (x .body)) entryOk _
-    (λ x k. defined-entries-ok x (k .0) trees (x .body) (k .1)) items k)
+entries-ok trees =
+    entries-every entryOk itemNamed (λ x. RulesKept trees x (x .body)) trees
+    (λ x n h. (declared-entries-ok x n trees (x .body) h, defined-entries-ok x n trees (x .body) h))
 
 -- ---- declared and defined in sheet order
 

@@ -9,7 +9,7 @@ use Rattle.lexical.specs.Names.{isName}
 use Rattle.refusal.specs.declared.Refusal.the-variants.{BadName}
 use Rattle.format.specs.Decode.{Got, got, many}
 use Rattle.format.specs.Bits.{bits}
-use Rattle.format.specs.Decoding.{name}
+use Rattle.format.specs.Decoding.{nameBy, name}
 use Rattle.cursor.proofs.FieldLaws.{field-next}
 use Rattle.cursor.specs.declared.Found.{Found}
 use Rattle.view.specs.Values.{Yields, nameAt}
@@ -68,7 +68,7 @@ module _ (s : List ℕ) (n at : ℕ) (l : at + 7 * n ≤ 8 * length s) where
 
 module _ (s : List ℕ) (at : ℕ) {f : Found} (y : Yields (name s at) (nameAt s at)) (h : Finds (bits 6 s at) 6 f) where
   pub name-chars : Yields (many (f .value) (bits 7) s (f .next .at)) (nameAt s at)
-  unfolding name
+  unfolding name nameBy
   name-chars =
       in-turn (bits 6 s at) _ (y .is) (λ n a e₁ h₁.
       in-turn (many n (bits 7) s a) _ h₁ (λ cs b e₂ h₂.
@@ -81,7 +81,7 @@ module _ (s : List ℕ) (at : ℕ) {f : Found} (y : Yields (name s at) (nameAt s
   -- its characters are put into a buffer of its length
 
   pub name-inside : f .next .at + 7 * f .value ≤ 8 * length s
-  unfolding name
+  unfolding name nameBy
   name-inside = by-count (f .value) name-chars
     where
       start : f .next .at ≤ 8 * length s

@@ -1,4 +1,4 @@
--- What document 01 says of any bytes: the value of an accepted sheet, or the refusal.
+-- What documents 01 and 02 say of any bytes: the value of an accepted sheet, or the refusal.
 use mathlib.Core.List.{List}
 use Prim.Native.Nat.{ℕ}
 use Rattle.refusal.specs.declared.Refusal.{Refusal}

@@ -12,3 +12,5 @@ pub mod ShimSpelling
 pub mod ShimRules
 pub mod Matching
 pub mod Pieces
+pub mod TreeNames
+pub mod Reserved

@@ -70,13 +70,15 @@ symbol-spells s h = word-spells s (symbol-word s h)
 -- ---- the symbols of a sheet
 
 module _ (items : List Item) (kept : Each (ItemKept items) items) where
-  self-names : (form : Form) → formFits (length items) form ≡ true →
-      every segmentOk (map (λ i. itemAt items i .cxx) (selfType form)) ≡ true
-  unfolding every formFits
-  self-names free h = refl
-  self-names (constMethod i) h = rw (name-segment (itemAt items i .cxx) (item-kept items kept i h .cxxName))
-  self-names (mutMethod i) h = rw (name-segment (itemAt items i .cxx) (item-kept items kept i h .cxxName))
-  self-names (associated i) h = rw (name-segment (itemAt items i .cxx) (item-kept items kept i h .cxxName))
+  -- the self type's name passes a test that each item's name passes
+  module _ (test : Name → Bool) (passes : (x : Item) → ItemKept items x → test (x .cxx) ≡ true) where
+    pub self-every : (form : Form) → formFits (length items) form ≡ true →
+        every test (map (λ i. itemAt items i .cxx) (selfType form)) ≡ true
+    unfolding every formFits
+    self-every free h = refl
+    self-every (constMethod i) h = rw (passes (itemAt items i) (item-kept items kept i h))
+    self-every (mutMethod i) h = rw (passes (itemAt items i) (item-kept items kept i h))
+    self-every (associated i) h = rw (passes (itemAt items i) (item-kept items kept i h))
 
   module _ (x : Item) (k : ItemKept items x) (f : Function) (g : FunctionKept items f) where
     pub externFn-symbol : isSymbol (externFn items (x .namespace) f) ≡ true
@@ -85,7 +87,7 @@ module _ (items : List Item) (kept : Each (ItemKept items) items) where
         let self = map (λ i. itemAt items i .cxx) (selfType (f .form)) in
         rw (append-assoc (x .namespace ++ version) self (f .rust ∷ []))
         (join-symbol (x .namespace) (self ++ (f .rust ∷ [])) (k .namespaceNames)
-        (every-append segmentOk self (f .rust ∷ []) (self-names (f .form) (g .formFits))
+        (every-append segmentOk self (f .rust ∷ []) (self-every segmentOk (λ y l. name-segment (y .cxx) (l .cxxName)) (f .form) (g .formFits))
         (rw (name-segment (f .rust) (g .rustName)))))
 
     pub externFn-spells :

@@ -1,4 +1,4 @@
--- Laws of the loops over bytes.
+-- Laws of the loop over two lists of bytes.
 use mathlib.Core.Path.{_≡_, refl, ap}
 use mathlib.Core.List.{List, [], _∷_}
 use mathlib.Core.Bool.{Bool, true, false, _&&_}
@@ -8,24 +8,7 @@ use lib.ListN.{length, getD, drop, drop-of-length-le}
 use lib.Dec.{eqb}
 use lib.Seq.{drop-cons}
 use borrow.Author.Tests.{eq-eqb, ne-eqb}
-use Rattle.lexical.specs.Bytes.{every, same}
-
--- ---- every
-
-module _ (f : ℕ → Bool) (w : List ℕ) (i : ℕ) where
-  pub every-turn : i < length w → f (getD w i 0) ≡ true → every f (drop i w) ≡ every f (drop (i + 1) w)
-  unfolding every
-  every-turn h e = rw (add-one, drop-cons w i 0, e)
-
-  pub every-no : i < length w → f (getD w i 0) ≡ false → every f (drop i w) ≡ false
-  unfolding every
-  every-no h e = rw (drop-cons w i 0, e)
-
-  pub every-end : length w ≤ i → every f (drop i w) ≡ true
-  unfolding every
-  every-end h = rw (drop-of-length-le w h)
-
--- ---- same
+use Rattle.lexical.specs.Bytes.{same}
 
 pub same-length : (a b : List ℕ) → (length a ≡ length b → ⊥) → same a b ≡ false
 unfolding same

@@ -1,2 +1,3 @@
 pub mod ByteLoops
 pub mod WordLaws
+pub mod ShapeLaws

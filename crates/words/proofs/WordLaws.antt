@@ -1,7 +1,7 @@
--- Laws of the search in a table of words, and of the name rule.
+-- Laws of the search in a table of words.
 use mathlib.Core.Path.{_≡_, refl, sym, ap, _∙_}
 use mathlib.Core.List.{List, [], _∷_}
-use mathlib.Core.Bool.{Bool, true, false, false≢true, _&&_, _||_, not}
+use mathlib.Core.Bool.{Bool, true, false, false≢true, _&&_, _||_, and-false}
 use Prim.Native.Nat.{ℕ, _+_, _-_, _<_, _≤_}
 use native.Mathlib.Omega.{arith}
 use native.Mathlib.Numerals.{add-one}
@@ -10,7 +10,7 @@ use lib.ListN.{length, getD, take, drop, length-drop, drop-of-length-le}
 use lib.Seq.{drop-cons, drop-drop, length-take-le}
 use borrow.Author.Tests.{lt-leb}
 use Rattle.lexical.specs.Bytes.{every, same, member}
-use Rattle.lexical.specs.Names.{nameStart, nameChar, nameShape, nameOk, keywords, alternativeTokens, reserved}
+use Rattle.lexical.specs.Names.{keywords, alternativeTokens, reserved}
 use Rattle.lexical.proofs.ByteLaws.{same-eq, every-cons}
 use Rattle.words.proofs.ByteLoops.{same-length}
 use Rattle.words.specs.Words.{wordsOf, total}
@@ -81,27 +81,9 @@ word-none (x ∷ w) h = absurd (omega arith)
 pub word-long : (w : List ℕ) → 16 < length w → member w reserved ≡ false
 word-long w h = unlike-reserved w (rw (lt-leb (length w) 16 h))
 
-and-false : (b : Bool) → (b && false) ≡ false
-and-false true = refl
-and-false false = refl
-
 pub word-first : (w : List ℕ) → getD w 0 0 < 97 → member w reserved ≡ false
 word-first w h = unlike-reserved w (rw (lt-leb 97 (getD w 0 0) h) (and-false (leb (length w) 16)))
 
 pub word-last : (w : List ℕ) → getD w (length w - 1) 0 < 97 → member w reserved ≡ false
 word-last w h = unlike-reserved w (rw (lt-leb 97 (getD w (length w - 1) 0) h, and-false (leb 97 (getD w 0 0)))
     (and-false (leb (length w) 16)))
-
--- ---- the name rule
-
-module _ (table : List (List ℕ)) where
-  pub name-none : (w : List ℕ) → length w ≡ 0 → nameOk table w ≡ false
-  unfolding nameOk nameShape
-  name-none [] h = refl
-  name-none (x ∷ w) h = absurd (omega arith)
-
-  pub name-tests : (w : List ℕ) → (length w ≡ 0 → ⊥) →
-      nameOk table w ≡ ((nameStart (getD w 0 0) && every nameChar w) && not (member w table))
-  unfolding nameOk nameShape
-  name-tests [] h = absurd (h refl)
-  name-tests (x ∷ w) h = refl

@@ -1,9 +1,11 @@
-// The name rule of document 01, on the bytes of a name, with its table of words.
+// The name rule of documents 01 and 02, on the bytes of a name, with its table of words.
 ghost use mathlib.Core.Path.{_≡_};
+ghost use mathlib.Core.Bool.{_&&_, not};
 ghost use Prim.Native.Nat.{_+_, _≤_};
 ghost use lib.ListN.{length, take, drop};
 ghost use Rattle.lexical.specs.Bytes.{within, every, same, member};
-ghost use Rattle.lexical.specs.Names.{letter, nameStart, nameChar, reserved, isName};
+ghost use Rattle.lexical.specs.Names.{letter, nameStart, nameChar, reserved, underscore, capital};
+ghost use Rattle.lexical.specs.Names.{doubleUnderscore, underscoreCapital, sheetName};
 ghost use Rattle.words.specs.Words.{wordsOf, total};
 
 mod keywords;
@@ -36,7 +38,7 @@ pub fn equal(a: &[u8], b: &[u8]) -> bool
     true
 }
 
-// ---- names
+// ---- characters and words
 
 fn is_letter(c: u8) -> bool
     ensures { λ r. ⌜ r ≡ letter c ⌝ }
@@ -55,31 +57,7 @@ fn is_name_start(c: u8) -> bool
     if letter {
         return true;
     }
-    c == 95
-}
-
-fn is_name_char(c: u8) -> bool
-    ensures { λ r. ⌜ r ≡ nameChar c ⌝ }
-{
-    let start = is_name_start(c);
-    if start {
-        return true;
-    }
-    in_range(48, 57, c)
-}
-
-fn all_name_chars(w: &[u8]) -> bool
-    ensures { λ r. ⌜ r ≡ every nameChar (now (w .entry)) ⌝ }
-{
-    let mut i: usize = 0;
-    while i < w.len() {
-        let ok = is_name_char(w[i]);
-        if !ok {
-            return false;
-        }
-        i = i + 1;
-    }
-    true
+    c == b'_'
 }
 
 fn to_usize(b: u8) -> usize
@@ -140,9 +118,61 @@ fn is_reserved(w: &[u8]) -> bool
     listed(&keywords::LENGTHS, &keywords::BYTES, w)
 }
 
-// The name rule.
-pub fn is_name(w: &[u8]) -> bool
-    ensures { λ r. ⌜ r ≡ isName (now (w .entry)) ⌝ }
+// ---- the characters of a name
+
+// Whether d may follow c in a name: a letter, a digit, or an underscore behind no other.
+fn follows(c: u8, d: u8) -> bool
+    ensures { λ r. ⌜ r ≡ (nameChar d && not (underscore c && underscore d)) ⌝ }
+{
+    let letter = is_letter(d);
+    if letter {
+        return true;
+    }
+    if d == b'_' {
+        return c != b'_';
+    }
+    in_range(48, 57, d)
+}
+
+// Whether w is of name characters, without a double underscore.
+fn all_follow(w: &[u8]) -> bool
+    ensures { λ r. ⌜ r ≡ (every nameChar (now (w .entry)) && not (doubleUnderscore (now (w .entry)))) ⌝ }
+{
+    let mut last: u8 = 0;
+    let mut i: usize = 0;
+    while i < w.len() {
+        let ok = follows(last, w[i]);
+        if !ok {
+            return false;
+        }
+        last = w[i];
+        i = i + 1;
+    }
+    true
+}
+
+fn are_underscore_capital(c: u8, d: u8) -> bool
+    ensures { λ r. ⌜ r ≡ (underscore c && capital d) ⌝ }
+{
+    if c != b'_' {
+        return false;
+    }
+    in_range(65, 90, d)
+}
+
+fn begins_reserved(w: &[u8]) -> bool
+    ensures { λ r. ⌜ r ≡ underscoreCapital (now (w .entry)) ⌝ }
+{
+    if w.len() < 2 {
+        return false;
+    }
+    are_underscore_capital(w[0], w[1])
+}
+
+// ---- the name rule of a sheet
+
+pub fn is_sheet_name(w: &[u8]) -> bool
+    ensures { λ r. ⌜ r ≡ sheetName reserved (now (w .entry)) ⌝ }
 {
     if w.len() == 0 {
         return false;
@@ -151,8 +181,12 @@ pub fn is_name(w: &[u8]) -> bool
     if !first {
         return false;
     }
-    let all = all_name_chars(w);
+    let all = all_follow(w);
     if !all {
+        return false;
+    }
+    let kept = begins_reserved(w);
+    if kept {
         return false;
     }
     let word = is_reserved(w);

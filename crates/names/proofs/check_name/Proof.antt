@@ -1,11 +1,11 @@
--- Written by tools/proofkit from answers/check_name.tpl (f6c3b4fe 6a66c66e).
+-- Written by tools/proofkit from answers/check_name.tpl (b9853140 174a91fd).
 use borrow.Author.Needs.{needs}
 use native.Mathlib.Omega.{arith}
 use mathlib.Core.Path.{refl, sym}
 use lib.Seq.{length-take-le}
-use Rattle.lexical.specs.Names.{isName}
+use Rattle.lexical.specs.Names.{reserved, sheetName}
 use Rattle.refusal.specs.declared.Refusal.the-variants.{BadName}
-use Rattle.format.specs.Decoding.{name}
+use Rattle.format.specs.Decoding.{nameBy}
 use Rattle.lexical.proofs.BoolLaws.{known}
 use Rattle.text.specs.Text.{ruledText}
 use Rattle.text.proofs.TextLaws.{text-value, text-none, text-lt}
@@ -15,8 +15,8 @@ use Rattle.names.proofs.check_name.Tie as tie
 array-share-prefix-buf : tie.Need-array-share-prefix-buf
 array-share-prefix-buf c = omega (arith, text-lt 6 _ _ (c .before .before .before .before .read-text .ensures) (c .before .f .given .1))
 
-slice-aggregate-is-name : tie.Need-slice-aggregate-is-name
-slice-aggregate-is-name c = sym (length-take-le _ _ (omega (arith, text-lt 6 _ _ (c .before .before .before .before .before .read-text .ensures) (c .before .before .f .given .1), c .before .before .before .before .before .read-text .kept .1 .1 .1 .0)))
+slice-aggregate-is-sheet-name : tie.Need-slice-aggregate-is-sheet-name
+slice-aggregate-is-sheet-name c = sym (length-take-le _ _ (omega (arith, text-lt 6 _ _ (c .before .before .before .before .before .read-text .ensures) (c .before .before .f .given .1), c .before .before .before .before .before .read-text .kept .1 .1 .1 .0)))
 
 array-share-prefix-buf-2 : tie.Need-array-share-prefix-buf-2
 array-share-prefix-buf-2 c = omega (arith, text-lt 6 _ _ (c .before .before .before .before .before .before .before .read-text .ensures) (c .before .before .before .before .f .given .1))
@@ -25,16 +25,16 @@ slice-aggregate-digest : tie.Need-slice-aggregate-digest
 slice-aggregate-digest c = sym (length-take-le _ _ (omega (arith, text-lt 6 _ _ (c .before .before .before .before .before .before .before .before .read-text .ensures) (c .before .before .before .before .before .f .given .1), c .before .before .before .before .before .before .before .before .read-text .kept .1 .1 .1 .0)))
 
 returns : tie.Need-returns
-unfolding name ruledText
-returns c = rw (text-value 6 _ _ (c .before .before .before .before .before .before .before .before .before .read-text .ensures) (c .before .before .before .before .before .before .f .given .1) isName BadName, known (c .before .before .before .is-name .ensures) (c .before .before .if1 .taken)) record { step = rw (c .digest .ensures) }
+unfolding nameBy ruledText
+returns c = rw (text-value 6 _ _ (c .before .before .before .before .before .before .before .before .before .read-text .ensures) (c .before .before .before .before .before .before .f .given .1) (sheetName reserved) BadName, known (c .before .before .before .is-sheet-name .ensures) (c .before .before .if1 .taken)) record { step = rw (c .digest .ensures) }
 
 returns-2 : tie.Need-returns-2
-unfolding name ruledText
-returns-2 c = rw (text-none 6 _ _ (c .before .before .before .read-text .ensures) (c .enum-told .given .1) isName BadName) record { step = refl }
+unfolding nameBy ruledText
+returns-2 c = rw (text-none 6 _ _ (c .before .before .before .read-text .ensures) (c .enum-told .given .1) (sheetName reserved) BadName) record { step = refl }
 
 returns-3 : tie.Need-returns-3
-unfolding name ruledText
-returns-3 c = rw (text-value 6 _ _ (c .before .before .before .before .before .before .before .read-text .ensures) (c .before .before .before .before .f .given .1) isName BadName, known (c .before .is-name .ensures) (c .if1 .left)) record { step = refl }
+unfolding nameBy ruledText
+returns-3 c = rw (text-value 6 _ _ (c .before .before .before .before .before .before .before .read-text .ensures) (c .before .before .before .before .f .given .1) (sheetName reserved) BadName, known (c .before .is-sheet-name .ensures) (c .if1 .left)) record { step = refl }
 
 pub check-name-spec : {M : Type 1} → statement M
 check-name-spec =
@@ -46,7 +46,7 @@ check-name-spec =
     (λ c. search needs)
     (λ c. search needs)
     array-share-prefix-buf
-    slice-aggregate-is-name
+    slice-aggregate-is-sheet-name
     (λ c κs. search needs)
     array-share-prefix-buf-2
     slice-aggregate-digest
