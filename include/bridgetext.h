@@ -43,7 +43,8 @@ enum bridgetext_refusal {
   BRIDGETEXT_CUT_SHEET = 1,
   /* not 1 */
   BRIDGETEXT_EDITION = 2,
-  /* breaks the name rule */
+  /* breaks the name rule, as keywords and reserved identifiers (`a__b`,
+   * `_Tool`) do */
   BRIDGETEXT_BAD_NAME = 3,
   /* no such entry */
   BRIDGETEXT_LOOSE_INDEX = 4,

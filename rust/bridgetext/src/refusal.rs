@@ -1,4 +1,4 @@
-//! Document 01's table of refusals.
+//! Document 01's table of refusals, with order 3 of document 02.
 
 use std::error::Error;
 use std::fmt::{self, Display};
@@ -67,7 +67,10 @@ impl Refusal {
                 "over 32,768 bytes, or ends before a field is whole",
             ),
             Refusal::Edition => ("edition", "not 1"),
-            Refusal::BadName => ("bad name", "breaks the name rule"),
+            Refusal::BadName => (
+                "bad name",
+                "breaks the name rule, as keywords and reserved identifiers (`a__b`, `_Tool`) do",
+            ),
             Refusal::LooseIndex => ("loose index", "no such entry"),
             Refusal::BadKind => (
                 "bad kind",
@@ -125,7 +128,8 @@ mod tests {
         let error: Box<dyn Error> = Refusal::BadName.into();
         assert_eq!(
             error.to_string(),
-            "refused 3, bad name: breaks the name rule"
+            "refused 3, bad name: breaks the name rule, as keywords and reserved identifiers \
+             (`a__b`, `_Tool`) do"
         );
         assert_eq!(Refusal::Ring.word(), "ring");
         assert_eq!(Refusal::TooDeep.condition(), "a type at depth 9");

@@ -104,9 +104,12 @@ fn refusals() {
             assert_eq!(ask(args, &sheet), wanted, "{args:?}");
         }
     }
-    let bad_name = encode(&desc::parse("fn class()").unwrap());
-    let said = "refused 3, bad name: breaks the name rule\n";
-    assert_eq!(ask(&[], &bad_name), (1, Vec::new(), said.to_string()));
+    for bad_name in ["fn class()", "fn _Tool()", "names a__b"] {
+        let sheet = encode(&desc::parse(bad_name).unwrap());
+        let said = "refused 3, bad name: breaks the name rule, as keywords and reserved \
+                    identifiers (`a__b`, `_Tool`) do\n";
+        assert_eq!(ask(&[], &sheet), (1, Vec::new(), said.to_string()));
+    }
 }
 
 fn failed(outcome: Outcome, said: &str) {

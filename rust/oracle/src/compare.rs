@@ -1,13 +1,15 @@
 //! One sheet, judged from every side at hand.
 
 use crate::{Facts, facts, struct_order, text};
-use sheet::{Kind, RUST_STRING, Refusal, Sheet, Type};
+use sheet::{Kind, RUST_STRING, Refusal, Reserved, Sheet, Type};
 use std::collections::HashSet;
 
 /// What was found out about a sheet.
 pub struct Outcome {
     /// The check's answer.
     pub answer: u8,
+    /// Whether reserved identifiers are why; the crate is not asked about them.
+    pub reserved: Reserved,
     /// The crate's text and struct order, for an accepted sheet.
     pub text: Vec<u8>,
     pub order: Vec<u8>,
@@ -24,6 +26,7 @@ pub fn compare(bytes: &[u8]) -> Result<Outcome, String> {
     agree("check and plain reader", answer, plain)?;
     let mut outcome = Outcome {
         answer,
+        reserved: Reserved::of(bytes),
         text: Vec::new(),
         order: Vec::new(),
     };

@@ -75,6 +75,7 @@ fn push(file: &mut Vec<u8>, sheet: &[u8]) -> Result<(), String> {
         answer,
         text,
         order,
+        ..
     } = compare(sheet)?;
     file.extend((sheet.len() as u32).to_be_bytes());
     file.extend(sheet);

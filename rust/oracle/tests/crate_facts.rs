@@ -127,3 +127,16 @@ fn one_symbol_for_two_self_types() {
     assert_eq!(facts.complaint, None);
     assert_eq!(facts.symbols, ["cxxbridge1$205$T$f"; 2]);
 }
+
+/// The crate writes names that C++ reserves, and a check refuses them.
+#[test]
+fn reserved_identifiers() {
+    let sheet = desc::parse("fn _Tool(a__b: u8)").unwrap();
+    assert_eq!(check(&encode(&sheet)), 3);
+    if oracle::skipped() {
+        return;
+    }
+    assert_eq!(oracle::facts(&sheet).complaint, None);
+    let text = String::from_utf8(oracle::text(&sheet)).unwrap();
+    assert!(text.contains("void _Tool(::std::uint8_t a__b) noexcept {"));
+}

@@ -44,7 +44,14 @@ fn the_stored_file_covers_every_answer() {
 fn the_examples_are_what_the_crate_writes() {
     let skipped = oracle::skipped();
     for name in [
-        "mill", "header", "doxygen1", "doxygen2", "method", "reopen", "structs",
+        "mill",
+        "header",
+        "doxygen1",
+        "doxygen2",
+        "method",
+        "reopen",
+        "structs",
+        "underscores",
     ] {
         let read = |end: &str| {
             let path = vectors().join("examples").join(format!("{name}.{end}"));

@@ -6,17 +6,27 @@
 use crate::Refusal::{self, *};
 use crate::bits::{BitReader, index_width};
 use crate::limit;
-use crate::name::is_name;
+use crate::name::{is_base_name, is_name};
 use crate::value::*;
 
 type Result<T> = std::result::Result<T, Refusal>;
 
 pub fn decode(bytes: &[u8]) -> Result<Sheet> {
+    decode_by(is_name, bytes)
+}
+
+/// The same by the base rule of names, which lets reserved identifiers through.
+pub fn decode_base(bytes: &[u8]) -> Result<Sheet> {
+    decode_by(is_base_name, bytes)
+}
+
+fn decode_by(is_name: fn(&[u8]) -> bool, bytes: &[u8]) -> Result<Sheet> {
     if bytes.len() > limit::SHEET_BYTES {
         return Err(CutSheet);
     }
     let mut decoder = Decoder {
         input: BitReader::new(bytes),
+        is_name,
         names: 0,
         items: 0,
     };
@@ -25,6 +35,7 @@ pub fn decode(bytes: &[u8]) -> Result<Sheet> {
 
 struct Decoder<'a> {
     input: BitReader<'a>,
+    is_name: fn(&[u8]) -> bool,
     names: usize,
     items: usize,
 }
@@ -87,7 +98,7 @@ impl Decoder<'_> {
     fn name(&mut self) -> Result<Vec<u8>> {
         let len = self.number(6)?;
         let chars = self.chars(len)?;
-        if is_name(&chars) {
+        if (self.is_name)(&chars) {
             Ok(chars)
         } else {
             Err(BadName)

@@ -496,6 +496,18 @@ mod tests {
         assert!(function.throws);
     }
 
+    /// Names that a check refuses are taken as they are, to be tried.
+    #[test]
+    fn bad_names() {
+        let sheet = parse("names 3d\nrust-type __::_Tool\nfn int(a__b: u8)").unwrap();
+        let names = ["3d", "__", "_Tool", "int", "a__b"];
+        assert_eq!(sheet.names, names.map(|name| name.as_bytes().to_vec()));
+        let text = "names __ _Tool a__b\nrust-type __::_Tool\nfn a__b as a__b ()\n";
+        let bytes = crate::encode(&parse(text).unwrap());
+        assert_eq!(crate::check(&bytes), 3);
+        assert_eq!(print(&crate::decode_base(&bytes).unwrap()), text);
+    }
+
     #[test]
     fn faults_name_their_line() {
         for (text, message) in [

@@ -1,5 +1,6 @@
-//! Sheets as document 01 describes them, and nothing else: their value, their
-//! bytes, the twelve refusals of a check, and a seeded generator.
+//! Sheets as document 01 describes them, with order 3 of document 02, and nothing
+//! else: their value, their bytes, the twelve refusals of a check, and a seeded
+//! generator.
 //!
 //! Two readers stand side by side. [`decode`] builds the value and [`rules`]
 //! judges it, sentence by sentence. [`check`] gives the same answer in one walk
@@ -18,7 +19,7 @@ mod value;
 
 pub use bits::{BitReader, index_width};
 pub use check::check;
-pub use decode::decode;
+pub use decode::{decode, decode_base};
 pub use encode::{encode, encode_bits};
 pub use rng::Rng;
 pub use rules::{indirect, rules};
@@ -83,4 +84,35 @@ pub fn read(bytes: &[u8]) -> Result<Sheet, Refusal> {
     let sheet = decode(bytes)?;
     rules(&sheet)?;
     Ok(sheet)
+}
+
+/// The same by the base rule of names, which lets reserved identifiers through.
+pub fn read_base(bytes: &[u8]) -> Result<Sheet, Refusal> {
+    let sheet = decode_base(bytes)?;
+    rules(&sheet)?;
+    Ok(sheet)
+}
+
+/// What reserved identifiers have to do with a sheet's refusal.
+#[derive(Clone, Copy, PartialEq, Eq, Debug)]
+pub enum Reserved {
+    /// Nothing: by the base rule of names the answer is the same.
+    No,
+    /// It is refused for one, and else would be for something that comes later.
+    First,
+    /// It is refused for one, and else would be accepted.
+    Only,
+}
+
+impl Reserved {
+    pub fn of(bytes: &[u8]) -> Self {
+        if read(bytes) != Err(Refusal::BadName) {
+            return Reserved::No;
+        }
+        match read_base(bytes) {
+            Ok(_) => Reserved::Only,
+            Err(Refusal::BadName) => Reserved::No,
+            Err(_) => Reserved::First,
+        }
+    }
 }

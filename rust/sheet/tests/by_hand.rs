@@ -69,6 +69,48 @@ fn names() {
     expect(3, "0001 0 0 0000000010 000001 0110001 111111");
 }
 
+/// Order 3 of document 02.
+#[test]
+fn reserved_names() {
+    // `_`: 95; `1`: 49; `A`, `B`, `T`, `Z`: 65, 66, 84, 90; `a`, `b`, `t`: 97, 98, 116.
+    let name = |digits: &str| {
+        let len = digits.split_whitespace().count();
+        format!("0001 0 0 0000000001 {len:06b} {digits} 00000000")
+    };
+    // `_`, `_t`, `_1`, `a_B`, `_1T`, `a_`.
+    for digits in [
+        "1011111",
+        "1011111 1110100",
+        "1011111 0110001",
+        "1100001 1011111 1000010",
+        "1011111 0110001 1010100",
+        "1100001 1011111",
+    ] {
+        expect(0, &name(digits));
+    }
+    // `__`, `___`, `a__b`, `a__`, `_A`, `_Z`, `_Tt`.
+    for digits in [
+        "1011111 1011111",
+        "1011111 1011111 1011111",
+        "1100001 1011111 1011111 1100010",
+        "1100001 1011111 1011111",
+        "1011111 1000001",
+        "1011111 1011010",
+        "1011111 1010100 1110100",
+    ] {
+        expect(3, &name(digits));
+    }
+    // `__` and `_A` in a name that is cut: one field, so 1.
+    expect(1, "0001 0 0 0000000001 000011 1011111 1011111");
+    expect(1, "0001 0 0 0000000001 000011 1011111 1000001");
+    // As the second name, which nothing uses, behind `a`; and before a bad kind.
+    expect(
+        3,
+        "0001 0 0 0000000010 000001 1100001 000010 1011111 1011111 00000001 011 000 0 0",
+    );
+    expect(3, "0001 0 0 0000000001 000010 1011111 1011111 00000001 111");
+}
+
 #[test]
 fn indexes() {
     // An opaque Rust type called `a`: the index into one name has no bits.

@@ -1,7 +1,11 @@
 //! The two readers, the encoder and the generator against one another.
 
-use sheet::generate::{any, boundaries, damaged, faulty, good, graph};
-use sheet::{Kind, Refusal, Rng, Type, check, decode, desc, encode, limit, read};
+use sheet::generate::{any, boundaries, damaged, faulty, good, graph, reserve, reserved};
+use sheet::name::{is_base_name, is_reserved_shape};
+use sheet::{
+    Kind, Refusal, Reserved, Rng, Sheet, Type, check, decode, decode_base, desc, encode, limit,
+    read,
+};
 use std::collections::HashSet;
 
 /// The answer, on which both readers agree.
@@ -55,6 +59,59 @@ fn two_faults_follow_the_priorities() {
     }
 }
 
+/// Each has one such name; without the rule nearly all would be accepted.
+#[test]
+fn reserved_names_are_3() {
+    let mut rng = Rng::new(8);
+    let [mut double, mut capital, mut not_used, mut only] = [0; 4];
+    for _ in 0..4_000 {
+        let bytes = reserved(&mut rng);
+        assert_eq!(answer(&bytes), 3, "{}", desc::hex(&bytes));
+        let sheet = decode_base(&bytes).unwrap();
+        assert_eq!(encode(&sheet), bytes);
+        assert!(sheet.names.iter().all(|name| is_base_name(name)));
+        let names = sheet.names.iter();
+        let shapes: Vec<&Vec<u8>> = names.filter(|name| is_reserved_shape(name)).collect();
+        let [name] = shapes[..] else {
+            panic!("{shapes:?}");
+        };
+        let name = str::from_utf8(name).unwrap();
+        double += u32::from(name.contains("__"));
+        capital += u32::from(!name.contains("__"));
+        not_used += u32::from(sheet.names.last().unwrap() == name.as_bytes());
+        only += u32::from(Reserved::of(&bytes) == Reserved::Only);
+    }
+    assert!(double > 1_000 && capital > 1_000, "{double} {capital}");
+    assert!(not_used > 100, "{not_used}");
+    assert!(only > 3_500, "{only}");
+}
+
+/// Of the sheets that `any` makes at least one in fifty is refused so.
+#[test]
+fn enough_reserved_names() {
+    let mut rng = Rng::new(9);
+    let [mut first, mut only] = [0; 2];
+    for _ in 0..20_000 {
+        let bytes = any(&mut rng);
+        match Reserved::of(&bytes) {
+            Reserved::No => continue,
+            Reserved::First => first += 1,
+            Reserved::Only => only += 1,
+        }
+        assert_eq!(answer(&bytes), 3);
+    }
+    assert!(first > 20 && only > 500, "{first} {only}");
+    assert!(first + only > 800, "{first} {only}");
+}
+
+/// A table of no names can get one too.
+#[test]
+fn a_name_is_added() {
+    let mut sheet = Sheet::empty();
+    reserve(&mut Rng::new(10), &mut sheet);
+    assert_eq!((sheet.names.len(), answer(&encode(&sheet))), (1, 3));
+}
+
 #[test]
 fn both_readers_agree_on_damage_and_graphs() {
     let mut rng = Rng::new(4);
@@ -97,7 +154,13 @@ fn limits() {
     };
     for (label, bytes) in &boundaries {
         let given = answer(bytes);
-        let expected = if label.contains("depth 10") {
+        let expected = if label == "reserved __x, cut" {
+            1
+        } else if label.starts_with("reserved ") {
+            3
+        } else if label.starts_with("not reserved ") {
+            0
+        } else if label.contains("depth 10") {
             6
         } else if label.contains("type kind") {
             5
@@ -123,12 +186,16 @@ fn limits() {
         "15 slots in a Fn",
         "7 namespaces",
         "name of 63 characters",
+        "not reserved _",
         "31 comment lines of 127, Doxygen true",
         "array of 4294967295",
         "wrapper 0 at depth 8",
         "32,768 bytes",
     ] {
         assert_eq!(answer(find(label)), 0, "{label}");
+    }
+    for label in ["reserved _Tool", "reserved _Tool, not used"] {
+        assert_eq!(answer(find(label)), 3, "{label}");
     }
     assert_eq!(find("32,768 bytes").len(), limit::SHEET_BYTES);
     for label in [

@@ -35,7 +35,8 @@ pub fn check(bytes: &[u8]) -> Result<u8, String> {
     Ok(wanted)
 }
 
-/// The order by the crate's `sort`; it needs the crate's source.
+/// The order by the crate's `sort`; it needs the crate's source. The crate is
+/// asked about accepted sheets only, so never about one with a reserved name.
 pub fn wanted_order(bytes: &[u8]) -> Order {
     match sheet::read(bytes) {
         Ok(sheet) => Ok(oracle::struct_order(&sheet)),
@@ -43,7 +44,7 @@ pub fn wanted_order(bytes: &[u8]) -> Order {
     }
 }
 
-/// The text by the crate's writer; it needs the crate's source.
+/// The text by the crate's writer, on the same terms.
 pub fn wanted_text(bytes: &[u8]) -> Text {
     match sheet::read(bytes) {
         Ok(sheet) => Ok(oracle::text(&sheet)),

@@ -224,7 +224,7 @@ pub fn boundary(label: &str) -> Vec<u8> {
 /// namespaces of its own.
 pub fn many_names() -> Sheet {
     let mut sheet = Sheet::empty();
-    let words = (0..limit::NAMES).map(|i| format!("part_of_a_mill__{i:04}").into_bytes());
+    let words = (0..limit::NAMES).map(|i| format!("part_no_of_mill_{i:04}").into_bytes());
     sheet.names = words.collect();
     let items = (0..limit::ITEMS as NameIndex).map(|i| Item {
         namespace: vec![4 * i, 4 * i + 1, 4 * i + 2],

@@ -45,6 +45,19 @@ pub fn boundaries() -> Vec<(String, Vec<u8>)> {
         sheet.names[0] = vec![b'q'; len];
         add(format!("name of {len} characters"), encode(&sheet));
     }
+    for word in RESERVED {
+        add(format!("reserved {word}"), encode(&named(word)));
+        let mut sheet = names(2, 1);
+        sheet.names[1] = word.into();
+        add(format!("reserved {word}, not used"), encode(&sheet));
+    }
+    for word in NOT_RESERVED {
+        add(format!("not reserved {word}"), encode(&named(word)));
+    }
+    // The third character is not whole.
+    let mut cut = encode(&named("__x"));
+    cut.truncate(5);
+    add("reserved __x, cut".into(), cut);
     for depth in 0..=limit::NAMESPACES {
         add(format!("{depth} namespaces"), encode(&namespaces(depth)));
     }
@@ -144,6 +157,12 @@ pub fn boundaries() -> Vec<(String, Vec<u8>)> {
     out
 }
 
+/// Names that ISO C++ [lex.name] reserves, and some that come close.
+const RESERVED: [&str; 10] = [
+    "_Tool", "a__b", "__", "x__", "__x", "___", "_A", "_Z", "_A_", "a_b__",
+];
+const NOT_RESERVED: [&str; 8] = ["_", "_t", "_1", "a_B", "_1T", "a_", "T_", "_a_B_1_"];
+
 /// For each sort of type one sheet: a function of each form, throwing and not,
 /// that takes and returns it.
 pub fn signatures() -> Vec<(String, Vec<u8>)> {
@@ -230,6 +249,13 @@ fn names(count: usize, used: usize) -> Sheet {
             })
             .collect();
     }
+    sheet
+}
+
+/// An opaque type of this name.
+fn named(name: &str) -> Sheet {
+    let mut sheet = names(1, 1);
+    sheet.names[0] = name.into();
     sheet
 }
 

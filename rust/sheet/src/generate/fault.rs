@@ -3,8 +3,8 @@
 use super::good::{comment_line, good, random_name, type_of_depth};
 use crate::name::{ALTERNATIVE_TOKENS, KEYWORDS};
 use crate::{
-    Arg, Form, Function, Item, ItemIndex, Kind, NameIndex, Refusal, Rng, Sheet, Type, encode_bits,
-    limit,
+    Arg, Form, Function, Item, ItemIndex, Kind, NameIndex, Refusal, Rng, Sheet, Type, encode,
+    encode_bits, limit,
 };
 
 /// A good sheet with each of the faults put into it. With one fault, that is
@@ -46,6 +46,45 @@ pub fn faulty(rng: &mut Rng, faults: &[Refusal]) -> Vec<u8> {
         }
     }
     bytes
+}
+
+/// A good sheet, but for a name that C++ reserves.
+pub fn reserved(rng: &mut Rng) -> Vec<u8> {
+    let mut sheet = good(rng);
+    reserve(rng, &mut sheet);
+    encode(&sheet)
+}
+
+/// Gives a name of the sheet a reserved shape, or adds one that nothing uses.
+pub fn reserve(rng: &mut Rng, sheet: &mut Sheet) {
+    let chars = reserved_name(rng);
+    put_name(rng, sheet, chars);
+}
+
+/// A base name with two underscores in a row, or with an underscore and a
+/// capital in front.
+fn reserved_name(rng: &mut Rng) -> Vec<u8> {
+    let mut chars = random_name(rng);
+    chars.truncate(limit::NAME_CHARS - 2);
+    let (at, put) = match rng.below(8) {
+        0 => return rng.pick(&["__", "___", "_A", "_Z"]).as_bytes().to_vec(),
+        1..=3 => (0, [b'_', rng.between(b'A'.into(), b'Z'.into()) as u8]),
+        4 => (0, *b"__"),
+        5 => (chars.len(), *b"__"),
+        _ => (rng.between(1, chars.len()), *b"__"),
+    };
+    chars.splice(at..at, put);
+    chars
+}
+
+/// In the place of any name of the table, or behind the last.
+fn put_name(rng: &mut Rng, sheet: &mut Sheet, chars: Vec<u8>) {
+    let at = rng.below(sheet.names.len() + 1);
+    if at == sheet.names.len() {
+        sheet.names.push(chars);
+    } else {
+        sheet.names[at] = chars;
+    }
 }
 
 fn tail(rng: &mut Rng, bytes: &mut Vec<u8>, bits: usize) {
@@ -263,20 +302,16 @@ impl Draft<'_> {
     fn bad_name(&mut self) {
         let mut chars = random_name(self.rng);
         let last = chars.len() - 1;
-        match self.rng.below(6) {
+        match self.rng.below(8) {
             0 => chars.clear(),
             1 => chars = self.rng.pick(&KEYWORDS).as_bytes().to_vec(),
             2 => chars = self.rng.pick(&ALTERNATIVE_TOKENS).as_bytes().to_vec(),
             3 => chars[0] = *self.rng.pick(b"0189 $.-@[`{/:"),
             4 => chars[last] = *self.rng.pick(b" $.-\0\n\x7f@[`{/:"),
+            5 | 6 => chars = reserved_name(self.rng),
             _ => chars[last / 2] = *self.rng.pick(b" $.-\0\n\x7f@[`{/:"),
         }
-        let at = self.rng.below(self.sheet.names.len() + 1);
-        if at == self.sheet.names.len() {
-            self.sheet.names.push(chars);
-        } else {
-            self.sheet.names[at] = chars;
-        }
+        put_name(self.rng, self.sheet, chars);
     }
 
     fn loose_index(&mut self) {

@@ -7,11 +7,11 @@ use crate::{
 
 /// Words that the rules, the crate or the grammar could trip over.
 #[rustfmt::skip]
-const WORDS: [&str; 40] = [
-    "a", "b", "c", "x", "_", "_x", "mill", "Job", "count", "main", "main", "self", "self",
-    "error", "error", "std", "rust", "u8", "String", "CxxString", "bool_", "T0", "T1", "Self",
-    "return_", "cxxbridge1", "operator_", "size", "layout", "namespace_", "f64", "f", "g",
-    "value", "ptr", "Vec", "Box", "Result", "void_", "concept",
+const WORDS: [&str; 44] = [
+    "a", "b", "c", "x", "_", "_x", "_1", "_1T", "a_B", "x_", "mill", "Job", "count", "main",
+    "main", "self", "self", "error", "error", "std", "rust", "u8", "String", "CxxString", "bool_",
+    "T0", "T1", "Self", "return_", "cxxbridge1", "operator_", "size", "layout", "namespace_",
+    "f64", "f", "g", "value", "ptr", "Vec", "Box", "Result", "void_", "concept",
 ];
 
 /// A sheet that a check accepts.

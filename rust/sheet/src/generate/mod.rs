@@ -1,5 +1,5 @@
-//! Sheets from a seed: accepted ones, the same with chosen faults, damaged
-//! copies, structs that hold one another, and the limits.
+//! Sheets from a seed: accepted ones, the same with chosen faults, with reserved
+//! identifiers, damaged copies, structs that hold one another, and the limits.
 
 mod boundary;
 mod fault;
@@ -7,7 +7,7 @@ mod good;
 mod graph;
 
 pub use boundary::{boundaries, signatures};
-pub use fault::faulty;
+pub use fault::{faulty, reserve, reserved};
 pub use good::{good, large, type_of_depth};
 pub use graph::graph;
 
@@ -15,7 +15,7 @@ use crate::{Refusal, Rng, encode};
 
 /// Any sheet: about half of them are accepted.
 pub fn any(rng: &mut Rng) -> Vec<u8> {
-    match rng.below(40) {
+    match rng.below(42) {
         0 if rng.one_in(20) => encode(&large(rng)),
         0..=20 => encode(&good(rng)),
         21..=27 => {
@@ -29,6 +29,7 @@ pub fn any(rng: &mut Rng) -> Vec<u8> {
         }
         32..=35 => damaged(rng),
         36..=38 => encode(&graph(rng)),
+        39..=40 => reserved(rng),
         _ => noise(rng),
     }
 }

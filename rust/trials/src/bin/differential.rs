@@ -1,6 +1,6 @@
 //! `differential`: generated and damaged sheets through the proved services.
 
-use sheet::{Rng, encode, generate};
+use sheet::{Refusal, Reserved, Rng, encode, generate};
 use std::fmt::{self, Display};
 use std::io::{self, Write};
 use std::panic;
@@ -19,7 +19,10 @@ one that is named. A check is compared with the Rust check. The struct order and
 the text are asked for with buffers of every length around the answer's, and
 each answer and every byte in and around the buffer are compared with the
 crate's `sort` and its writer. The order's sheets have many structs. Prints how
-many had which answer and, for the text, what occurred in the accepted ones.
+many had which answer; of those refused 3, how many for a reserved identifier;
+of these, how many would be accepted but for it, and so are not compared with
+the crate, only with a refusal; and, for the text, what occurred in the accepted
+ones.
 
 With --margin 0 a buffer has nothing around it (64 bytes unless given), so that
 valgrind sees every byte too far.
@@ -111,7 +114,11 @@ impl Options {
                 generate::any(rng)
             };
         }
-        let mut sheet = encode(&sheets::structs(rng));
+        let mut sheet = sheets::structs(rng);
+        if rng.one_in(20) {
+            generate::reserve(rng, &mut sheet);
+        }
+        let mut sheet = encode(&sheet);
         if rng.one_in(6) {
             generate::damage(rng, &mut sheet);
         }
@@ -122,6 +129,9 @@ impl Options {
 #[derive(Default)]
 struct Totals {
     answers: [u64; 13],
+    /// Refused for a reserved identifier, and of these accepted but for it.
+    reserved: u64,
+    not_compared: u64,
     sheet_bytes: usize,
     orders: Answers,
     texts: Answers,
@@ -164,6 +174,11 @@ impl Totals {
             }
         }
         self.answers[usize::from(answer)] += 1;
+        if answer == Refusal::BadName.number() {
+            let reserved = Reserved::of(sheet);
+            self.reserved += u64::from(reserved != Reserved::No);
+            self.not_compared += u64::from(reserved == Reserved::Only);
+        }
         self.sheet_bytes += sheet.len();
         Ok(())
     }
@@ -185,6 +200,8 @@ impl Display for Totals {
         for (number, count) in self.answers.iter().enumerate().skip(1) {
             writeln!(out, "refused {number:2}    {count}")?;
         }
+        writeln!(out, "reserved (3)  {}", self.reserved)?;
+        writeln!(out, "not compared  {}", self.not_compared)?;
         writeln!(out, "sheet bytes   {}", self.sheet_bytes)?;
         let services = [
             (&self.orders, "structs       ", "longest list  "),
