@@ -1,7 +1,7 @@
--- Laws of the sheet's end, of both tables, and of the answer to a sheet.
+-- Laws of the edition, of the sheet's end, of both tables, and of the answer to a sheet.
 use mathlib.Core.Path.{_≡_, refl, sym, _∙_}
 use mathlib.Core.List.{List}
-use mathlib.Core.Bool.{Bool, true, false, _&&_}
+use mathlib.Core.Bool.{Bool, true, false, _&&_, and-false}
 use Prim.Native.Nat.{ℕ, _+_, _-_, _*_, _/_, _%_, _≤_, _<_}
 use native.Mathlib.Omega.{arith}
 use lib.ListN.{length, take}
@@ -9,10 +9,11 @@ use lib.Dec.{eqb, leb}
 use borrow.Author.Tests.{eq-eqb, ne-eqb, lt-leb, le-leb}
 use Rattle.refusal.specs.declared.Refusal.{Refusal}
 use Rattle.refusal.specs.declared.Refusal.the-variants.{CutSheet, Tail}
-use Rattle.lexical.specs.Names.{reserved, sheetName}
-use Rattle.lexical.proofs.NameLaws.{sheet-name-base}
-use Rattle.format.specs.Limits.{mostBytes}
-use Rattle.format.specs.Decode.{Got, fault, got, pick, after, many}
+use Rattle.lexical.specs.Bytes.{within}
+use Rattle.lexical.specs.Names.{sheetName, tableOf}
+use Rattle.lexical.proofs.NameLaws.{sheet-name-base, edition-covers}
+use Rattle.format.specs.Limits.{lastEdition, mostBytes}
+use Rattle.format.specs.Decode.{Got, fault, got, Dec, pick, after, many}
 use Rattle.format.specs.Bits.{bits}
 use Rattle.format.specs.Sheet.{Name, Sheet}
 use Rattle.format.specs.Decoding.{name, item, tableName, nameTable, itemTable, tail}
@@ -42,6 +43,18 @@ module _ {n : ℕ} where
 
   pub not-too-long : n ≤ mostBytes → leb n mostBytes ≡ true
   not-too-long h = le-leb n mostBytes h
+
+-- ---- the edition
+
+module _ (e : ℕ) where
+  pub edition-none : e ≡ 0 → within 1 lastEdition e ≡ false
+  edition-none h = rw h
+
+  pub edition-later : lastEdition < e → within 1 lastEdition e ≡ false
+  edition-later h = rw (lt-leb e lastEdition h) (and-false (leb 1 e))
+
+  pub edition-known : (e ≡ 0 → ⊥) → e ≤ lastEdition → within 1 lastEdition e ≡ true
+  edition-known h l = rw (le-leb 1 e (omega arith), le-leb e lastEdition l)
 
 -- ---- the end of the sheet
 
@@ -116,55 +129,62 @@ module _ (s : List ℕ) (h d : Bool) (names : List Name) (at : ℕ) {b m₀ m₁
 
 -- ---- both tables
 
-base : {s : List ℕ} {n : ℕ} {offsets : List ℕ} {values : List Name} → Table tableName s n offsets values →
-    Table name s n offsets values
-base t = table-base (sheetName reserved) (sheet-name-base reserved) t
+-- a name of the table in a sheet of edition e
+abbrev nameIn : ℕ → Dec Name
+nameIn e = tableName (tableOf e)
 
-behind-is : (s : List ℕ) (h d : Bool) (at : ℕ) {n m k : ℕ} {ns : List Name} → bits 10 s at ≡ got n m →
-    many n tableName s m ≡ got ns k → behindBits h d s at ≡ behindNames h d ns s k
+-- is a name by the base rule
+base : (e : ℕ) {s : List ℕ} {n : ℕ} {offsets : List ℕ} {values : List Name} →
+    Table (nameIn e) s n offsets values → Table name s n offsets values
+base e t = table-base (sheetName (tableOf e)) (sheet-name-base (tableOf e) (edition-covers e)) t
+
+behind-is : (words : List (List ℕ)) (s : List ℕ) (h d : Bool) (at : ℕ) {n m k : ℕ} {ns : List Name} →
+    bits 10 s at ≡ got n m → many n (tableName words) s m ≡ got ns k →
+    behindBits words h d s at ≡ behindNames h d ns s k
 unfolding behindBits nameTable
-behind-is s h d at q e = rw (q, e)
+behind-is words s h d at q e = rw (q, e)
 
 -- what the names are known to be before the items are read
-pub names-ready : (s : List ℕ) (at n m : ℕ) {b g : List ℕ} {r : Step} {c : Cursor} → bits 10 s at ≡ got n m →
-    Fills (many n (positionOf tableName) s m) r n b × Fills (many n (digestOf tableName) s m) r n g → r ≡ At c → Limited s →
-    n ≤ length b → Named s (take n b) × (take n g ≡ digestsAt s (take n b))
-names-ready s at n m q f t l room =
-    let k = located tableName s n m (f .0) t in (
-      table-named (base (k .table)) room l (omega (arith, field-lt 10 s at q)),
-      table-digests (base (k .table)) room (digests-filled tableName s n m (f .1) t (k .decoded)),
+pub names-ready : (e : ℕ) (s : List ℕ) (at n m : ℕ) {b g : List ℕ} {r : Step} {c : Cursor} → bits 10 s at ≡ got n m →
+    Fills (many n (positionOf (nameIn e)) s m) r n b ×
+    Fills (many n (digestOf (nameIn e)) s m) r n g → r ≡ At c → Limited s → n ≤ length b →
+    Named s (take n b) × (take n g ≡ digestsAt s (take n b))
+names-ready e s at n m q f t l room =
+    let k = located (nameIn e) s n m (f .0) t in (
+      table-named (base e (k .table)) room l (omega (arith, field-lt 10 s at q)),
+      table-digests (base e (k .table)) room (digests-filled (nameIn e) s n m (f .1) t (k .decoded)),
     )
 
-module _ (s : List ℕ) (h d : Bool) (at : ℕ) {b i g m₀ m₁ : List ℕ} where
-  pub tables-cut : bits 10 s at ≡ fault CutSheet → Answers s (behindBits h d s at) (Refused CutSheet) b i g m₀ m₁
+module _ (e : ℕ) (s : List ℕ) (h d : Bool) (at : ℕ) {b i g m₀ m₁ : List ℕ} where
+  pub tables-cut : bits 10 s at ≡ fault CutSheet → Answers s (behindBits (tableOf e) h d s at) (Refused CutSheet) b i g m₀ m₁
   unfolding behindBits nameTable
-  tables-cut e = record { says = rw e }
+  tables-cut q = record { says = rw q }
 
   module _ {n m : ℕ} (q : bits 10 s at ≡ got n m) {r : Step}
-      (f : Fills (many n (positionOf tableName) s m) r n b × Fills (many n (digestOf tableName) s m) r n g) where
-    pub tables-fault : {e : Refusal} → r ≡ Fault e → Answers s (behindBits h d s at) (Refused e) b i g m₀ m₁
+      (f : Fills (many n (positionOf (nameIn e)) s m) r n b × Fills (many n (digestOf (nameIn e)) s m) r n g) where
+    pub tables-fault : {x : Refusal} → r ≡ Fault x → Answers s (behindBits (tableOf e) h d s at) (Refused x) b i g m₀ m₁
     unfolding behindBits nameTable
-    tables-fault t = record { says = rw (q, stopped (placed-checks tableName n s m (fills-checks (f .0))) t) }
+    tables-fault t = record { says = rw (q, stopped (placed-checks (nameIn e) n s m (fills-checks (f .0))) t) }
 
     pub tables-rest : {c : Cursor} {u : Decoded} → r ≡ At c → n ≤ length b →
         AnswersItems s (namesAt s (take n b)) (behindNames h d (namesAt s (take n b)) s (c .at)) u i m₀ m₁ →
-        Answers s (behindBits h d s at) u b i g m₀ m₁
+        Answers s (behindBits (tableOf e) h d s at) u b i g m₀ m₁
     tables-rest {c} {u} t room a =
-        let l = located tableName s n m (f .0) t in
-        by-answer u l (rw (table-names (base (l .table)) room) at a)
+        let l = located (nameIn e) s n m (f .0) t in
+        by-answer u l (rw (table-names (base e (l .table)) room) at a)
       where
-        by-answer : (u : Decoded) (l : Located tableName s n m b (c .at)) →
+        by-answer : (u : Decoded) (l : Located (nameIn e) s n m b (c .at)) →
             AnswersItems s (l .values) (behindNames h d (l .values) s (c .at)) u i m₀ m₁ →
-            Answers s (behindBits h d s at) u b i g m₀ m₁
-        by-answer (Refused e) l a = record { says = behind-is s h d at q (l .decoded) ∙ a .says }
+            Answers s (behindBits (tableOf e) h d s at) u b i g m₀ m₁
+        by-answer (Refused x) l a = record { says = behind-is (tableOf e) s h d at q (l .decoded) ∙ a .says }
         by-answer (Whole o) l a =
             let z : n ≡ o .names = sym (l .table .count) ∙ sym (a .says .named) in
             record {
               says = record {
                 names = l .values;
                 few = omega (arith, field-lt 10 s at q);
-                table = rw z at (base (l .table));
-                digested = rw z at (digests-filled tableName s n m (f .1) t (l .decoded));
-                items = rw (behind-is s h d at q (l .decoded)) (a .says);
+                table = rw z at (base e (l .table));
+                digested = rw z at (digests-filled (nameIn e) s n m (f .1) t (l .decoded));
+                items = rw (behind-is (tableOf e) s h d at q (l .decoded)) (a .says);
               };
             }

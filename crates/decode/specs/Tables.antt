@@ -19,9 +19,9 @@ use Rattle.decode.specs.declared.Decoded.the-variants.{Whole, Refused}
 unfoldable pub behindNames : Bool → Bool → List Name → Dec Sheet
 behindNames h d names = itemTable names >> λ is. tail (record { header = h; doxygen = d; items = is })
 
--- what stands behind both bits
-unfoldable pub behindBits : Bool → Bool → Dec Sheet
-behindBits h d = nameTable >> λ names. behindNames h d names
+-- what stands behind both bits, where these words are no names
+unfoldable pub behindBits : List (List ℕ) → Bool → Bool → Dec Sheet
+behindBits words h d = nameTable words >> λ names. behindNames h d names
 
 -- the decoder's p is a sheet, its items read with these names, offsets tells where each item stands, and their marks
 -- made v of u

@@ -12,6 +12,7 @@ use refusal::Refusal;
 ghost use mathlib.Core.Path.{_≡_};
 ghost use Prim.Native.Nat.{_≤_};
 ghost use lib.ListN.{length};
+ghost use Rattle.lexical.specs.Names.{tableOf};
 ghost use Rattle.format.specs.Limits.{mostNames, mostItems};
 ghost use Rattle.format.specs.Sheet.{Sheet};
 ghost use Rattle.format.specs.Decoding.{tail, sheet as sheetOf, decode as decodeOf};
@@ -92,10 +93,11 @@ fn decode_items(
     }
 }
 
-// Both tables and the tail at c.
+// Both tables and the tail at c, in a sheet of that edition.
 fn decode_tables(
     s: &[u8],
     c: Cursor,
+    edition: u32,
     header: bool,
     doxygen: bool,
     names: &mut [u32],
@@ -105,14 +107,14 @@ fn decode_tables(
 ) -> Decoded
     requires { ⌜ Limited (now s) × (mostNames ≤ length (now names)) × (mostItems ≤ length (now items)) ×
         (mostNames ≤ length (now digests)) ⌝ }
-    ensures { λ r. ⌜ Answers (now (s .entry)) (behindBits header doxygen (now (s .entry)) (c .at)) r
+    ensures { λ r. ⌜ Answers (now (s .entry)) (behindBits (tableOf edition) header doxygen (now (s .entry)) (c .at)) r
         (now (names .exit)) (now (items .exit)) (now (digests .exit)) (now (marks .entry)) (now (marks .exit)) ⌝ }
 {
     let f = read(s, c, 10);
     match f {
         Field::Cut => Decoded::Refused(Refusal::CutSheet),
         Field::Value(n, first) => {
-            let a = check_names(s, first, n, names, digests);
+            let a = check_names(s, first, edition, n, names, digests);
             match a {
                 Step::Fault(e) => Decoded::Refused(e),
                 Step::At(c1) => {
@@ -150,8 +152,11 @@ fn decode_fields(
     let f = read(s, c, 4);
     match f {
         Field::Cut => Decoded::Refused(Refusal::CutSheet),
-        Field::Value(e, c1) => {
-            if e != 1 {
+        Field::Value(edition, c1) => {
+            if edition == 0 {
+                return Decoded::Refused(Refusal::Edition);
+            }
+            if Outline::LAST_EDITION < edition {
                 return Decoded::Refused(Refusal::Edition);
             }
             let g = read(s, c1, 1);
@@ -164,6 +169,7 @@ fn decode_fields(
                         Field::Value(d, c3) => decode_tables(
                             s,
                             c3,
+                            edition,
                             h == 1,
                             d == 1,
                             names,

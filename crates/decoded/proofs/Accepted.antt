@@ -1,23 +1,33 @@
 -- What holds of an accepted sheet, and of each of its items.
-use mathlib.Core.Path.{_≡_, refl}
+use mathlib.Core.Path.{_≡_, refl, sym, _∙_}
 use mathlib.Core.List.{List}
 use mathlib.Core.Bool.{Bool, true, false}
-use Prim.Native.Nat.{ℕ}
+use Prim.Native.Nat.{ℕ, _*_}
 use native.Mathlib.Omega.{arith}
+use lib.Dec.{leb}
+use lib.ListN.{length}
+use Rattle.lexical.specs.Bytes.{within}
+use Rattle.lexical.specs.Names.{tableOf, sheetName}
 use Rattle.refusal.specs.declared.Refusal.{Refusal}
-use Rattle.refusal.specs.declared.Refusal.the-variants.{WrongPart, Taken, UnfitArgument, Ring}
+use Rattle.refusal.specs.declared.Refusal.the-variants.{CutSheet, Edition, WrongPart, Taken, UnfitArgument, Ring}
+use Rattle.format.specs.Limits.{lastEdition, mostBytes}
 use Rattle.format.specs.Decode.{Got, fault, got, pick}
 use Rattle.format.specs.Sheet.{Sheet}
-use Rattle.format.specs.Decoding.{decode}
+use Rattle.format.specs.Decoding.{editionOf, decode}
 use Rattle.rules.specs.Rules.{wrongPart, taken, unfitArgument, ring}
 use Rattle.rules.specs.Judge.{Judged, refused, accepted, ruled, judged, judge}
 use Rattle.decoded.specs.Fits.{sheetFits}
-use Rattle.decoded.proofs.Decoded.{decode-fits}
+use Rattle.decoded.specs.Names.{namesKeep}
+use Rattle.decoded.specs.Editions.{SameButEdition}
+use Rattle.decoded.proofs.Extends.{same-refl}
+use Rattle.decoded.proofs.Decoded.{decode-edition, decode-other, decode-keeps, behind-same, decode-older}
 
 pub record Accepted (s : List ℕ) (x : Sheet) : Type 0 where
   pub next : ℕ
+  pub edition : within 1 lastEdition (editionOf s) ≡ true
   pub decoded : decode s ≡ got x next
   pub fits : sheetFits x ≡ true
+  pub names : namesKeep (sheetName (tableOf (editionOf s))) (x .items) ≡ true
   pub rightParts : wrongPart (x .items) ≡ false
   pub notTaken : taken (x .items) ≡ false
   pub fitArguments : unfitArgument (x .items) ≡ false
@@ -55,10 +65,45 @@ judge-accepted s x q = go (decode s) refl q
         let e : decode s ≡ got x n = rw (r .value) at d in
         record {
           next = n;
+          edition = decode-edition s x n e;
           decoded = e;
-          fits = decode-fits s x n e;
+          fits = decode-keeps s x n e .fits;
+          names = decode-keeps s x n e .names;
           rightParts = rw (r .value) at (r .rightParts);
           notTaken = rw (r .value) at (r .notTaken);
           fitArguments = rw (r .value) at (r .fitArguments);
           noRing = rw (r .value) at (r .noRing);
         }
+
+-- ---- editions
+
+-- excess length comes first
+pub too-long : (s : List ℕ) → leb (length s) mostBytes ≡ false → judge s ≡ refused CutSheet
+unfolding decode judge
+too-long s e = rw e
+
+-- a whole edition that is neither 1 nor 2 gets 2, in a sheet that is not too long
+pub other-edition : (s : List ℕ) → leb (length s) mostBytes ≡ true → leb 4 (8 * length s) ≡ true →
+    within 1 lastEdition (editionOf s) ≡ false → judge s ≡ refused Edition
+unfolding judge
+other-edition s short whole e = rw (decode-other s short whole e)
+
+-- a sheet that is accepted in any edition is accepted in edition 1, with the same value
+pub older-accepted : (s t : List ℕ) → SameButEdition s t → editionOf t ≡ 1 → (x : Sheet) → judge s ≡ accepted x →
+    judge t ≡ accepted x
+unfolding judge
+older-accepted s t same older x q = go (decode s) refl q
+  where
+    go : (g : Got Sheet) → decode s ≡ g → judged g ≡ accepted x → judged (decode t) ≡ accepted x
+    go (fault e) d q = absurd (let z : _≡_ {A = ℕ} 0 1 = cc in omega arith)
+    go (got y n) d q = rw (decode-older s t same older y n d) q
+
+-- two sheets that differ in their editions only have the same value where both are accepted
+pub same-value : (s t : List ℕ) → SameButEdition s t → (x y : Sheet) → judge s ≡ accepted x → judge t ≡ accepted y →
+    x ≡ y
+same-value s t same x y p q =
+    let a = judge-accepted s x p in
+    let b = judge-accepted t y q in
+    let e : got x (a .next) ≡ got y (b .next) =
+    sym (behind-same s t same x (a .next) (a .decoded)) ∙ behind-same t t same-refl y (b .next) (b .decoded) in
+    cc

@@ -1,23 +1,22 @@
 -- What each item of an accepted sheet keeps, by itself.
 use mathlib.Core.Path.{_≡_, refl}
-use mathlib.Core.List.{List, [], _∷_, _++_, map}
+use mathlib.Core.List.{List, [], _∷_, _++_}
 use mathlib.Core.Bool.{Bool, true, false}
 use Prim.Native.Nat.{ℕ, zero, suc, _<_}
 use native.Mathlib.Omega.{arith}
 use lib.Dec.{leb}
 use lib.ListN.{length, getD}
 use Rattle.lexical.specs.Bytes.{every, same}
-use Rattle.lexical.specs.Names.{reserved, isName}
-use Rattle.lexical.proofs.BoolLaws.{both, neither, and-of}
-use Rattle.lexical.proofs.ByteLaws.{Each, every-of, every-cons, every-append, every-weaken}
-use Rattle.lexical.proofs.NameLaws.{sheet-name-base}
-use Rattle.format.specs.Sheet.{Argument, Function, Body, struct, enum, cxxType, rustType, function, Item, Sheet}
+use Rattle.lexical.specs.Names.{isName}
+use Rattle.lexical.proofs.BoolLaws.{both, neither}
+use Rattle.lexical.proofs.ByteLaws.{Each, every-cons, every-weaken}
+use Rattle.format.specs.Sheet.{Name, Argument, Function, function, Item, Sheet}
 use Rattle.rules.specs.Rules.{any, twice, gather, functionOf, functions, reservedNamespace, typeName, symbol, taken}
 use Rattle.rules.specs.Rules.{argumentNames, unfit, unfitArgument}
 use Rattle.decoded.specs.Fits
 use Rattle.decoded.specs.Fits.{returnFits, argumentFits, formFits, commentFits, functionFits, bodyFits, itemFits}
-use Rattle.decoded.specs.Fits.{sheetFits, typeFits, nameFits}
-use Rattle.decoded.specs.Names.{bodyNames, itemNames, namesKeep}
+use Rattle.decoded.specs.Fits.{sheetFits, typeFits}
+use Rattle.decoded.specs.Names.{itemNames, namesKeep}
 use Rattle.decoded.proofs.Accepted.{Accepted}
 
 pub all-at : {A : Type 0} (P : A → Type 0) (xs : List A) (i : ℕ) (d : A) → Each P xs → i < length xs → P (getD xs i d)
@@ -27,11 +26,11 @@ all-at P (x ∷ xs) (suc i) d h l = all-at P xs i d (h .1) (omega arith)
 
 pub argument-name : (items : ℕ) (a : Argument) → argumentFits items a ≡ true → isName (a .name) ≡ true
 unfolding argumentFits
-argument-name items a h = sheet-name-base reserved (a .name) (both (nameFits (a .name)) (typeFits 8 items (a .type)) h .0)
+argument-name items a h = both (isName (a .name)) (typeFits 8 items (a .type)) h .0
 
 pub argument-type : (items : ℕ) (a : Argument) → argumentFits items a ≡ true → typeFits 8 items (a .type) ≡ true
 unfolding argumentFits
-argument-type items a h = both (nameFits (a .name)) (typeFits 8 items (a .type)) h .1
+argument-type items a h = both (isName (a .name)) (typeFits 8 items (a .type)) h .1
 
 pub record FunctionKept (items : List Item) (f : Function) : Type 0 where
   pub rustName : isName (f .rust) ≡ true
@@ -43,13 +42,11 @@ pub record FunctionKept (items : List Item) (f : Function) : Type 0 where
   pub linesFit : every commentFits (f .comment) ≡ true
   pub distinct : twice same (argumentNames f) ≡ false
   pub fitting : any (unfit items f) (f .arguments) ≡ false
-  pub names : every nameFits (f .rust ∷ argumentNames f) ≡ true
 
 pub record ItemKept (items : List Item) (x : Item) : Type 0 where
   pub shallow : leb (length (x .namespace)) 7 ≡ true
   pub namespaceNames : every isName (x .namespace) ≡ true
   pub cxxName : isName (x .cxx) ≡ true
-  pub names : every nameFits (itemNames x) ≡ true
   pub unreserved : reservedNamespace (x .namespace) ≡ false
   pub function : (f : Function) → x .body ≡ function f → FunctionKept items f
 
@@ -77,36 +74,19 @@ module _ {A : Type 0} (test : A → Bool) where
       let p = any-split xs ys (q .1) in
       (rw (q .0) (p .0), p .1)
 
-argument-names : (items : ℕ) (xs : List Argument) → every (argumentFits items) xs ≡ true →
-    every nameFits (map (λ a. a .name) xs) ≡ true
-unfolding every argumentFits
-argument-names items [] h = refl
-argument-names items (a ∷ xs) h =
-    let q = every-cons (argumentFits items) a xs h in
-    and-of (nameFits (a .name)) _ (both (nameFits (a .name)) _ (q .0) .0) (argument-names items xs (q .1))
-
-body-names : (items : List Item) (b : Body) → ((f : Function) → b ≡ function f → FunctionKept items f) →
-    every nameFits (bodyNames b) ≡ true
-unfolding every gather bodyNames
-body-names items (struct p ts) h = refl
-body-names items (enum p a c) h = refl
-body-names items (cxxType p) h = refl
-body-names items (rustType p) h = refl
-body-names items (function f) h = every-append nameFits (f .rust ∷ argumentNames f) [] (h f refl .names) refl
-
 function-kept : (items : List Item) (f : Function) → functionFits (length items) f ≡ true →
     twice same (argumentNames f) ≡ false → any (unfit items f) (f .arguments) ≡ false → FunctionKept items f
 unfolding every functionFits
 function-kept items f h d g =
     let n = length items in
-    let a = both (nameFits (f .rust)) _ h in
+    let a = both (isName (f .rust)) _ h in
     let b = both (Fits.formFits n (f .form)) _ (a .1) in
     let c = both (Fits.returnFits n (f .return)) _ (b .1) in
     let e = both (leb (length (f .arguments)) 31) _ (c .1) in
     let k = both (every (argumentFits n) (f .arguments)) _ (e .1) in
     let l = both (leb (length (f .comment)) 31) (every commentFits (f .comment)) (k .1) in
     record {
-      rustName = sheet-name-base reserved (f .rust) (a .0);
+      rustName = a .0;
       formFits = b .0;
       returnFits = c .0;
       fewArguments = e .0;
@@ -115,7 +95,6 @@ function-kept items f h d g =
       linesFit = l .1;
       distinct = d;
       fitting = g;
-      names = and-of (nameFits (f .rust)) _ (a .0) (argument-names n (f .arguments) (k .0));
     }
 
 -- an item whose own facts are at hand, of a sheet of these items
@@ -123,21 +102,18 @@ item-kept : (items : List Item) (x : Item) → itemFits (length items) x ≡ tru
     reservedNamespace (x .namespace) ≡ false →
     any (λ f. twice same (argumentNames f)) (functionOf (x .body)) ≡ false →
     any (λ f. any (unfit items f) (f .arguments)) (functionOf (x .body)) ≡ false → ItemKept items x
-unfolding any every itemFits bodyFits itemNames
+unfolding any every itemFits bodyFits
 item-kept items x h u d g =
     let n = length items in
     let a = both (leb (length (x .namespace)) 7) _ h in
-    let b = both (every nameFits (x .namespace)) _ (a .1) in
-    let c = both (nameFits (x .cxx)) (bodyFits n (x .body)) (b .1) in
+    let b = both (every isName (x .namespace)) _ (a .1) in
+    let c = both (isName (x .cxx)) (bodyFits n (x .body)) (b .1) in
     let ofBody : (f : Function) → x .body ≡ function f → FunctionKept items f =
     λ f e. function-kept items f (rw e at (c .1)) (neither _ _ (rw e at d) .0) (neither _ _ (rw e at g) .0) in
     record {
       shallow = a .0;
-      namespaceNames = every-weaken nameFits isName (sheet-name-base reserved) (x .namespace) (b .0);
-      cxxName = sheet-name-base reserved (x .cxx) (c .0);
-      names =
-          every-append nameFits (x .namespace) _ (b .0)
-          (and-of (nameFits (x .cxx)) _ (c .0) (body-names items (x .body) ofBody));
+      namespaceNames = b .0;
+      cxxName = c .0;
       unreserved = u;
       function = ofBody;
     }
@@ -164,7 +140,28 @@ accepted-kept s x h =
     each-kept items items (both (leb (length items) 255) _ (h .fits) .1) (u .unreserved) (u .arguments)
     (h .fitArguments)
 
--- the names of an accepted sheet keep its rule
-pub kept-names : (items : List Item) → Each (ItemKept items) items → namesKeep nameFits items ≡ true
+-- ---- names
+
+-- what an item keeps, and that its names keep a rule
+pub record KeptUnder (rule : Name → Bool) (items : List Item) (x : Item) : Type 0 where
+  pub kept : ItemKept items x
+  pub names : every rule (itemNames x) ≡ true
+
+pub each-kept-under : (rule : Name → Bool) (items : List Item) → Each (ItemKept items) items →
+    namesKeep rule items ≡ true → Each (KeptUnder rule items) items
 unfolding namesKeep
-kept-names items kept = every-of (ItemKept items) (λ x. every nameFits (itemNames x)) (λ x k. k .names) items kept
+each-kept-under rule items kept h = go items kept h
+  where
+    go : (xs : List Item) → Each (ItemKept items) xs → every (λ x. every rule (itemNames x)) xs ≡ true →
+        Each (KeptUnder rule items) xs
+    go [] k h = tt
+    go (x ∷ xs) k h =
+        let q = every-cons (λ x. every rule (itemNames x)) x xs h in
+        (record { kept = k .0; names = q .0 }, go xs (k .1) (q .1))
+
+pub names-weaken : (rule weak : Name → Bool) → ((s : Name) → rule s ≡ true → weak s ≡ true) → (items : List Item) →
+    namesKeep rule items ≡ true → namesKeep weak items ≡ true
+unfolding namesKeep
+names-weaken rule weak w items h =
+    every-weaken (λ x. every rule (itemNames x)) (λ x. every weak (itemNames x))
+    (λ x k. every-weaken rule weak w (itemNames x) k) items h

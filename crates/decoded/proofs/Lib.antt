@@ -1,4 +1,4 @@
-pub mod Yields
+pub mod Extends
 pub mod Decoded
 pub mod Accepted
 pub mod Kept

@@ -1,15 +1,16 @@
--- The limits that document 01's format puts on a sheet's value.
+-- The limits that document 01's format puts on a sheet's value, with the base rule for its names; the rule of the
+-- sheet's edition is `namesKeep` of Names.antt.
 use mathlib.Core.List.{List}
 use mathlib.Core.Bool.{Bool, true, _&&_}
 use Prim.Native.Nat.{ℕ, suc, max}
 use lib.Dec.{leb, ltb}
 use lib.ListN.{length}
 use Rattle.lexical.specs.Bytes.{every}
-use Rattle.lexical.specs.Names.{reserved, sheetName}
+use Rattle.lexical.specs.Names.{isName}
 use Rattle.format.specs.Limits.{mostItems, mostNamespaces, mostFields, mostSlots, mostArguments, mostLines}
 use Rattle.format.specs.Limits.{longestLine, mostLevels}
 use Rattle.format.specs.Types.{Ty, atom, named, template, pointer, str, fn, array, Ret, none, gives, Tys, nil, cons}
-use Rattle.format.specs.Sheet.{Name, Form, free, constMethod, mutMethod, associated, Argument, Function, Body, struct}
+use Rattle.format.specs.Sheet.{Form, free, constMethod, mutMethod, associated, Argument, Function, Body, struct}
 use Rattle.format.specs.Sheet.{enum, cxxType, rustType, function, Item, Sheet}
 use Rattle.format.specs.Decoding.{lineOk}
 
@@ -63,16 +64,12 @@ typeFits levels items t = leb (depth t) levels && partsFit items t
 
 -- ---- items
 
--- the rule that a sheet's names keep
-abbrev pub nameFits : Name → Bool
-nameFits s = sheetName reserved s
-
 unfoldable pub returnFits : ℕ → Ret → Bool
 returnFits items none = true
 returnFits items (gives t) = typeFits mostLevels items t
 
 unfoldable pub argumentFits : ℕ → Argument → Bool
-argumentFits items a = nameFits (a .name) && typeFits mostLevels items (a .type)
+argumentFits items a = isName (a .name) && typeFits mostLevels items (a .type)
 
 unfoldable pub formFits : ℕ → Form → Bool
 formFits items free = true
@@ -85,7 +82,7 @@ commentFits cs = leb (length cs) longestLine && lineOk cs
 
 unfoldable pub functionFits : ℕ → Function → Bool
 functionFits items f =
-    nameFits (f .rust) && (formFits items (f .form) && (returnFits items (f .return) &&
+    isName (f .rust) && (formFits items (f .form) && (returnFits items (f .return) &&
     (leb (length (f .arguments)) mostArguments && (every (argumentFits items) (f .arguments) &&
     (leb (length (f .comment)) mostLines && every commentFits (f .comment))))))
 
@@ -99,7 +96,7 @@ bodyFits items (function f) = functionFits items f
 unfoldable pub itemFits : ℕ → Item → Bool
 itemFits items x =
     leb (length (x .namespace)) mostNamespaces &&
-    (every nameFits (x .namespace) && (nameFits (x .cxx) && bodyFits items (x .body)))
+    (every isName (x .namespace) && (isName (x .cxx) && bodyFits items (x .body)))
 
 -- ---- the sheet
 

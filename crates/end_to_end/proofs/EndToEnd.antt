@@ -1,16 +1,16 @@
 -- From the promise of the write service across C linkage to demand 3 of the bytes at the front of the buffer.
-use mathlib.Core.Path.{_≡_, refl, ap, _∙_}
+use mathlib.Core.Path.{_≡_, refl, sym, ap, _∙_}
 use mathlib.Core.List.{List, _++_}
 use mathlib.Core.Bool.{Bool, true, false}
 use Prim.Native.Nat.{ℕ, _≤_}
 use native.Mathlib.Omega.{arith}
 use lib.Dec.{leb}
 use lib.ListN.{length, take, drop, length-append, length-drop}
-use lib.Seq.{drop-append-seam}
+use lib.Seq.{drop-append-seam, length-take-le}
 use borrow.Author.Tests.{le-leb}
 use lib.IntN.{ℤ, pos, negsuc, negℤ}
 use Rattle.lexical.specs.Bytes.{every}
-use Rattle.lexical.specs.Names.{reserved, sheetName}
+use Rattle.lexical.specs.Names.{tableOf, sheetName}
 use Rattle.refusal.specs.declared.Refusal.{Refusal}
 use Rattle.refusal.specs.declared.Refusal.the-variants.{CutSheet, Edition, BadName, LooseIndex, BadKind, TooDeep}
 use Rattle.refusal.specs.declared.Refusal.the-variants.{BadComment, Tail, WrongPart, Taken, UnfitArgument, Ring}
@@ -18,7 +18,10 @@ use Rattle.refusal.specs.declared.Refusal.the-variants.{Overrun}
 use Rattle.refusal.specs.Refusal.{numberOf}
 use Rattle.format.specs.Decode.{pick}
 use Rattle.format.specs.Sheet.{Sheet}
+use Rattle.format.specs.Decoding.{editionOf}
 use Rattle.rules.specs.Judge.{Judged, refused, accepted, judge}
+use Rattle.decoded.specs.Editions.{SameButEdition}
+use Rattle.decoded.proofs.Accepted.{older-accepted}
 use Rattle.bridge.specs.Write.{text}
 use Rattle.grammar.specs.Tree.{Text}
 use Rattle.grammar.specs.Reading.{Reading, OneReading}
@@ -31,7 +34,8 @@ use Rattle.struct_order.proofs.ServeLaws.{served-inside}
 use Rattle.write_sheet.proofs.WrittenLaws.{written-text}
 use Rattle.demand3.proofs.Demand3.{accepted-demand-3}
 use Rattle.demand3.proofs.Names.{accepted-names}
-use Rattle.exports.specs.Codes.{WritesCode}
+use Rattle.demand3.proofs.Editions.{same-text}
+use Rattle.exports.specs.Codes.{Codes, WritesCode}
 use Rattle.end_to_end.specs.TextAtFront.{TextAtFront}
 
 -- ---- a length
@@ -67,7 +71,7 @@ module _ {sheet buffer after : List ℕ} {n : ℕ} {s : Sheet} (w : Writes sheet
       rw (written-text w e) (d .reading, d .agrees)
 
   front-names : s .header ≡ false → (tree : Text) → Reading tree (take n after) →
-      every (sheetName reserved) (namesOf tree) ≡ true
+      every (sheetName (tableOf (editionOf sheet))) (namesOf tree) ≡ true
   front-names h tree r = accepted-names sheet s e h tree (rw (written-text w e) at r)
 
 pub text-at-front : {sheet buffer after : List ℕ} {n : ℕ} → Writes sheet buffer (Written.Length n) after →
@@ -113,14 +117,15 @@ length-of (Written.Refused r) {n} e =
     let q : pos n ≡ negsuc (refusal-negative r .0) = e ∙ refusal-negative r .1 in
     absurd (let z : _≡_ {A = ℕ} 0 1 = cc in omega arith)
 
+length-written : {sheet buffer after : List ℕ} {n : ℕ} → WritesCode sheet buffer (pos n) after →
+    Writes sheet buffer (Written.Length n) after
+length-written {sheet} {buffer} w =
+    record { answers = length-of (answerOf text (judge sheet) (length buffer)) (w .answers); leaves = w .leaves }
+
 -- the write service's answer n, which is no refusal: demand 3 of the n bytes at the front of the buffer
 pub delivered-demand-3 : {sheet buffer after : List ℕ} {n : ℕ} → WritesCode sheet buffer (pos n) after →
     TextAtFront sheet buffer n after
-delivered-demand-3 {sheet} {buffer} w =
-    text-at-front (record {
-      answers = length-of (answerOf text (judge sheet) (length buffer)) (w .answers);
-      leaves = w .leaves;
-    })
+delivered-demand-3 w = text-at-front (length-written w)
 
 -- which is the answer for every accepted sheet whose text the buffer can hold
 pub accepted-answer : {sheet buffer after : List ℕ} {code : ℤ} {s : Sheet} → WritesCode sheet buffer code after →
@@ -142,3 +147,27 @@ refused-leaves {sheet} {buffer} {after} {k} w = go (judge sheet) (w .answers) (w
         after ≡ buffer
     go (refused r) a b = b
     go (accepted s) a b = measured s (leb (length (text s)) (length buffer)) a b
+
+-- ---- editions
+
+-- sheets that differ in their editions only leave the same text, where both are written
+pub delivered-same-text : (s t : List ℕ) → SameButEdition s t → {buffer after buffer′ after′ : List ℕ} {n m : ℕ} →
+    WritesCode s buffer (pos n) after → WritesCode t buffer′ (pos m) after′ → (n ≡ m) × (take n after ≡ take m after′)
+delivered-same-text s t same v w =
+    let x = delivered-demand-3 v in
+    let y = delivered-demand-3 w in
+    let e =
+    written-text (length-written v) (x .accepts)
+    ∙ same-text s t same (x .value) (y .value) (x .accepts) (y .accepts)
+    ∙ sym (written-text (length-written w) (y .accepts)) in
+    (sym (front-length x) ∙ ap length e ∙ front-length y, e)
+  where
+    front-length : {sheet buffer after : List ℕ} {n : ℕ} → TextAtFront sheet buffer n after → length (take n after) ≡ n
+    front-length {after = after} {n} x = length-take-le n after (omega (arith, x .inside, x .sameLength))
+
+-- both services that fill a buffer answer an accepted sheet in edition 1 as they answer it in its own
+pub older-answers : (f : Sheet → List ℕ) (s t : List ℕ) → SameButEdition s t → editionOf t ≡ 1 → (x : Sheet) →
+    judge s ≡ accepted x → {buffer after : List ℕ} {code : ℤ} → Codes f s buffer code after → Codes f t buffer code after
+older-answers f s t same older x p w =
+    let e : judge s ≡ judge t = p ∙ sym (older-accepted s t same older x p) in
+    record { answers = rw e at (w .answers); leaves = rw e at (w .leaves) }

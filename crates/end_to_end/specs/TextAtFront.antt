@@ -8,8 +8,9 @@ use mathlib.Core.Bool.{true, false}
 use Prim.Native.Nat.{ℕ, _≤_}
 use lib.ListN.{length, take, drop}
 use Rattle.lexical.specs.Bytes.{every}
-use Rattle.lexical.specs.Names.{reserved, sheetName}
+use Rattle.lexical.specs.Names.{tableOf, sheetName}
 use Rattle.format.specs.Sheet.{Sheet}
+use Rattle.format.specs.Decoding.{editionOf}
 use Rattle.rules.specs.Judge.{accepted, judge}
 use Rattle.grammar.specs.Tree.{Text}
 use Rattle.grammar.specs.Reading.{Reading, OneReading}
@@ -17,13 +18,13 @@ use Rattle.agreement.specs.Agreement.{Agrees}
 use Rattle.agreement.specs.Names.{namesOf}
 
 -- the sheet is accepted; with header bit 0 the first n bytes of the buffer have exactly one reading, which agrees with
--- the sheet's items, and whose names keep the sheet's rule; behind those bytes nothing has changed
+-- the sheet's items, and whose names keep the rule of the sheet's edition; behind those bytes nothing has changed
 pub record TextAtFront (sheet buffer : List ℕ) (n : ℕ) (after : List ℕ) : Type 0 where
   pub value : Sheet
   pub accepts : judge sheet ≡ accepted value
   pub demand3 : value .header ≡ false → (r : OneReading (take n after)) × Agrees (value .items) (r .tree)
   pub names : value .header ≡ false → (tree : Text) → Reading tree (take n after) →
-      every (sheetName reserved) (namesOf tree) ≡ true
+      every (sheetName (tableOf (editionOf sheet))) (namesOf tree) ≡ true
   pub inside : n ≤ length buffer
   pub behind : drop n after ≡ drop n buffer
   pub sameLength : length after ≡ length buffer

@@ -1,4 +1,5 @@
--- Document 01's table "Checked by hand".
+-- Document 01's table "Checked by hand"; since order 13 (document 02) 20 00 00 gives an empty text, and 30 00 00 and
+-- 00 00 00 get 2.
 use mathlib.Core.Path.{_≡_, refl}
 use mathlib.Core.List.{List, [], _∷_}
 use mathlib.Core.Bool.{Bool, true, false}
@@ -28,7 +29,11 @@ pub checked-by-hand :
     × (answerOf text (judge (0x10 ∷ 0x00 ∷ 0x00 ∷ [])) 0 ≡ Length 0)
     × (number (0x10 ∷ 0x00 ∷ []) ≡ 1)
     × (number (0x10 ∷ 0x00 ∷ 0x00 ∷ 0x00 ∷ []) ≡ 8)
-    × (number (0x20 ∷ 0x00 ∷ 0x00 ∷ []) ≡ 2)
+    × (number (0x20 ∷ 0x00 ∷ 0x00 ∷ []) ≡ 0)
+    × (answerOf text (judge (0x20 ∷ 0x00 ∷ 0x00 ∷ [])) 0 ≡ Length 0)
+    × (number (0x30 ∷ 0x00 ∷ 0x00 ∷ []) ≡ 2)
+    × (number (0x00 ∷ 0x00 ∷ 0x00 ∷ []) ≡ 2)
+    × (number [] ≡ 1)
     × (spelled (pointer SliceRef false (atom Atom.U8)) ≡ bytes "::rust::Slice<::std::uint8_t const>")
     × (spelled (pointer SliceRef true (atom Atom.U8)) ≡ bytes "::rust::Slice<::std::uint8_t >")
     × (spelled (pointer Ref false (atom Atom.F64)) ≡ bytes "double const &")
@@ -39,4 +44,4 @@ pub checked-by-hand :
     × (widthOf 3 ≡ 2)
     × (widthOf 1023 ≡ 10)
 unfolding computes
-checked-by-hand = (refl, refl, refl, refl, refl, refl, refl, refl, refl, refl, refl, refl, refl, refl)
+checked-by-hand = (refl, refl, refl, refl, refl, refl, refl, refl, refl, refl, refl, refl, refl, refl, refl, refl, refl, refl)

@@ -1,13 +1,13 @@
 -- Every definition that an example computes with, behind one name.
 use Rattle.lexical.specs.Bytes.{every, same, member}
-use Rattle.lexical.specs.Names.{nameShape, nameOk, keywords, alternativeTokens, reserved, doubleUnderscore}
-use Rattle.lexical.specs.Names.{underscoreCapital, reservedShape, sheetName}
+use Rattle.lexical.specs.Names.{nameShape, nameOk, keywords, addedKeywords, keywords20, alternativeTokens, reserved}
+use Rattle.lexical.specs.Names.{tableOf, doubleUnderscore, underscoreCapital, reservedShape, sheetName}
 use Rattle.lexical.specs.Decimal.{digits as Decimal-digits, decimal}
 use Rattle.format.specs.Decode.{many}
 use Rattle.format.specs.Bits.{bitAt, bitsAt, bits, bit, bitLength, widthOf, index}
 use Rattle.format.specs.Decoding.{nameBy, nameOf, atomOf, kindOf, typeAt, type, lineOk, line, argument, form}
 use Rattle.format.specs.Decoding.{functionBody, structBody, enumBody, partOf, namespace, item, tail, itemTable}
-use Rattle.format.specs.Decoding.{nameTable, sheet, decode}
+use Rattle.format.specs.Decoding.{nameTable, behindEdition, edition, sheet, decode}
 use Rattle.syntax.specs.Items.{itemAt, path, fullName}
 use Rattle.syntax.specs.Symbol.{pushAll, join}
 use Rattle.syntax.specs.Mangle.{externFn, operator}
@@ -29,5 +29,5 @@ use Rattle.agreement.specs.Agreement.{rustFunctions, parameterNames, headNames,
 use Rattle.agreement.specs.Agreement.{argumentOperands, fitting}
 
 unfoldable pub computes : Unit {0}
-unfolding every same member nameShape nameOk keywords alternativeTokens reserved doubleUnderscore underscoreCapital reservedShape sheetName Decimal-digits decimal many bitAt bitsAt bits bit bitLength widthOf index nameBy nameOf atomOf kindOf typeAt type lineOk line argument form functionBody structBody enumBody partOf namespace item tail itemTable nameTable sheet decode itemAt path fullName pushAll join externFn operator needsIndirectAbi visitAll visit sort ringed order any twice gather anyNamed anyNamedRet anyNamedTys wrongPart taken unfit unfitArgument heldStructs structsFrom ring ruled judge check nextSection push pushBlockBoundary endNamespaces beginNamespaces setNamespace flushAll flushBlocks write flush filter nth directContent nestedContent distinct nthNames nestedNames writeType writeRet writeTypes writeTypeSpace writeDirect writeEntries forwardDeclarations commas indirectReturn externReturn externArg slot externParameters functionDecl writeRustFunctionDecl layoutDecl writeOpaqueTypeLayoutDecls layoutDefinition writeOpaqueTypeLayout writeDoc isCxxMain localName shimDecl isHeld heldLocal direct operand operands shimBody functionShim writeRustFunctionShim forEach writeFunctions content text rustFunctions parameterNames headNames declarations shims ofFunctions argumentOperands fitting
+unfolding every same member nameShape nameOk keywords addedKeywords keywords20 alternativeTokens reserved tableOf doubleUnderscore underscoreCapital reservedShape sheetName Decimal-digits decimal many bitAt bitsAt bits bit bitLength widthOf index nameBy nameOf atomOf kindOf typeAt type lineOk line argument form functionBody structBody enumBody partOf namespace item tail itemTable nameTable behindEdition edition sheet decode itemAt path fullName pushAll join externFn operator needsIndirectAbi visitAll visit sort ringed order any twice gather anyNamed anyNamedRet anyNamedTys wrongPart taken unfit unfitArgument heldStructs structsFrom ring ruled judge check nextSection push pushBlockBoundary endNamespaces beginNamespaces setNamespace flushAll flushBlocks write flush filter nth directContent nestedContent distinct nthNames nestedNames writeType writeRet writeTypes writeTypeSpace writeDirect writeEntries forwardDeclarations commas indirectReturn externReturn externArg slot externParameters functionDecl writeRustFunctionDecl layoutDecl writeOpaqueTypeLayoutDecls layoutDefinition writeOpaqueTypeLayout writeDoc isCxxMain localName shimDecl isHeld heldLocal direct operand operands shimBody functionShim writeRustFunctionShim forEach writeFunctions content text rustFunctions parameterNames headNames declarations shims ofFunctions argumentOperands fitting
 computes = tt

@@ -8,7 +8,7 @@ use Rattle.bridge.specs.Write.{text}
 use Rattle.examples.proofs.Computing.{computes}
 
 -- the text of an accepted sheet
-abbrev textOf : Judged → List ℕ
+abbrev pub textOf : Judged → List ℕ
 textOf (refused e) = []
 textOf (accepted x) = text x
 

@@ -1,5 +1,5 @@
--- From bytes to the value of a sheet, or to the first fault of 1 to 8 (document 01, "The sheet", rules 1 to 4; of names
--- also document 02, order 3).
+-- From bytes to the value of a sheet, or to the first fault of 1 to 8 (document 01, "The sheet", rules 1 to 4;
+-- document 02, order 3 of names, order 13 of editions).
 use mathlib.Core.List.{List, [], _∷_}
 use mathlib.Core.Bool.{Bool, true, false, not, _&&_}
 use Prim.Native.Nat.{ℕ, zero, suc, _-_, _*_, _%_}
@@ -8,7 +8,7 @@ use lib.Dec.{leb, eqb}
 use Rattle.refusal.specs.declared.Refusal.{Refusal}
 use Rattle.refusal.specs.declared.Refusal.the-variants.{CutSheet, Edition, BadName, BadKind, TooDeep, BadComment, Tail}
 use Rattle.lexical.specs.Bytes.{within, every}
-use Rattle.lexical.specs.Names.{reserved, isName, sheetName}
+use Rattle.lexical.specs.Names.{isName, sheetName, tableOf}
 use Rattle.format.specs.declared.Atom.{Atom}
 use Rattle.format.specs.declared.Atom.the-variants as Atom
 use Rattle.format.specs.declared.Template.the-variants.{RustBox, RustVec, UniquePtr, SharedPtr, WeakPtr}
@@ -18,9 +18,9 @@ use Rattle.format.specs.declared.TypeKind.{TypeKind}
 use Rattle.format.specs.declared.TypeKind.the-variants as Kind
 use Rattle.format.specs.declared.ItemKind.{ItemKind}
 use Rattle.format.specs.declared.ItemKind.the-variants as Part
-use Rattle.format.specs.Limits.{mostBytes, mostLevels}
+use Rattle.format.specs.Limits.{lastEdition, mostBytes, mostLevels}
 use Rattle.format.specs.Decode.{Got, fault, got, Dec, pick, after, _>>_, pure, refuse, unless, many}
-use Rattle.format.specs.Bits.{bits, bit, index}
+use Rattle.format.specs.Bits.{bitsAt, bits, bit, index}
 use Rattle.format.specs.Types.{Ty, atom, named, template, pointer, str, fn, array, Ret, none, gives, tys}
 use Rattle.format.specs.Sheet.{Name, Form, free, constMethod, mutMethod, associated, Argument, Body}
 use Rattle.format.specs.Sheet.{struct, enum, cxxType, rustType, function, Item, Sheet}
@@ -173,18 +173,29 @@ tail x s at =
 unfoldable pub itemTable : List Name → Dec (List Item)
 itemTable names = bits 8 >> λ n. many n (item names n)
 
--- a name of the table, used or not, keeps the sheet's rule
-abbrev pub tableName : Dec Name
-tableName = nameBy (sheetName reserved)
+-- a name of the table, used or not, keeps the rule of a sheet with these words
+abbrev pub tableName : List (List ℕ) → Dec Name
+tableName words = nameBy (sheetName words)
 
-unfoldable pub nameTable : Dec (List Name)
-nameTable = bits 10 >> λ n. many n tableName
+unfoldable pub nameTable : List (List ℕ) → Dec (List Name)
+nameTable words = bits 10 >> λ n. many n (tableName words)
+
+-- every edition has this layout
+unfoldable pub behindEdition : List (List ℕ) → Dec Sheet
+behindEdition words =
+    bit >> λ h. bit >> λ d. nameTable words >> λ names. itemTable names >> λ is.
+    tail (record { header = h; doxygen = d; items = is })
+
+-- 1 is ISO C++17, 2 is ISO C++20
+unfoldable pub edition : Dec ℕ
+edition = bits 4 >> λ e. unless (within 1 lastEdition e) Edition (pure e)
+
+-- the edition that a sheet's bytes tell
+abbrev pub editionOf : List ℕ → ℕ
+editionOf s = bitsAt s 0 4
 
 unfoldable pub sheet : Dec Sheet
-sheet =
-    bits 4 >> λ e. unless (eqb e 1) Edition
-    (bit >> λ h. bit >> λ d. nameTable >> λ names. itemTable names >> λ is.
-    tail (record { header = h; doxygen = d; items = is }))
+sheet = edition >> λ e. behindEdition (tableOf e)
 
 -- at most 32,768 bytes: excess length comes first
 unfoldable pub decode : List ℕ → Got Sheet

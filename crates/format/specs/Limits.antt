@@ -8,6 +8,10 @@ mostBytes = 32768
 abbrev pub mostBits : ℕ
 mostBits = 8 * mostBytes
 
+-- "Edition 0 and 3 upward get 2" (document 02, order 13)
+abbrev pub lastEdition : ℕ
+lastEdition = 2
+
 -- "N, 10 bits: the number of names"; "1,023 takes 10"
 abbrev pub mostNames : ℕ
 mostNames = 1023

@@ -81,6 +81,8 @@ pub struct Outline {
 }
 
 impl Outline {
+    // The newest edition of a sheet; the oldest is 1.
+    pub const LAST_EDITION: u32 = 2;
     // The most names of a sheet.
     pub const NAMES: usize = 1023;
     // The most items of a sheet.

@@ -1,6 +1,6 @@
 -- Laws of bytes and lists of bytes.
 use mathlib.Core.Path.{_≡_, refl, ap₂}
-use mathlib.Core.List.{List, [], _∷_, _++_}
+use mathlib.Core.List.{List, [], _∷_, _++_, map}
 use mathlib.Core.Bool.{Bool, true, false, false≢true}
 use Prim.Native.Nat.{ℕ}
 use lib.Dec.{T, eqb, eqb→eq, eqb-refl}
@@ -95,6 +95,14 @@ module _ {A : Type 0} (test : A → Bool) where
   every-weaken weak f [] h = refl
   every-weaken weak f (x ∷ xs) h =
       let q = both (test x) (every test xs) h in rw (f x (q .0)) (every-weaken weak f xs (q .1))
+
+-- where f takes what passes one test to what passes another, so does `map f`
+pub every-map : {A B : Type 0} (test : A → Bool) (good : B → Bool) (f : A → B) →
+    ((x : A) → test x ≡ true → good (f x) ≡ true) → (xs : List A) → every test xs ≡ true → every good (map f xs) ≡ true
+unfolding every
+every-map test good f step [] h = refl
+every-map test good f step (x ∷ xs) h =
+    let q = both (test x) (every test xs) h in rw (step x (q .0)) (every-map test good f step xs (q .1))
 
 pub member-append-left : (s : List ℕ) (a b : List (List ℕ)) → member s a ≡ true → member s (a ++ b) ≡ true
 unfolding member

@@ -1,19 +1,25 @@
 -- Laws of the name rule.
 use mathlib.Core.Path.{_≡_, refl, ap, _∙_, sym}
-use mathlib.Core.List.{List, [], _∷_, _++_}
+use mathlib.Core.List.{List, [], _∷_, _++_, append-assoc}
 use mathlib.Core.Bool.{Bool, true, false, not, false≢true}
-use Prim.Native.Nat.{ℕ}
+use Prim.Native.Nat.{ℕ, zero, suc, _<_, _≤_}
+use native.Mathlib.Omega.{arith}
 use lib.ListN.{length}
 use Rattle.lexical.specs.Bytes.{every, same, member}
-use Rattle.lexical.specs.Names.{nameStart, nameChar, starts, nameShape, nameOk, keywords, alternativeTokens}
-use Rattle.lexical.specs.Names.{reserved, reservedShape, sheetName}
+use Rattle.lexical.specs.Names.{nameStart, nameChar, starts, nameShape, nameOk, keywords, addedKeywords}
+use Rattle.lexical.specs.Names.{keywords20, alternativeTokens, reserved, tableOf, Covers, isName, reservedShape}
+use Rattle.lexical.specs.Names.{sheetName}
 use Rattle.lexical.proofs.BoolLaws.{both, and-of, not-true, fails-too, by-cases}
 use Rattle.lexical.proofs.ByteLaws.{same-eq, member-append-left}
 
--- the standard's tables have 73 and 11 words
+-- the standards' tables have 73, 81 and 11 words
 pub keyword-count : length keywords ≡ 73
 unfolding keywords
 keyword-count = refl
+
+pub keyword-count-20 : length keywords20 ≡ 81
+unfolding keywords addedKeywords keywords20
+keyword-count-20 = refl
 
 pub alternative-count : length alternativeTokens ≡ 11
 unfolding alternativeTokens
@@ -35,22 +41,51 @@ pub name-chars : (table : List (List ℕ)) (s : List ℕ) → nameOk table s ≡
 unfolding nameShape
 name-chars table s h = both (starts nameStart s) (every nameChar s) (name-shape table s h) .1
 
--- a sheet's rule is the base rule, and reserved identifiers are none of its names
-
-pub sheet-name-base : (table : List (List ℕ)) (s : List ℕ) → sheetName table s ≡ true → nameOk table s ≡ true
-unfolding sheetName
-sheet-name-base table s h = both (nameOk table s) (not (reservedShape s)) h .0
-
 pub sheet-name-free : (table : List (List ℕ)) (s : List ℕ) → sheetName table s ≡ true → reservedShape s ≡ false
 unfolding sheetName
 sheet-name-free table s h = not-true (reservedShape s) (both (nameOk table s) (not (reservedShape s)) h .1)
 
--- a larger table only forbids more
-pub name-smaller : (table more : List (List ℕ)) (s : List ℕ) → nameOk (table ++ more) s ≡ true → nameOk table s ≡ true
-unfolding nameOk
-name-smaller table more s h =
-    and-of (nameShape s) (not (member s table)) (name-shape (table ++ more) s h)
-    (rw (fails-too (member s table) (member s (table ++ more)) (member-append-left s table more) (name-free (table ++ more) s h)))
+-- a table with all words of edition 1 forbids no less: what is a name by it is a name of edition 1, and by the base rule
+module _ (table : List (List ℕ)) (covers : Covers table) (s : List ℕ) (h : sheetName table s ≡ true) where
+  pub sheet-name-base : isName s ≡ true
+  unfolding nameOk sheetName
+  sheet-name-base =
+      let q = both (nameOk table s) (not (reservedShape s)) h .0 in
+      and-of (nameShape s) (not (member s reserved)) (name-shape table s q)
+      (rw (fails-too (member s reserved) (member s table) (covers s) (name-free table s q)))
+
+  pub sheet-name-older : sheetName reserved s ≡ true
+  unfolding sheetName
+  sheet-name-older =
+      and-of (nameOk reserved s) (not (reservedShape s)) sheet-name-base (rw (sheet-name-free table s h))
+
+-- ---- editions
+
+-- the table of an edition is that of edition 1, below 2, or else that of edition 2
+pub table-first : (e : ℕ) → e < 2 → tableOf e ≡ reserved
+unfolding reserved tableOf
+table-first zero h = refl
+table-first (suc zero) h = refl
+table-first (suc (suc e)) h = absurd (omega arith)
+
+pub table-later : (e : ℕ) → 2 ≤ e → tableOf e ≡ tableOf 2
+unfolding tableOf
+table-later zero h = absurd (omega arith)
+table-later (suc zero) h = absurd (omega arith)
+table-later (suc (suc e)) h = refl
+
+-- what both tables keep, the table of every edition keeps
+pub by-edition : (P : List (List ℕ) → Type 0) → P reserved → P (tableOf 2) → (e : ℕ) → P (tableOf e)
+unfolding reserved tableOf
+by-edition P p q zero = p
+by-edition P p q (suc zero) = p
+by-edition P p q (suc (suc e)) = q
+
+pub edition-covers : (e : ℕ) → Covers (tableOf e)
+unfolding reserved tableOf keywords20
+edition-covers = by-edition Covers (λ w h. h)
+    (λ w h. rw (sym (append-assoc alternativeTokens keywords addedKeywords))
+    (member-append-left w (alternativeTokens ++ keywords) addedKeywords h))
 
 -- the reserved words are made of name characters
 pub reserved-chars : every (λ word. every nameChar word) reserved ≡ true

@@ -1,7 +1,8 @@
--- Characters and the name rule (document 01, "The sheet", rule 2; document 02, order 3).
+-- Characters and the name rule (document 01, "The sheet", rule 2; document 02, orders 3 and 13).
+use mathlib.Core.Path.{_≡_}
 use mathlib.Core.List.{List, [], _∷_, _++_}
-use mathlib.Core.Bool.{Bool, false, _&&_, _||_, not}
-use Prim.Native.Nat.{ℕ}
+use mathlib.Core.Bool.{Bool, true, false, _&&_, _||_, not}
+use Prim.Native.Nat.{ℕ, zero, suc}
 use lib.Dec.{eqb}
 use Rattle.lexical.specs.Bytes.{bytes, within, every, member}
 
@@ -48,14 +49,37 @@ keywords =
     bytes "typename" ∷ bytes "union" ∷ bytes "unsigned" ∷ bytes "using" ∷ bytes "virtual" ∷ bytes "void" ∷
     bytes "volatile" ∷ bytes "wchar_t" ∷ bytes "while" ∷ []
 
--- ISO C++17 [lex.digraph], table 1: the 11 alternative tokens that are words
+-- the 8 that ISO C++20 [lex.key] has besides, 81 keywords
+unfoldable pub addedKeywords : List (List ℕ)
+addedKeywords =
+    bytes "char8_t" ∷ bytes "concept" ∷ bytes "consteval" ∷ bytes "constinit" ∷ bytes "co_await" ∷
+    bytes "co_return" ∷ bytes "co_yield" ∷ bytes "requires" ∷ []
+
+unfoldable pub keywords20 : List (List ℕ)
+keywords20 = keywords ++ addedKeywords
+
+-- ISO C++17 [lex.digraph], table 1: the 11 alternative tokens that are words; ISO C++20 has the same
 unfoldable pub alternativeTokens : List (List ℕ)
 alternativeTokens =
     bytes "and" ∷ bytes "and_eq" ∷ bytes "bitand" ∷ bytes "bitor" ∷ bytes "compl" ∷ bytes "not" ∷ bytes "not_eq" ∷
     bytes "or" ∷ bytes "or_eq" ∷ bytes "xor" ∷ bytes "xor_eq" ∷ []
 
+-- the words of edition 1
 unfoldable pub reserved : List (List ℕ)
-reserved = keywords ++ alternativeTokens
+reserved = alternativeTokens ++ keywords
+
+-- the keywords of an edition: C++17 before edition 2, C++20 from it on; only 1 and 2 get past `edition` of format
+abbrev pub keywordsOf : ℕ → List (List ℕ)
+keywordsOf zero = keywords
+keywordsOf (suc zero) = keywords
+keywordsOf (suc (suc e)) = keywords20
+
+unfoldable pub tableOf : ℕ → List (List ℕ)
+tableOf e = alternativeTokens ++ keywordsOf e
+
+-- a table that holds all words of edition 1
+abbrev pub Covers : List (List ℕ) → Type 0
+Covers table = (w : List ℕ) → member w reserved ≡ true → member w table ≡ true
 
 -- the base rule: the table of edition 1, reserved identifiers let through. The grammar has names by this one.
 abbrev pub isName : List ℕ → Bool
@@ -81,6 +105,6 @@ underscoreCapital (c ∷ s) = underscore c && starts capital s
 unfoldable pub reservedShape : List ℕ → Bool
 reservedShape s = doubleUnderscore s || underscoreCapital s
 
--- the name rule of a sheet with this table of words (document 02, order 3)
+-- the name rule of a sheet with this table of words (document 02, orders 3 and 13)
 unfoldable pub sheetName : List (List ℕ) → List ℕ → Bool
 sheetName table s = nameOk table s && not (reservedShape s)

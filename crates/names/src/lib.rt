@@ -10,6 +10,7 @@ ghost use mathlib.Core.Path.{_≡_};
 ghost use Prim.Native.Nat.{_+_, _≤_, _<_};
 ghost use lib.ListN.{length, getD};
 ghost use Rattle.lexical.specs.Bytes.{same};
+ghost use Rattle.lexical.specs.Names.{tableOf};
 ghost use Rattle.format.specs.Limits.{longestName};
 ghost use Rattle.format.specs.Decode.{many};
 ghost use Rattle.format.specs.Decoding.{name, tableName};
@@ -72,10 +73,10 @@ pub enum Digested {
     Fault(Refusal),
 }
 
-// Past the name at c, by the sheet's rule.
-fn check_name(s: &[u8], c: Cursor) -> Digested
+// Past the name at c, by the rule of a sheet of that edition.
+fn check_name(s: &[u8], c: Cursor, edition: u32) -> Digested
     requires { ⌜ Limited (now s) ⌝ }
-    ensures { λ r. ⌜ Digests (tableName (now (s .entry)) (c .at)) r ⌝ }
+    ensures { λ r. ⌜ Digests (tableName (tableOf edition) (now (s .entry)) (c .at)) r ⌝ }
 {
     let mut buf = [0u8; Name::LONGEST];
     let f = read_text(s, c, 6, &mut buf);
@@ -83,7 +84,7 @@ fn check_name(s: &[u8], c: Cursor) -> Digested
         Field::Cut => Digested::Fault(Refusal::CutSheet),
         Field::Value(n, next) => {
             let k = n as usize;
-            let good = is_sheet_name(&buf[..k]);
+            let good = is_sheet_name(edition, &buf[..k]);
             if good {
                 let h = digest(&buf[..k]);
                 return Digested::At(h, next);
@@ -94,15 +95,23 @@ fn check_name(s: &[u8], c: Cursor) -> Digested
 }
 
 // Past n names, with the position of each in offsets and its digest in digests.
-pub fn check_names(s: &[u8], c: Cursor, n: u32, offsets: &mut [u32], digests: &mut [u32]) -> Step
+pub fn check_names(
+    s: &[u8],
+    c: Cursor,
+    edition: u32,
+    n: u32,
+    offsets: &mut [u32],
+    digests: &mut [u32],
+) -> Step
     requires { ⌜ Limited (now s) × (n ≤ length (now offsets)) × (n ≤ length (now digests)) ⌝ }
-    ensures { λ r. ⌜ Fills (many n (positionOf tableName) (now (s .entry)) (c .at)) r n (now (offsets .exit)) ×
-        Fills (many n (digestOf tableName) (now (s .entry)) (c .at)) r n (now (digests .exit)) ⌝ }
+    ensures { λ r. ⌜ Fills (many n (positionOf (tableName (tableOf edition))) (now (s .entry)) (c .at)) r n
+        (now (offsets .exit)) ×
+        Fills (many n (digestOf (tableName (tableOf edition))) (now (s .entry)) (c .at)) r n (now (digests .exit)) ⌝ }
 {
     let mut next = c;
     let mut i: u32 = 0;
     while i < n {
-        let r = check_name(s, next);
+        let r = check_name(s, next, edition);
         match r {
             Digested::At(h, p) => {
                 let k = i as usize;

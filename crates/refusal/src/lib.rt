@@ -6,7 +6,7 @@ ghost use Rattle.refusal.specs.Refusal.{numberOf};
 pub enum Refusal {
     // 1: over 32,768 bytes, or the sheet ends before a field is whole.
     CutSheet,
-    // 2: the edition is not 1.
+    // 2: the edition is neither 1 nor 2.
     Edition,
     // 3: a name breaks the name rule.
     BadName,

@@ -3,25 +3,24 @@ use mathlib.Core.Path.{_≡_, refl}
 use mathlib.Core.List.{List, [], _∷_, _++_, map}
 use mathlib.Core.Bool.{Bool, true, false, _&&_, not}
 use Prim.Native.Nat.{ℕ}
+use lib.ListN.{length}
 use Rattle.lexical.specs.Bytes.{bytes, every}
-use Rattle.lexical.specs.Names.{starts, reserved, underscore, capital, doubleUnderscore, underscoreCapital}
+use Rattle.lexical.specs.Names.{starts, underscore, capital, doubleUnderscore, underscoreCapital}
 use Rattle.lexical.specs.Names.{reservedShape}
 use Rattle.lexical.proofs.BoolLaws.{neither, not-true, by-cases}
-use Rattle.lexical.proofs.ByteLaws.{Each, every-cons, every-append, every-snoc, every-weaken}
-use Rattle.lexical.proofs.NameLaws.{sheet-name-free}
+use Rattle.lexical.proofs.ByteLaws.{every-cons, every-append, every-snoc}
 use Rattle.format.specs.Sheet.{Function, function, Item}
 use Rattle.syntax.specs.Items.{itemAt, selfType}
 use Rattle.syntax.specs.Symbol.{pushAll, join}
 use Rattle.syntax.specs.Mangle.{version, externFn, operator}
 use Rattle.rules.specs.Rules.{argumentNames}
-use Rattle.decoded.specs.Fits.{nameFits}
-use Rattle.decoded.specs.Names.{itemNames}
-use Rattle.decoded.proofs.Kept.{ItemKept, FunctionKept}
+use Rattle.decoded.specs.Fits.{formFits}
+use Rattle.decoded.specs.Names.{itemNames, namesKeep}
 use Rattle.grammar.specs.Tree as Tree
 use Rattle.grammar.specs.Tree.{Measure}
 use Rattle.spelling.specs.DeclarationTree.{operatorName}
 use Rattle.spelling.proofs.Symbols.{self-every}
-use Rattle.spelling.proofs.TreeNames.{ItemNamed, item-named}
+use Rattle.spelling.proofs.TreeNames.{item-named, at-named}
 
 -- ---- segments joined by `$`
 
@@ -84,32 +83,26 @@ unfolding every doubleUnderscore underscoreCapital reservedShape
 operator-ordinary Tree.size = refl
 operator-ordinary Tree.align = refl
 
-module _ (items : List Item) (kept : Each (ItemKept items) items) where
-  kept-ordinary : (x : Item) → ItemKept items x → ItemNamed ordinary x
-  kept-ordinary x k =
-      item-named ordinary x
-      (every-weaken nameFits ordinary (λ s h. rw (sheet-name-free reserved s h)) (itemNames x) (k .names))
+module _ (x : Item) (h : every ordinary (itemNames x) ≡ true) where
+  begin-ordinary : every ordinary (x .namespace ++ version) ≡ true
+  begin-ordinary =
+      every-append ordinary (x .namespace) version (item-named ordinary x h .namespace) version-ordinary
 
-  begin-ordinary : (x : Item) → ItemKept items x → every ordinary (x .namespace ++ version) ≡ true
-  begin-ordinary x k =
-      every-append ordinary (x .namespace) version (kept-ordinary x k .namespace) version-ordinary
-
-  pub function-ordinary : (x : Item) → ItemKept items x → (f : Function) → x .body ≡ function f →
-      FunctionKept items f → reservedShape (externFn items (x .namespace) f) ≡ false
+  pub function-ordinary : (items : List Item) → namesKeep ordinary items ≡ true → (f : Function) → x .body ≡ function f →
+      formFits (length items) (f .form) ≡ true → reservedShape (externFn items (x .namespace) f) ≡ false
   unfolding externFn
-  function-ordinary x k f e g =
+  function-ordinary items all f e fits =
       let begin = x .namespace ++ version in
       let self = map (λ i. itemAt items i .cxx) (selfType (f .form)) in
       join-ordinary (begin ++ self ++ (f .rust ∷ []))
       (every-snoc ordinary (begin ++ self) (f .rust)
-      (every-append ordinary begin self (begin-ordinary x k) (self-every items kept ordinary (λ y k. kept-ordinary y k .cxx) (f .form) (g .formFits)))
-      (every-cons ordinary (f .rust) (argumentNames f) (kept-ordinary x k .function f e) .0))
+      (every-append ordinary begin self begin-ordinary (self-every items ordinary (λ i l. at-named ordinary items all i l .cxx) (f .form) fits))
+      (every-cons ordinary (f .rust) (argumentNames f) (item-named ordinary x h .function f e) .0))
 
-  pub layout-ordinary : (x : Item) → ItemKept items x → (m : Measure) →
-      reservedShape (operator x (operatorName m)) ≡ false
+  pub layout-ordinary : (m : Measure) → reservedShape (operator x (operatorName m)) ≡ false
   unfolding every operator
-  layout-ordinary x k m =
+  layout-ordinary m =
       let end = x .cxx ∷ bytes "operator" ∷ operatorName m ∷ [] in
       join-ordinary (x .namespace ++ version ++ end)
-      (every-append ordinary (x .namespace ++ version) end (begin-ordinary x k)
-      (rw (kept-ordinary x k .cxx) (operator-ordinary m)))
+      (every-append ordinary (x .namespace ++ version) end begin-ordinary
+      (rw (item-named ordinary x h .cxx) (operator-ordinary m)))

@@ -3,6 +3,7 @@ use mathlib.Core.Path.{_≡_, refl}
 use mathlib.Core.List.{List, [], _∷_, _++_, append-assoc, map}
 use mathlib.Core.Bool.{Bool, true}
 use Prim.Native.Nat.{ℕ}
+use lib.Dec.{ltb}
 use lib.ListN.{length}
 use Rattle.lexical.specs.Bytes.{bytes, every, same, member}
 use Rattle.lexical.specs.Names.{nameChar, nameShape, nameOk, keywords, alternativeTokens, reserved, isName}
@@ -69,17 +70,17 @@ symbol-spells s h = word-spells s (symbol-word s h)
 
 -- ---- the symbols of a sheet
 
-module _ (items : List Item) (kept : Each (ItemKept items) items) where
-  -- the self type's name passes a test that each item's name passes
-  module _ (test : Name → Bool) (passes : (x : Item) → ItemKept items x → test (x .cxx) ≡ true) where
-    pub self-every : (form : Form) → formFits (length items) form ≡ true →
-        every test (map (λ i. itemAt items i .cxx) (selfType form)) ≡ true
-    unfolding every formFits
-    self-every free h = refl
-    self-every (constMethod i) h = rw (passes (itemAt items i) (item-kept items kept i h))
-    self-every (mutMethod i) h = rw (passes (itemAt items i) (item-kept items kept i h))
-    self-every (associated i) h = rw (passes (itemAt items i) (item-kept items kept i h))
+-- the self type's name passes a test that each item's name passes
+pub self-every : (items : List Item) (test : Name → Bool) →
+    ((i : ℕ) → ltb i (length items) ≡ true → test (itemAt items i .cxx) ≡ true) → (form : Form) →
+    formFits (length items) form ≡ true → every test (map (λ i. itemAt items i .cxx) (selfType form)) ≡ true
+unfolding every formFits
+self-every items test passes free h = refl
+self-every items test passes (constMethod i) h = rw (passes i h)
+self-every items test passes (mutMethod i) h = rw (passes i h)
+self-every items test passes (associated i) h = rw (passes i h)
 
+module _ (items : List Item) (kept : Each (ItemKept items) items) where
   module _ (x : Item) (k : ItemKept items x) (f : Function) (g : FunctionKept items f) where
     pub externFn-symbol : isSymbol (externFn items (x .namespace) f) ≡ true
     unfolding every externFn
@@ -87,7 +88,7 @@ module _ (items : List Item) (kept : Each (ItemKept items) items) where
         let self = map (λ i. itemAt items i .cxx) (selfType (f .form)) in
         rw (append-assoc (x .namespace ++ version) self (f .rust ∷ []))
         (join-symbol (x .namespace) (self ++ (f .rust ∷ [])) (k .namespaceNames)
-        (every-append segmentOk self (f .rust ∷ []) (self-every segmentOk (λ y l. name-segment (y .cxx) (l .cxxName)) (f .form) (g .formFits))
+        (every-append segmentOk self (f .rust ∷ []) (self-every items segmentOk (λ i l. name-segment _ (item-kept items kept i l .cxxName)) (f .form) (g .formFits))
         (rw (name-segment (f .rust) (g .rustName)))))
 
     pub externFn-spells :

@@ -6,8 +6,8 @@ use Prim.Native.Nat.{ℕ}
 use lib.Dec.{leb, ltb}
 use lib.ListN.{length}
 use Rattle.lexical.specs.Bytes.{bytes, every}
-use Rattle.lexical.proofs.BoolLaws.{both, and-of}
-use Rattle.lexical.proofs.ByteLaws.{each-true, every-cons, every-append, every-snoc, every-split, every-weaken}
+use Rattle.lexical.proofs.BoolLaws.{both}
+use Rattle.lexical.proofs.ByteLaws.{each-true, every-cons, every-append, every-snoc, every-split, every-weaken, every-map}
 use Rattle.format.specs.Decode.{pick}
 use Rattle.format.specs.declared.Pointer.the-variants.{Ref, Ptr, SliceRef}
 use Rattle.format.specs.Types.{Ty, atom, named, template, pointer, str, fn, array, Ret, none, gives, Tys, nil, cons}
@@ -43,14 +43,6 @@ use Rattle.spelling.proofs.DeclarationSpelling.{slot-fits}
 
 -- ---- lists
 
-module _ {A B : Type 0} (test : A → Bool) (good : B → Bool) where
-  every-map : (f : A → B) → ((x : A) → test x ≡ true → good (f x) ≡ true) → (xs : List A) → every test xs ≡ true →
-      every good (map f xs) ≡ true
-  unfolding every
-  every-map f step [] h = refl
-  every-map f step (x ∷ xs) h =
-      let q = every-cons test x xs h in and-of (good (f x)) _ (step x (q .0)) (every-map f step xs (q .1))
-
 every-none : {A : Type 0} (test : A → Bool) → every test [] ≡ true
 unfolding every
 every-none test = refl
@@ -83,6 +75,12 @@ suffix-names : (s : Suffix) (x : CxxType) → namesOfType (withSuffix s x) ≡ n
 unfolding namesOfType
 suffix-names s (suffixed base suffixes) = refl
 
+pub at-named : (rule : Name → Bool) (items : List Item) → namesKeep rule items ≡ true → (i : ℕ) →
+    ltb i (length items) ≡ true → ItemNamed rule (itemAt items i)
+unfolding namesKeep itemAt
+at-named rule items all i h =
+    item-named rule (itemAt items i) (every-at (λ x. every rule (itemNames x)) items i _ all h)
+
 module _ (rule : Name → Bool) (self : rule (bytes "self") ≡ true) (s : Sheet)
     (sheetKeeps : namesKeep rule (s .items) ≡ true) where
   abbrev items : List Item
@@ -97,13 +95,10 @@ module _ (rule : Name → Bool) (self : rule (bytes "self") ≡ true) (s : Sheet
   all-names names xs h =
       every-gather (λ x. keep names x ≡ true) rule names (λ x e. e) xs (each-true (keep names) xs h)
 
-  at-named : (i : ℕ) → ltb i (length items) ≡ true → ItemNamed rule (itemAt items i)
-  unfolding namesKeep itemAt
-  at-named i h = item-named rule (itemAt items i) (every-at (keep itemNames) items i _ sheetKeeps h)
-
   path-names : (i : ℕ) → ltb i (length items) ≡ true → every rule (itemPath (itemAt items i)) ≡ true
   path-names i h =
-      let x = itemAt items i in every-snoc rule (x .namespace) (x .cxx) (at-named i h .namespace) (at-named i h .cxx)
+      let x = itemAt items i in
+      let n = at-named rule items sheetKeeps i h in every-snoc rule (x .namespace) (x .cxx) (n .namespace) (n .cxx)
 
   -- ---- types
 
@@ -224,9 +219,9 @@ module _ (rule : Name → Bool) (self : rule (bytes "self") ≡ true) (s : Sheet
       keep headParts (headOf items x form) ≡ true
   unfolding every formFits
   head-names x n free h = rw n
-  head-names x n (constMethod i) h = rw (at-named i h .cxx, n)
-  head-names x n (mutMethod i) h = rw (at-named i h .cxx, n)
-  head-names x n (associated i) h = rw (at-named i h .cxx, n)
+  head-names x n (constMethod i) h = rw (at-named rule items sheetKeeps i h .cxx, n)
+  head-names x n (mutMethod i) h = rw (at-named rule items sheetKeeps i h .cxx, n)
+  head-names x n (associated i) h = rw (at-named rule items sheetKeeps i h .cxx, n)
 
   -- ---- an item's function
 

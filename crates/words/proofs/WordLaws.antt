@@ -2,7 +2,7 @@
 use mathlib.Core.Path.{_≡_, refl, sym, ap, _∙_}
 use mathlib.Core.List.{List, [], _∷_}
 use mathlib.Core.Bool.{Bool, true, false, false≢true, _&&_, _||_, and-false}
-use Prim.Native.Nat.{ℕ, _+_, _-_, _<_, _≤_}
+use Prim.Native.Nat.{ℕ, zero, suc, _+_, _-_, _<_, _≤_}
 use native.Mathlib.Omega.{arith}
 use native.Mathlib.Numerals.{add-one}
 use lib.Dec.{leb}
@@ -10,8 +10,9 @@ use lib.ListN.{length, getD, take, drop, length-drop, drop-of-length-le}
 use lib.Seq.{drop-cons, drop-drop, length-take-le}
 use borrow.Author.Tests.{lt-leb}
 use Rattle.lexical.specs.Bytes.{every, same, member}
-use Rattle.lexical.specs.Names.{keywords, alternativeTokens, reserved}
+use Rattle.lexical.specs.Names.{keywords, addedKeywords, keywords20, alternativeTokens, reserved, tableOf}
 use Rattle.lexical.proofs.ByteLaws.{same-eq, every-cons}
+use Rattle.lexical.proofs.NameLaws.{by-edition}
 use Rattle.words.proofs.ByteLoops.{same-length}
 use Rattle.words.specs.Words.{wordsOf, total}
 
@@ -53,6 +54,28 @@ pub word-told : (w b : List ℕ) (at : ℕ) {n k : ℕ} {r t : Bool} → n ≡ k
     same w (take k (drop at b)) ≡ t
 word-told w b at e h t = rw (← e) (sym h ∙ t)
 
+-- ---- the words of an edition
+
+-- a front part of a table takes no more bytes
+pub total-front : (k : ℕ) (ns : List ℕ) → total (take k ns) ≤ total ns
+unfolding total
+total-front zero ns = omega arith
+total-front (suc k) [] = omega arith
+total-front (suc k) (n ∷ ns) = omega (arith, total-front k ns)
+
+-- no edition has more than 92 words
+pub few-words : (e : ℕ) → length (tableOf e) ≤ 92
+unfolding reserved tableOf keywords keywords20 addedKeywords alternativeTokens
+few-words = by-edition (λ table. length table ≤ 92) (omega arith) (omega arith)
+
+-- where the words of both editions are front parts of one table, those of every edition are
+abbrev frontOf : List ℕ → List ℕ → List (List ℕ) → Type 0
+frontOf ns b table = wordsOf (take (length table) ns) b ≡ table
+
+pub edition-words : (w ns b : List ℕ) → frontOf ns b reserved → frontOf ns b (tableOf 2) → (e : ℕ) {k : ℕ} →
+    k ≡ length (tableOf e) → member w (wordsOf (take k ns) b) ≡ member w (tableOf e)
+edition-words w ns b p q e h = rw (h, by-edition (frontOf ns b) p q e)
+
 -- ---- names that are no words
 
 -- at most 16 characters, the first and the last from 'a' on
@@ -70,20 +93,24 @@ unlike (x ∷ table) w h e =
     by-test true s m g = absurd (false≢true (sym e ∙ ap wordLike (same-eq w x s) ∙ g))
     by-test false s m g = rw s m
 
-unlike-reserved : (w : List ℕ) → wordLike w ≡ false → member w reserved ≡ false
-unfolding every reserved keywords alternativeTokens
-unlike-reserved w e = unlike reserved w refl e
+unlike-none : (w : List ℕ) → length w ≡ 0 → wordLike w ≡ false
+unlike-none [] h = refl
+unlike-none (x ∷ w) h = absurd (omega arith)
 
-pub word-none : (w : List ℕ) → length w ≡ 0 → member w reserved ≡ false
-word-none [] h = unlike-reserved [] refl
-word-none (x ∷ w) h = absurd (omega arith)
+module _ (e : ℕ) (w : List ℕ) where
+  unlike-words : wordLike w ≡ false → member w (tableOf e) ≡ false
+  unfolding every reserved tableOf keywords keywords20 addedKeywords alternativeTokens
+  unlike-words h = unlike (tableOf e) w (by-edition (λ table. every wordLike table ≡ true) refl refl e) h
 
-pub word-long : (w : List ℕ) → 16 < length w → member w reserved ≡ false
-word-long w h = unlike-reserved w (rw (lt-leb (length w) 16 h))
+  pub word-none : length w ≡ 0 → member w (tableOf e) ≡ false
+  word-none h = unlike-words (unlike-none w h)
 
-pub word-first : (w : List ℕ) → getD w 0 0 < 97 → member w reserved ≡ false
-word-first w h = unlike-reserved w (rw (lt-leb 97 (getD w 0 0) h) (and-false (leb (length w) 16)))
+  pub word-long : 16 < length w → member w (tableOf e) ≡ false
+  word-long h = unlike-words (rw (lt-leb (length w) 16 h))
 
-pub word-last : (w : List ℕ) → getD w (length w - 1) 0 < 97 → member w reserved ≡ false
-word-last w h = unlike-reserved w (rw (lt-leb 97 (getD w (length w - 1) 0) h, and-false (leb 97 (getD w 0 0)))
-    (and-false (leb (length w) 16)))
+  pub word-first : getD w 0 0 < 97 → member w (tableOf e) ≡ false
+  word-first h = unlike-words (rw (lt-leb 97 (getD w 0 0) h) (and-false (leb (length w) 16)))
+
+  pub word-last : getD w (length w - 1) 0 < 97 → member w (tableOf e) ≡ false
+  word-last h = unlike-words (rw (lt-leb 97 (getD w (length w - 1) 0) h, and-false (leb 97 (getD w 0 0)))
+      (and-false (leb (length w) 16)))

@@ -4,7 +4,7 @@ ghost use mathlib.Core.Bool.{_&&_, not};
 ghost use Prim.Native.Nat.{_+_, _≤_};
 ghost use lib.ListN.{length, take, drop};
 ghost use Rattle.lexical.specs.Bytes.{within, every, same, member};
-ghost use Rattle.lexical.specs.Names.{letter, nameStart, nameChar, reserved, underscore, capital};
+ghost use Rattle.lexical.specs.Names.{letter, nameStart, nameChar, tableOf, underscore, capital};
 ghost use Rattle.lexical.specs.Names.{doubleUnderscore, underscoreCapital, sheetName};
 ghost use Rattle.words.specs.Words.{wordsOf, total};
 
@@ -97,10 +97,20 @@ pub fn listed(lengths: &[u8], bytes: &[u8], w: &[u8]) -> bool
     false
 }
 
-// Whether w is a keyword or an alternative token. Each of these begins and ends with a small letter: names that are
-// longer than all of them, or begin or end otherwise, are not searched for.
-fn is_reserved(w: &[u8]) -> bool
-    ensures { λ r. ⌜ r ≡ member (now (w .entry)) reserved ⌝ }
+// How many words an edition's table has.
+fn word_count(edition: u32) -> usize
+    ensures { λ r. ⌜ r ≡ length (tableOf edition) ⌝ }
+{
+    if edition < 2 {
+        return keywords::FIRST;
+    }
+    keywords::LENGTHS.len()
+}
+
+// Whether w is a keyword or an alternative token of an edition. Each of these begins and ends with a small letter:
+// names that are longer than all of them, or begin or end otherwise, are not searched for.
+fn is_reserved(edition: u32, w: &[u8]) -> bool
+    ensures { λ r. ⌜ r ≡ member (now (w .entry)) (tableOf edition) ⌝ }
 {
     let n = w.len();
     if n == 0 {
@@ -115,7 +125,8 @@ fn is_reserved(w: &[u8]) -> bool
     if w[n - 1] < b'a' {
         return false;
     }
-    listed(&keywords::LENGTHS, &keywords::BYTES, w)
+    let k = word_count(edition);
+    listed(&keywords::LENGTHS[..k], &keywords::BYTES, w)
 }
 
 // ---- the characters of a name
@@ -171,8 +182,8 @@ fn begins_reserved(w: &[u8]) -> bool
 
 // ---- the name rule of a sheet
 
-pub fn is_sheet_name(w: &[u8]) -> bool
-    ensures { λ r. ⌜ r ≡ sheetName reserved (now (w .entry)) ⌝ }
+pub fn is_sheet_name(edition: u32, w: &[u8]) -> bool
+    ensures { λ r. ⌜ r ≡ sheetName (tableOf edition) (now (w .entry)) ⌝ }
 {
     if w.len() == 0 {
         return false;
@@ -189,6 +200,6 @@ pub fn is_sheet_name(w: &[u8]) -> bool
     if kept {
         return false;
     }
-    let word = is_reserved(w);
+    let word = is_reserved(edition, w);
     !word
 }

@@ -1,9 +1,9 @@
--- Written by tools/proofkit from answers/check_name.tpl (b9853140 174a91fd).
+-- Written by tools/proofkit from answers/check_name.tpl (52fb6dee aa57312b).
 use borrow.Author.Needs.{needs}
 use native.Mathlib.Omega.{arith}
 use mathlib.Core.Path.{refl, sym}
 use lib.Seq.{length-take-le}
-use Rattle.lexical.specs.Names.{reserved, sheetName}
+use Rattle.lexical.specs.Names.{tableOf, sheetName}
 use Rattle.refusal.specs.declared.Refusal.the-variants.{BadName}
 use Rattle.format.specs.Decoding.{nameBy}
 use Rattle.lexical.proofs.BoolLaws.{known}
@@ -26,15 +26,15 @@ slice-aggregate-digest c = sym (length-take-le _ _ (omega (arith, text-lt 6 _ _ 
 
 returns : tie.Need-returns
 unfolding nameBy ruledText
-returns c = rw (text-value 6 _ _ (c .before .before .before .before .before .before .before .before .before .read-text .ensures) (c .before .before .before .before .before .before .f .given .1) (sheetName reserved) BadName, known (c .before .before .before .is-sheet-name .ensures) (c .before .before .if1 .taken)) record { step = rw (c .digest .ensures) }
+returns c = rw (text-value 6 _ _ (c .before .before .before .before .before .before .before .before .before .read-text .ensures) (c .before .before .before .before .before .before .f .given .1) (sheetName (tableOf (c .before .before .before .before .before .before .before .before .before .before .before .before .args .edition))) BadName, known (c .before .before .before .is-sheet-name .ensures) (c .before .before .if1 .taken)) record { step = rw (c .digest .ensures) }
 
 returns-2 : tie.Need-returns-2
 unfolding nameBy ruledText
-returns-2 c = rw (text-none 6 _ _ (c .before .before .before .read-text .ensures) (c .enum-told .given .1) (sheetName reserved) BadName) record { step = refl }
+returns-2 c = rw (text-none 6 _ _ (c .before .before .before .read-text .ensures) (c .enum-told .given .1) (sheetName (tableOf (c .before .before .before .before .before .before .args .edition))) BadName) record { step = refl }
 
 returns-3 : tie.Need-returns-3
 unfolding nameBy ruledText
-returns-3 c = rw (text-value 6 _ _ (c .before .before .before .before .before .before .before .read-text .ensures) (c .before .before .before .before .f .given .1) (sheetName reserved) BadName, known (c .before .is-sheet-name .ensures) (c .if1 .left)) record { step = refl }
+returns-3 c = rw (text-value 6 _ _ (c .before .before .before .before .before .before .before .read-text .ensures) (c .before .before .before .before .f .given .1) (sheetName (tableOf (c .before .before .before .before .before .before .before .before .before .before .args .edition))) BadName, known (c .before .is-sheet-name .ensures) (c .if1 .left)) record { step = refl }
 
 pub check-name-spec : {M : Type 1} → statement M
 check-name-spec =
