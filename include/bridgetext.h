@@ -1,5 +1,5 @@
-/* The proved services on sheets, for a host in C99 or C++17 on x86-64. Link
- * libbridgetext.a, which tools/library makes and tools/install installs.
+/* The proved services on sheets, for a host in C99, C++17 or C++20 on x86-64.
+ * Link libbridgetext.a, which tools/library makes and tools/install installs.
  *
  * A sheet is any bytes of any length; nothing of it has to be checked first.
  * Each service always returns, and answers the same for the same bytes.
@@ -41,10 +41,10 @@ extern "C" {
 enum bridgetext_refusal {
   /* over 32,768 bytes, or ends before a field is whole */
   BRIDGETEXT_CUT_SHEET = 1,
-  /* not 1 */
+  /* neither 1 nor 2 */
   BRIDGETEXT_EDITION = 2,
-  /* breaks the name rule, as keywords and reserved identifiers (`a__b`,
-   * `_Tool`) do */
+  /* breaks the name rule, as keywords (of C++17 in edition 1, of C++20 in
+   * edition 2) and reserved identifiers (`a__b`, `_Tool`) do */
   BRIDGETEXT_BAD_NAME = 3,
   /* no such entry */
   BRIDGETEXT_LOOSE_INDEX = 4,

@@ -24,7 +24,8 @@ pub const VERSION: &str = env!("CARGO_PKG_VERSION");
 /// ```
 /// use bridgetext::Refusal;
 /// assert_eq!(bridgetext::check(&[0x10, 0, 0]), Ok(()));
-/// assert_eq!(bridgetext::check(&[0x20, 0, 0]), Err(Refusal::Edition));
+/// assert_eq!(bridgetext::check(&[0x20, 0, 0]), Ok(()));
+/// assert_eq!(bridgetext::check(&[0x30, 0, 0]), Err(Refusal::Edition));
 /// ```
 pub fn check(sheet: &[u8]) -> Result<(), Refusal> {
     match answer(library::check(sheet))? {

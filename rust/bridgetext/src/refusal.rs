@@ -1,4 +1,4 @@
-//! Document 01's table of refusals, with order 3 of document 02.
+//! Document 01's table of refusals, with orders 3 and 13 of document 02.
 
 use std::error::Error;
 use std::fmt::{self, Display};
@@ -66,10 +66,11 @@ impl Refusal {
                 "cut sheet",
                 "over 32,768 bytes, or ends before a field is whole",
             ),
-            Refusal::Edition => ("edition", "not 1"),
+            Refusal::Edition => ("edition", "neither 1 nor 2"),
             Refusal::BadName => (
                 "bad name",
-                "breaks the name rule, as keywords and reserved identifiers (`a__b`, `_Tool`) do",
+                "breaks the name rule, as keywords (of C++17 in edition 1, of C++20 in edition 2) \
+                 and reserved identifiers (`a__b`, `_Tool`) do",
             ),
             Refusal::LooseIndex => ("loose index", "no such entry"),
             Refusal::BadKind => (
@@ -128,9 +129,11 @@ mod tests {
         let error: Box<dyn Error> = Refusal::BadName.into();
         assert_eq!(
             error.to_string(),
-            "refused 3, bad name: breaks the name rule, as keywords and reserved identifiers \
-             (`a__b`, `_Tool`) do"
+            "refused 3, bad name: breaks the name rule, as keywords (of C++17 in edition 1, of \
+             C++20 in edition 2) and reserved identifiers (`a__b`, `_Tool`) do"
         );
+        let edition = Refusal::Edition.to_string();
+        assert_eq!(edition, "refused 2, edition: neither 1 nor 2");
         assert_eq!(Refusal::Ring.word(), "ring");
         assert_eq!(Refusal::TooDeep.condition(), "a type at depth 9");
     }

@@ -1,7 +1,7 @@
 //! `bridgetext-cli`: what it writes, and its exit codes.
 
 use bridgetext::Refusal;
-use sheet::{desc, encode};
+use sheet::{desc, encode, with_edition};
 use std::fs::{self, File};
 use std::io::Write;
 use std::path::{Path, PathBuf};
@@ -70,6 +70,17 @@ fn check_and_order() {
     assert_eq!(ask(&["order", path], b""), done(b"2\n1\n3\n0\n"));
 }
 
+/// The other edition has the same answers.
+#[test]
+fn edition_2() {
+    let sheet = with_edition(&fs::read(example("structs.sheet")).unwrap(), 2);
+    let text = fs::read(example("structs.text")).unwrap();
+    assert_eq!(ask(&[], &sheet), done(&text));
+    assert_eq!(ask(&["check"], &sheet), done(b"accepted\n"));
+    assert_eq!(ask(&["order"], &sheet), done(b"2\n1\n3\n0\n"));
+    assert_eq!(ask(&[], &[0x20, 0, 0]), done(b""));
+}
+
 /// Longer than the first buffers.
 #[test]
 fn a_long_text() {
@@ -96,7 +107,9 @@ fn refusals() {
         (vec![0x10], Refusal::CutSheet),
         (vec![0; 32_769], Refusal::CutSheet),
         (vec![0; 4 << 20], Refusal::CutSheet),
-        (vec![0x20, 0, 0], Refusal::Edition),
+        (vec![0x20], Refusal::CutSheet),
+        (vec![0x00, 0, 0], Refusal::Edition),
+        (vec![0x30, 0, 0], Refusal::Edition),
         (vec![0x10, 0, 0, 0], Refusal::Tail),
     ] {
         for args in [&[][..], &["check"], &["order"]] {
@@ -104,10 +117,15 @@ fn refusals() {
             assert_eq!(ask(args, &sheet), wanted, "{args:?}");
         }
     }
-    for bad_name in ["fn class()", "fn _Tool()", "names a__b"] {
+    for bad_name in [
+        "fn class()",
+        "fn _Tool()",
+        "names a__b",
+        "edition 2\nfn concept()",
+    ] {
         let sheet = encode(&desc::parse(bad_name).unwrap());
-        let said = "refused 3, bad name: breaks the name rule, as keywords and reserved \
-                    identifiers (`a__b`, `_Tool`) do\n";
+        let said = "refused 3, bad name: breaks the name rule, as keywords (of C++17 in edition \
+                    1, of C++20 in edition 2) and reserved identifiers (`a__b`, `_Tool`) do\n";
         assert_eq!(ask(&[], &sheet), (1, Vec::new(), said.to_string()));
     }
 }

@@ -1,15 +1,17 @@
 //! One sheet, judged from every side at hand.
 
 use crate::{Facts, facts, struct_order, text};
-use sheet::{Kind, RUST_STRING, Refusal, Reserved, Sheet, Type};
+use sheet::{Blame, Kind, RUST_STRING, Refusal, Sheet, Type};
 use std::collections::HashSet;
 
 /// What was found out about a sheet.
 pub struct Outcome {
     /// The check's answer.
     pub answer: u8,
-    /// Whether reserved identifiers are why; the crate is not asked about them.
-    pub reserved: Reserved,
+    /// Whether reserved identifiers are why, or keywords that C++20 added; the
+    /// crate, which knows of neither, is not asked about them.
+    pub reserved: Blame,
+    pub keyword: Blame,
     /// The crate's text and struct order, for an accepted sheet.
     pub text: Vec<u8>,
     pub order: Vec<u8>,
@@ -26,7 +28,8 @@ pub fn compare(bytes: &[u8]) -> Result<Outcome, String> {
     agree("check and plain reader", answer, plain)?;
     let mut outcome = Outcome {
         answer,
-        reserved: Reserved::of(bytes),
+        reserved: Blame::reserved(bytes),
+        keyword: Blame::keyword(bytes),
         text: Vec::new(),
         order: Vec::new(),
     };

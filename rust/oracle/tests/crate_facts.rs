@@ -33,6 +33,7 @@ fn the_empty_sheet() {
     if !oracle::skipped() {
         assert_eq!(text(""), "");
         assert_eq!(text("header\ndoxygen"), "");
+        assert_eq!(text("edition 2"), "");
     }
 }
 
@@ -139,4 +140,21 @@ fn reserved_identifiers() {
     assert_eq!(oracle::facts(&sheet).complaint, None);
     let text = String::from_utf8(oracle::text(&sheet)).unwrap();
     assert!(text.contains("void _Tool(::std::uint8_t a__b) noexcept {"));
+}
+
+/// The crate writes the keywords of C++20 as names, and edition 2 refuses them.
+#[test]
+fn keywords_of_cxx20() {
+    let older = "fn concept(requires: u8)";
+    let newer = desc::parse(&format!("edition 2\n{older}")).unwrap();
+    assert_eq!(check(&encode(&newer)), 3);
+    let older = sheet(older);
+    if oracle::skipped() {
+        return;
+    }
+    for sheet in [older, newer] {
+        assert_eq!(oracle::facts(&sheet).complaint, None);
+        let text = String::from_utf8(oracle::text(&sheet)).unwrap();
+        assert!(text.contains("void concept(::std::uint8_t requires) noexcept {"));
+    }
 }

@@ -1,7 +1,8 @@
 //! What is stored in `vectors/` is what the commands make.
 
 use oracle::vectors::{SEED, make, parse};
-use sheet::{check, desc, encode, read};
+use sheet::name::ADDED_KEYWORDS;
+use sheet::{EDITIONS, check, decode_base, desc, encode, read};
 use std::fs;
 use std::path::{Path, PathBuf};
 
@@ -24,7 +25,9 @@ fn the_stored_file_is_what_make_vectors_makes() {
 #[test]
 fn the_stored_file_covers_every_answer() {
     let stored = fs::read(vectors().join("vectors.bin")).unwrap();
-    assert!(stored.len() < 600_000);
+    // Small enough to be kept. It was below 600,000 before there were two
+    // editions; sheets of both take the rest.
+    assert!(stored.len() < 620_000);
     let mut answers = [0; 13];
     for record in parse(&stored).unwrap() {
         assert_eq!(check(&record.sheet), record.answer);
@@ -38,6 +41,42 @@ fn the_stored_file_covers_every_answer() {
         answers[usize::from(record.answer)] += 1;
     }
     assert!(answers.iter().all(|count| *count >= 20), "{answers:?}");
+}
+
+/// Every edition, and each keyword that C++20 added in both that are accepted.
+#[test]
+fn the_stored_file_has_editions() {
+    let stored = fs::read(vectors().join("vectors.bin")).unwrap();
+    let mut answers = [[0; 13]; 16];
+    let mut keywords = Vec::new();
+    for record in parse(&stored).unwrap() {
+        let Some(first) = record.sheet.first() else {
+            continue;
+        };
+        answers[usize::from(first >> 4)][usize::from(record.answer)] += 1;
+        if let Ok(sheet) = decode_base(&record.sheet)
+            && let [name] = &sheet.names[..]
+            && ADDED_KEYWORDS.iter().any(|word| word.as_bytes() == name)
+        {
+            let wanted = if sheet.edition == 1 { 0 } else { 3 };
+            assert_eq!(record.answer, wanted);
+            keywords.push((sheet.edition, name.clone()));
+        }
+    }
+    for (edition, answers) in (0..).zip(answers) {
+        if EDITIONS.contains(&edition) {
+            assert!(answers[0] > 50 && answers[2] == 0, "{edition}");
+        } else {
+            // Only excess length comes first.
+            let [accepted, cut, edition, rest @ ..] = answers;
+            assert!(edition > 2 && accepted == 0 && cut < 3 && rest == [0; 10]);
+        }
+    }
+    for edition in EDITIONS {
+        for word in ADDED_KEYWORDS {
+            assert!(keywords.contains(&(edition, word.into())), "{word}");
+        }
+    }
 }
 
 #[test]

@@ -4,7 +4,7 @@
 use crate::flat::{Arg, Function, Item, Kind, Sheet, Span, Type};
 use sheet::Refusal::{self, *};
 use sheet::name::is_name;
-use sheet::{AtomNumber, BitReader, Form, ItemIndex, NameIndex, index_width, limit};
+use sheet::{AtomNumber, BitReader, EDITIONS, Form, ItemIndex, NameIndex, index_width, limit};
 
 type Result<T> = std::result::Result<T, Refusal>;
 
@@ -16,6 +16,7 @@ pub fn read<const CHECKED: bool>(bytes: &[u8]) -> Result<Sheet> {
     }
     let mut reader = Reader::<CHECKED> {
         input: BitReader::new(bytes),
+        edition: 0,
         names: 0,
         items: 0,
         sheet: Sheet::default(),
@@ -26,6 +27,7 @@ pub fn read<const CHECKED: bool>(bytes: &[u8]) -> Result<Sheet> {
 
 struct Reader<'a, const CHECKED: bool> {
     input: BitReader<'a>,
+    edition: u8,
     names: usize,
     items: usize,
     sheet: Sheet,
@@ -66,8 +68,8 @@ impl<const CHECKED: bool> Reader<'_, CHECKED> {
     }
 
     fn sheet(&mut self) -> Result<()> {
-        let edition = self.number(4)?;
-        if CHECKED && edition != 1 {
+        self.edition = self.number(4)? as u8;
+        if CHECKED && !EDITIONS.contains(&self.edition) {
             return Err(Edition);
         }
         self.sheet.header = self.bit()?;
@@ -101,7 +103,7 @@ impl<const CHECKED: bool> Reader<'_, CHECKED> {
     fn name(&mut self) -> Result<Span> {
         let len = self.number(6)?;
         let name = self.chars(len)?;
-        if CHECKED && !is_name(self.sheet.chars(name)) {
+        if CHECKED && !is_name(self.edition, self.sheet.chars(name)) {
             return Err(BadName);
         }
         Ok(name)

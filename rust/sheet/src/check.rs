@@ -6,6 +6,7 @@ use crate::Refusal::{self, *};
 use crate::bits::{BitReader, index_width};
 use crate::limit;
 use crate::name::is_name;
+use crate::value::EDITIONS;
 use std::collections::HashSet;
 
 type Result<T> = std::result::Result<T, Refusal>;
@@ -129,11 +130,12 @@ impl Walker<'_> {
     }
 
     fn sheet(&mut self) -> Result<()> {
-        if self.number(4)? != 1 {
+        let edition = self.number(4)? as u8;
+        if !EDITIONS.contains(&edition) {
             return Err(Edition);
         }
         self.number(2)?;
-        self.name_table()?;
+        self.name_table(edition)?;
         self.items = self.number(8)? as usize;
         self.item_width = index_width(self.items);
         self.entries.reserve(self.items);
@@ -149,7 +151,7 @@ impl Walker<'_> {
         }
     }
 
-    fn name_table(&mut self) -> Result<()> {
+    fn name_table(&mut self, edition: u8) -> Result<()> {
         let count = self.number(10)? as usize;
         // Buckets by hash, of name numbers plus one.
         let buckets = (2 * count).next_power_of_two();
@@ -167,7 +169,7 @@ impl Walker<'_> {
             }
             ends.push(chars.len());
             let name = &chars[start..];
-            if !is_name(name) {
+            if !is_name(edition, name) {
                 return Err(BadName);
             }
             let mut bucket = (hash ^ hash >> 32) as usize & (buckets - 1);

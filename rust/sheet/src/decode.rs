@@ -11,22 +11,27 @@ use crate::value::*;
 
 type Result<T> = std::result::Result<T, Refusal>;
 
+/// A name rule: whether the characters are a name in a sheet of this edition.
+pub type NameRule = fn(edition: u8, chars: &[u8]) -> bool;
+
 pub fn decode(bytes: &[u8]) -> Result<Sheet> {
     decode_by(is_name, bytes)
 }
 
-/// The same by the base rule of names, which lets reserved identifiers through.
+/// The same by the base rule of names, which lets reserved identifiers and the
+/// keywords that C++20 added through.
 pub fn decode_base(bytes: &[u8]) -> Result<Sheet> {
-    decode_by(is_base_name, bytes)
+    decode_by(|_, chars| is_base_name(chars), bytes)
 }
 
-fn decode_by(is_name: fn(&[u8]) -> bool, bytes: &[u8]) -> Result<Sheet> {
+pub fn decode_by(is_name: NameRule, bytes: &[u8]) -> Result<Sheet> {
     if bytes.len() > limit::SHEET_BYTES {
         return Err(CutSheet);
     }
     let mut decoder = Decoder {
         input: BitReader::new(bytes),
         is_name,
+        edition: 0,
         names: 0,
         items: 0,
     };
@@ -35,7 +40,8 @@ fn decode_by(is_name: fn(&[u8]) -> bool, bytes: &[u8]) -> Result<Sheet> {
 
 struct Decoder<'a> {
     input: BitReader<'a>,
-    is_name: fn(&[u8]) -> bool,
+    is_name: NameRule,
+    edition: u8,
     names: usize,
     items: usize,
 }
@@ -71,8 +77,8 @@ impl Decoder<'_> {
     }
 
     fn sheet(&mut self) -> Result<Sheet> {
-        let edition = self.number(4)? as u8;
-        if edition != 1 {
+        self.edition = self.number(4)? as u8;
+        if !EDITIONS.contains(&self.edition) {
             return Err(Edition);
         }
         let header = self.bit()?;
@@ -87,7 +93,7 @@ impl Decoder<'_> {
             .collect::<Result<_>>()?;
         self.tail()?;
         Ok(Sheet {
-            edition,
+            edition: self.edition,
             header,
             doxygen,
             names,
@@ -98,7 +104,7 @@ impl Decoder<'_> {
     fn name(&mut self) -> Result<Vec<u8>> {
         let len = self.number(6)?;
         let chars = self.chars(len)?;
-        if (self.is_name)(&chars) {
+        if (self.is_name)(self.edition, &chars) {
             Ok(chars)
         } else {
             Err(BadName)

@@ -2,6 +2,7 @@
 //!
 //! ```text
 //! # a remark; blank lines are skipped
+//! edition 2
 //! header
 //! doxygen
 //! names mill Job count job
@@ -14,6 +15,9 @@
 //! fn mill::count(job: &::mill::Job) -> u32
 //! fn mill::turn as turn_rust throws mut ::mill::Job (by: f64, mode: #3)
 //! ```
+//!
+//! Without a line `edition` a sheet is of edition 1; any edition from 0 to 15 can
+//! be written.
 //!
 //! A function's words are, in this order and each of them optional: `as` and
 //! the Rust name, `throws`, and the form: `const`, `mut` or `assoc` and a type
@@ -145,6 +149,11 @@ impl<'p> Parser<'p> {
         }
         let Some(word) = self.item_word() else {
             match self.word()? {
+                "edition" => {
+                    let word = self.word()?;
+                    let edition = word.parse().ok().filter(|edition| *edition < 16);
+                    self.sheet.edition = edition.ok_or(format!("`{word}` is no edition"))?;
+                }
                 "header" => self.sheet.header = true,
                 "doxygen" => self.sheet.doxygen = true,
                 "names" => {
@@ -350,6 +359,9 @@ fn atom(word: &str) -> Option<AtomNumber> {
 /// one name, at its first place.
 pub fn print(sheet: &Sheet) -> String {
     let mut out = String::new();
+    if sheet.edition != 1 {
+        writeln!(out, "edition {}", sheet.edition).unwrap();
+    }
     if sheet.header {
         out.push_str("header\n");
     }
@@ -475,6 +487,7 @@ mod tests {
             fn mill::turn as turn_rust throws mut ::mill::Job (by: &mut [f64], axis: #1) -> &str";
         let sheet = parse(text).unwrap();
         assert!(sheet.doxygen && !sheet.header);
+        assert_eq!(sheet.edition, 1);
         let names = [
             "z",
             "mill",
@@ -509,6 +522,22 @@ mod tests {
     }
 
     #[test]
+    fn editions() {
+        assert_eq!(parse("edition 1\nheader"), parse("header"));
+        for edition in 0..16 {
+            let text = format!("edition {edition}\nheader\nnames concept\n");
+            let sheet = parse(&text).unwrap();
+            assert_eq!(sheet.edition, edition);
+            let printed = print(&sheet);
+            assert_eq!(parse(&printed), Ok(sheet));
+            assert_eq!(printed == text, edition != 1);
+        }
+        let text = "edition 2\ndoxygen\nnames concept_ f\nfn f as f (concept_: u8)\n";
+        let bytes = crate::encode(&parse(text).unwrap());
+        assert_eq!(print(&crate::decode(&bytes).unwrap()), text);
+    }
+
+    #[test]
     fn faults_name_their_line() {
         for (text, message) in [
             ("header\nfoo", "line 2: `foo` begins no line"),
@@ -517,6 +546,10 @@ mod tests {
             ("fn f() -> Rc<u8>", "line 1: `Rc` is no type"),
             ("enum E u7", "line 1: `u7` is no atom"),
             ("rust-type T maybe", "line 1: `maybe` is too much"),
+            ("edition 16", "line 1: `16` is no edition"),
+            ("edition two", "line 1: `two` is no edition"),
+            ("edition", "line 1: a name expected at ``"),
+            ("edition 2 3", "line 1: `3` is too much"),
         ] {
             assert_eq!(parse(text), Err(message.into()));
         }

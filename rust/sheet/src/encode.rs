@@ -19,6 +19,15 @@ pub fn encode_bits(sheet: &Sheet) -> (Vec<u8>, usize) {
     encoder.out.finish()
 }
 
+/// The bytes of a sheet, with another edition in their first four bits. There
+/// is a first byte.
+pub fn with_edition(bytes: &[u8], edition: u8) -> Vec<u8> {
+    assert!(edition < 16);
+    let mut bytes = bytes.to_vec();
+    bytes[0] = edition << 4 | bytes[0] & 0x0f;
+    bytes
+}
+
 struct Encoder {
     out: BitWriter,
     name_width: u32,

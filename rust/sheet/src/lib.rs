@@ -1,6 +1,6 @@
-//! Sheets as document 01 describes them, with order 3 of document 02, and nothing
-//! else: their value, their bytes, the twelve refusals of a check, and a seeded
-//! generator.
+//! Sheets as document 01 describes them, with orders 3 and 13 of document 02, and
+//! nothing else: their value, their bytes, the twelve refusals of a check, and a
+//! seeded generator.
 //!
 //! Two readers stand side by side. [`decode`] builds the value and [`rules`]
 //! judges it, sentence by sentence. [`check`] gives the same answer in one walk
@@ -20,7 +20,7 @@ mod value;
 pub use bits::{BitReader, index_width};
 pub use check::check;
 pub use decode::{decode, decode_base};
-pub use encode::{encode, encode_bits};
+pub use encode::{encode, encode_bits, with_edition};
 pub use rng::Rng;
 pub use rules::{indirect, rules};
 pub use value::*;
@@ -81,38 +81,46 @@ impl Refusal {
 
 /// The plain reader's answer: the value of an accepted sheet, or the refusal.
 pub fn read(bytes: &[u8]) -> Result<Sheet, Refusal> {
-    let sheet = decode(bytes)?;
+    read_by(name::is_name, bytes)
+}
+
+fn read_by(is_name: decode::NameRule, bytes: &[u8]) -> Result<Sheet, Refusal> {
+    let sheet = decode::decode_by(is_name, bytes)?;
     rules(&sheet)?;
     Ok(sheet)
 }
 
-/// The same by the base rule of names, which lets reserved identifiers through.
-pub fn read_base(bytes: &[u8]) -> Result<Sheet, Refusal> {
-    let sheet = decode_base(bytes)?;
-    rules(&sheet)?;
-    Ok(sheet)
-}
-
-/// What reserved identifiers have to do with a sheet's refusal.
+/// What a part of the name rule that came with an order has to do with a sheet's
+/// refusal.
 #[derive(Clone, Copy, PartialEq, Eq, Debug)]
-pub enum Reserved {
-    /// Nothing: by the base rule of names the answer is the same.
+pub enum Blame {
+    /// Nothing: without that part the answer is the same.
     No,
-    /// It is refused for one, and else would be for something that comes later.
+    /// It is refused for it, and else would be for something that comes later.
     First,
-    /// It is refused for one, and else would be accepted.
+    /// It is refused for it, and else would be accepted.
     Only,
 }
 
-impl Reserved {
-    pub fn of(bytes: &[u8]) -> Self {
+impl Blame {
+    /// Order 3: identifiers that C++ reserves are no names.
+    pub fn reserved(bytes: &[u8]) -> Self {
+        Self::of(name::is_identifier, bytes)
+    }
+
+    /// Order 13: keywords that C++20 added are no names in edition 2.
+    pub fn keyword(bytes: &[u8]) -> Self {
+        Self::of(|_, chars| name::is_name(1, chars), bytes)
+    }
+
+    fn of(without: decode::NameRule, bytes: &[u8]) -> Self {
         if read(bytes) != Err(Refusal::BadName) {
-            return Reserved::No;
+            return Blame::No;
         }
-        match read_base(bytes) {
-            Ok(_) => Reserved::Only,
-            Err(Refusal::BadName) => Reserved::No,
-            Err(_) => Reserved::First,
+        match read_by(without, bytes) {
+            Ok(_) => Blame::Only,
+            Err(Refusal::BadName) => Blame::No,
+            Err(_) => Blame::First,
         }
     }
 }

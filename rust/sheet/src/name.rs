@@ -1,5 +1,6 @@
-//! The name rule: that of document 01, and the identifiers that order 3 of
-//! document 02 takes out of it.
+//! The name rule: that of document 01, and what document 02 takes out of it:
+//! reserved identifiers (order 3) and, in edition 2, the keywords that C++20
+//! added (order 13).
 
 /// The keyword table of ISO C++17 [lex.key].
 #[rustfmt::skip]
@@ -15,57 +16,84 @@ pub const KEYWORDS: [&str; 73] = [
     "virtual", "void", "volatile", "wchar_t", "while",
 ];
 
-/// The alternative tokens of [lex.digraph] that are words.
+/// What the keyword table of ISO C++20 has besides: the keywords of edition 2.
+#[rustfmt::skip]
+pub const ADDED_KEYWORDS: [&str; 8] = [
+    "char8_t", "co_await", "co_return", "co_yield", "concept", "consteval", "constinit",
+    "requires",
+];
+
+/// The alternative tokens of [lex.digraph] that are words; C++20 has the same.
 #[rustfmt::skip]
 pub const ALTERNATIVE_TOKENS: [&str; 11] = [
     "and", "and_eq", "bitand", "bitor", "compl", "not", "not_eq", "or", "or_eq", "xor",
     "xor_eq",
 ];
 
-/// The name rule of a sheet: the base rule, and no identifier that C++ reserves.
-pub fn is_name(chars: &[u8]) -> bool {
-    is_base_name(chars) && !is_reserved_shape(chars)
+/// The name rule of a sheet of this edition: a letter or underscore, then
+/// letters, digits or underscores; no keyword of the edition's table and no
+/// alternative token; no identifier that C++ reserves. Any edition but 2 has the
+/// table of edition 1.
+#[inline]
+pub fn is_name(edition: u8, chars: &[u8]) -> bool {
+    is_identifier(edition, chars) && !is_reserved_shape(chars)
 }
 
-/// Document 01's rule: a letter or underscore, then letters, digits or
-/// underscores, and neither a keyword nor an alternative token.
+/// The same without order 3: identifiers that C++ reserves are let through.
+#[inline]
+pub fn is_identifier(edition: u8, chars: &[u8]) -> bool {
+    has_shape(chars) && !is_reserved_word(edition, chars)
+}
+
+/// Document 01's rule, whatever the edition: the older table, and reserved
+/// identifiers are let through. A text's names keep it.
 pub fn is_base_name(chars: &[u8]) -> bool {
+    is_identifier(1, chars)
+}
+
+#[inline]
+fn has_shape(chars: &[u8]) -> bool {
     let Some((first, rest)) = chars.split_first() else {
         return false;
     };
     (first.is_ascii_alphabetic() || *first == b'_')
         && rest.iter().all(|c| c.is_ascii_alphanumeric() || *c == b'_')
-        && !is_reserved_word(chars)
 }
 
-/// Whether ISO C++17 [lex.name] reserves such an identifier for any use: it has
+/// Whether ISO C++ [lex.name] reserves such an identifier for any use: it has
 /// two underscores in a row, or begins with an underscore and a capital.
+#[inline]
 pub fn is_reserved_shape(chars: &[u8]) -> bool {
     chars.windows(2).any(|pair| pair == b"__") || matches!(chars, [b'_', b'A'..=b'Z', ..])
 }
 
-/// Both tables as sorted numbers: the longest word has 16 characters, so each
-/// fits a `u128`.
-const RESERVED_WORDS: [u128; KEYWORDS.len() + ALTERNATIVE_TOKENS.len()] = {
-    let mut sorted = [0; KEYWORDS.len() + ALTERNATIVE_TOKENS.len()];
+/// The reserved words of each edition as sorted numbers: the longest has 16
+/// characters, so each fits a `u128`.
+const WORDS_17: [u128; 84] = sorted([&KEYWORDS, &[], &ALTERNATIVE_TOKENS]);
+const WORDS_20: [u128; 92] = sorted([&KEYWORDS, &ADDED_KEYWORDS, &ALTERNATIVE_TOKENS]);
+
+const fn sorted<const N: usize>(tables: [&[&str]; 3]) -> [u128; N] {
+    let mut sorted = [0; N];
     let mut count = 0;
-    while count < sorted.len() {
-        let word = if count < KEYWORDS.len() {
-            KEYWORDS[count]
-        } else {
-            ALTERNATIVE_TOKENS[count - KEYWORDS.len()]
-        };
-        let number = pack(word.as_bytes());
-        let mut at = count;
-        while at > 0 && sorted[at - 1] > number {
-            sorted[at] = sorted[at - 1];
-            at -= 1;
+    let mut table = 0;
+    while table < tables.len() {
+        let mut word = 0;
+        while word < tables[table].len() {
+            let number = pack(tables[table][word].as_bytes());
+            let mut at = count;
+            while at > 0 && sorted[at - 1] > number {
+                sorted[at] = sorted[at - 1];
+                at -= 1;
+            }
+            sorted[at] = number;
+            count += 1;
+            word += 1;
         }
-        sorted[at] = number;
-        count += 1;
+        table += 1;
     }
+    assert!(count == N);
     sorted
-};
+}
 
 const LONGEST: usize = 16;
 
@@ -81,66 +109,108 @@ const fn pack(chars: &[u8]) -> u128 {
     number
 }
 
-fn is_reserved_word(chars: &[u8]) -> bool {
-    chars.len() <= LONGEST && RESERVED_WORDS.binary_search(&pack(chars)).is_ok()
+#[inline]
+fn is_reserved_word(edition: u8, chars: &[u8]) -> bool {
+    chars.len() <= LONGEST
+        && match edition {
+            2 => WORDS_20.binary_search(&pack(chars)).is_ok(),
+            _ => WORDS_17.binary_search(&pack(chars)).is_ok(),
+        }
 }
 
 #[cfg(test)]
 mod tests {
     use super::*;
 
+    /// What `is_name` says in edition 1 and in edition 2.
+    fn in_both(name: &str) -> [bool; 2] {
+        [1, 2].map(|edition| is_name(edition, name.as_bytes()))
+    }
+
+    /// Whether the word is in the table of edition 1, and in that of edition 2.
+    fn is_listed(word: &str) -> [bool; 2] {
+        let older = KEYWORDS.contains(&word) || ALTERNATIVE_TOKENS.contains(&word);
+        [older, older || ADDED_KEYWORDS.contains(&word)]
+    }
+
     #[test]
-    fn both_tables_are_reserved_and_nothing_near_them() {
-        for word in KEYWORDS.iter().chain(&ALTERNATIVE_TOKENS) {
-            assert!(!is_name(word.as_bytes()), "{word}");
-            assert!(is_name(format!("{word}_").as_bytes()), "{word}_");
-            assert!(is_name(format!("_{word}").as_bytes()), "_{word}");
-            let mut capital = word.as_bytes().to_vec();
-            capital[0] = capital[0].to_ascii_uppercase();
-            assert!(is_name(&capital), "{word} with a capital");
-            let shorter = &word[..word.len() - 1];
-            let reserved = KEYWORDS.contains(&shorter) || ALTERNATIVE_TOKENS.contains(&shorter);
-            assert_eq!(is_name(shorter.as_bytes()), !reserved, "{shorter}");
+    fn all_tables_are_reserved_and_nothing_near_them() {
+        let tables = [&KEYWORDS[..], &ADDED_KEYWORDS, &ALTERNATIVE_TOKENS];
+        for word in tables.concat() {
+            assert_eq!(in_both(word), is_listed(word).map(|listed| !listed));
+            let mut near = vec![format!("{word}_"), format!("_{word}"), format!("{word}s")];
+            for at in 0..word.len() {
+                let (front, back) = (&word[..at], &word[at + 1..]);
+                let capital = word[at..=at].to_ascii_uppercase();
+                near.extend(["", "q", &capital].map(|put| format!("{front}{put}{back}")));
+            }
+            near.retain(|name| name != word && !is_reserved_shape(name.as_bytes()));
+            for name in near {
+                let wanted = is_listed(&name).map(|listed| !listed && has_shape(name.as_bytes()));
+                assert_eq!(in_both(&name), wanted, "{name}");
+            }
         }
     }
 
     #[test]
     fn tables_are_sorted_and_without_repeats() {
         assert!(KEYWORDS.is_sorted_by(|a, b| a < b));
+        assert!(ADDED_KEYWORDS.is_sorted_by(|a, b| a < b));
         assert!(ALTERNATIVE_TOKENS.is_sorted_by(|a, b| a < b));
+        assert!(WORDS_17.is_sorted_by(|a, b| a < b));
+        assert!(WORDS_20.is_sorted_by(|a, b| a < b));
+        assert!(WORDS_17.iter().all(|word| WORDS_20.contains(word)));
+    }
+
+    #[test]
+    fn words_of_order_13() {
+        for word in [
+            "char8_t",
+            "concept",
+            "consteval",
+            "constinit",
+            "co_await",
+            "co_return",
+            "co_yield",
+            "requires",
+        ] {
+            assert_eq!(in_both(word), [true, false], "{word}");
+            assert!(is_base_name(word.as_bytes()), "{word}");
+        }
+        for word in ["import", "module", "final", "override", "char8", "co_"] {
+            assert_eq!(in_both(word), [true, true], "{word}");
+        }
     }
 
     #[test]
     fn shapes() {
-        for good in [
-            "a", "_", "_1", "A9_z", "std", "rust", "main", "self", "concept",
-        ] {
-            assert!(is_name(good.as_bytes()), "{good}");
+        for good in ["a", "_", "_1", "A9_z", "std", "rust", "main", "self"] {
+            assert_eq!(in_both(good), [true, true], "{good}");
         }
         for reserved in ["__", "_A9", "a__z"] {
             assert!(is_base_name(reserved.as_bytes()), "{reserved}");
-            assert!(!is_name(reserved.as_bytes()), "{reserved}");
+            assert_eq!(in_both(reserved), [false, false], "{reserved}");
         }
         for bad in [
             "", "1", "9a", "a-b", "a b", "a$", "$", "a.", "a\0", "\u{7f}",
         ] {
-            assert!(!is_name(bad.as_bytes()), "{bad:?}");
+            assert_eq!(in_both(bad), [false, false], "{bad:?}");
             assert!(!is_base_name(bad.as_bytes()), "{bad:?}");
         }
     }
 
     #[test]
     fn words_of_order_3() {
-        for reserved in ["_Tool", "a__b", "__", "x__"] {
+        for reserved in ["_Tool", "a__b", "__", "x__", "__concept", "concept__"] {
             assert!(is_reserved_shape(reserved.as_bytes()), "{reserved}");
             assert!(is_base_name(reserved.as_bytes()), "{reserved}");
-            assert!(!is_name(reserved.as_bytes()), "{reserved}");
+            assert_eq!(in_both(reserved), [false, false], "{reserved}");
         }
         for free in [
-            "_", "_t", "_1", "a_B", "_1T", "a_", "a_b_c", "T_", "_a_B_1_",
+            "_", "_t", "_1", "a_B", "_1T", "a_", "a_b_c", "T_", "_a_B_1_", "_concept",
         ] {
             assert!(!is_reserved_shape(free.as_bytes()), "{free}");
-            assert!(is_name(free.as_bytes()), "{free}");
+            assert_eq!(in_both(free), [true, true], "{free}");
         }
     }
 
@@ -177,7 +247,7 @@ mod tests {
             let reserved = word.contains("__") || word.starts_with("_A");
             assert_eq!(is_base_name(word.as_bytes()), base, "{word}");
             assert_eq!(is_reserved_shape(word.as_bytes()), reserved, "{word}");
-            assert_eq!(is_name(word.as_bytes()), base && !reserved, "{word}");
+            assert_eq!(in_both(word), [base && !reserved; 2], "{word}");
             let flags = [base, reserved, base && !reserved];
             for (count, flag) in counts.iter_mut().zip(flags) {
                 *count += u32::from(flag);

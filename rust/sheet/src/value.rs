@@ -2,6 +2,12 @@
 //! value has exactly one encoding. Values that no sheet may have can be built
 //! too: tests encode them to make damaged sheets.
 
+use std::ops::RangeInclusive;
+
+/// The editions of accepted sheets: 1 is ISO C++17, 2 is ISO C++20. They differ
+/// in the keywords that are no names, and in nothing else.
+pub const EDITIONS: RangeInclusive<u8> = 1..=2;
+
 /// An index into the name table.
 pub type NameIndex = u16;
 /// An index into the items, counted from 0.
@@ -14,7 +20,7 @@ pub const CXX_STRING: AtomNumber = 14;
 
 #[derive(Clone, PartialEq, Eq, Debug)]
 pub struct Sheet {
-    /// 1 in every decoded sheet.
+    /// 1 or 2 in every decoded sheet.
     pub edition: u8,
     pub header: bool,
     pub doxygen: bool,
@@ -112,6 +118,7 @@ pub enum Type {
 }
 
 impl Sheet {
+    /// An empty sheet of edition 1.
     pub fn empty() -> Self {
         Sheet {
             edition: 1,

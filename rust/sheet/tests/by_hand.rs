@@ -39,7 +39,9 @@ fn table_of_document_01() {
     assert_eq!(check(&[0x10, 0, 0]), 0);
     assert_eq!(check(&[0x10, 0]), 1);
     assert_eq!(check(&[0x10, 0, 0, 0]), 8);
-    assert_eq!(check(&[0x20, 0, 0]), 2);
+    assert_eq!(check(&[0x20, 0, 0]), 0);
+    assert_eq!(check(&[0x30, 0, 0]), 2);
+    assert_eq!(check(&[0x00, 0, 0]), 2);
     let widths = [0, 1, 2, 3, 4, 5, 255, 256, 512, 513, 1_022, 1_023].map(index_width);
     assert_eq!(widths, [0, 0, 1, 2, 2, 3, 8, 8, 9, 10, 10, 10]);
 }
@@ -47,11 +49,94 @@ fn table_of_document_01() {
 #[test]
 fn edition_and_cut() {
     assert_eq!(check(&[]), 1);
-    assert_eq!(check(&[0x10]), 1);
-    // The edition is whole, so its fault comes before the cut.
-    assert_eq!(check(&[0x00]), 2);
-    assert_eq!(check(&[0xf0]), 2);
+    for edition in 0..16 {
+        let is_known = edition == 1 || edition == 2;
+        let empty = [edition << 4, 0, 0];
+        // The edition is whole, so its fault comes before the cut.
+        assert_eq!(check(&empty[..1]), if is_known { 1 } else { 2 });
+        assert_eq!(check(&empty[..2]), if is_known { 1 } else { 2 });
+        assert_eq!(check(&empty), if is_known { 0 } else { 2 });
+    }
     expect(0, "0001 1 1 0000000000 00000000");
+    expect(0, "0010 1 1 0000000000 00000000");
+    // Edition 2 has the layout of edition 1: a byte more, a bit behind the last
+    // item, a bad kind.
+    expect(8, "0010 0 0 0000000000 00000000 00000000");
+    expect(8, "0010 0 0 0000000001 000001 1100001 00000000 001");
+    expect(5, "0010 0 0 0000000001 000001 1100001 00000001 101");
+}
+
+/// Order 13 of document 02.
+#[test]
+fn keywords_of_each_edition() {
+    let name = |edition: u8, word: &str| {
+        let digits: String = word.bytes().map(|c| format!("{c:07b} ")).collect();
+        format!(
+            "{edition:04b} 0 0 0000000001 {:06b} {digits} 00000000",
+            word.len()
+        )
+    };
+    for word in [
+        "char8_t",
+        "concept",
+        "consteval",
+        "constinit",
+        "co_await",
+        "co_return",
+        "co_yield",
+        "requires",
+    ] {
+        expect(0, &name(1, word));
+        expect(3, &name(2, word));
+        // One character less, in front and at the end; one more; another.
+        for near in [
+            word[1..].to_string(),
+            word[..word.len() - 1].to_string(),
+            format!("{word}_"),
+            format!("_{word}"),
+            word.to_ascii_uppercase(),
+            word.replacen('c', "d", 1).replacen('r', "s", 1),
+        ] {
+            expect(0, &name(1, &near));
+            expect(0, &name(2, &near));
+        }
+        // The identifiers of order 3.
+        for reserved in [
+            format!("{word}__"),
+            format!("__{word}"),
+            format!("_A{word}"),
+        ] {
+            expect(3, &name(1, &reserved));
+            expect(3, &name(2, &reserved));
+        }
+        // Cut within the last character: one field, so 1.
+        let sheet = bits(&name(2, word));
+        let end = 16 + 6 + 7 * word.len();
+        assert_eq!(check(&sheet[..(end - 1) / 8]), 1, "{word}");
+    }
+    for (word, answer) in [
+        ("import", 0),
+        ("module", 0),
+        ("final", 0),
+        ("override", 0),
+        ("std", 0),
+        ("int", 3),
+        ("register", 3),
+        ("xor", 3),
+        ("_Tool", 3),
+        ("a__b", 3),
+        ("_", 0),
+    ] {
+        expect(answer, &name(1, word));
+        expect(answer, &name(2, word));
+    }
+    // `concept` behind a bad edition, and as the second name, which nothing uses.
+    expect(2, &name(3, "concept"));
+    let second = "000001 1100001 000111 1100011 1101111 1101110 1100011 1100101 1110000 1110100";
+    for (edition, answer) in [("0001", 0), ("0010", 3)] {
+        let item = "00000001 011 000 0 0";
+        expect(answer, &format!("{edition} 0 0 0000000010 {second} {item}"));
+    }
 }
 
 #[test]
@@ -242,6 +327,7 @@ fn tail() {
 fn excess_length_comes_first() {
     assert_eq!(check(&[0; 32_768]), 2);
     assert_eq!(check(&[0; 32_769]), 1);
+    assert_eq!(check(&[0x20; 32_769]), 1);
     assert!(decode(&vec![0x10; 100_000]).is_err());
 }
 

@@ -1,10 +1,12 @@
 //! The two readers, the encoder and the generator against one another.
 
-use sheet::generate::{any, boundaries, damaged, faulty, good, graph, reserve, reserved};
-use sheet::name::{is_base_name, is_reserved_shape};
+use sheet::generate::{
+    any, boundaries, damaged, faulty, good, graph, keyword, put_keyword, reserve, reserved,
+};
+use sheet::name::{ADDED_KEYWORDS, is_base_name, is_name, is_reserved_shape};
 use sheet::{
-    Kind, Refusal, Reserved, Rng, Sheet, Type, check, decode, decode_base, desc, encode, limit,
-    read,
+    Blame, EDITIONS, Kind, Refusal, Rng, Sheet, Type, check, decode, decode_base, desc, encode,
+    limit, read, with_edition,
 };
 use std::collections::HashSet;
 
@@ -79,7 +81,7 @@ fn reserved_names_are_3() {
         double += u32::from(name.contains("__"));
         capital += u32::from(!name.contains("__"));
         not_used += u32::from(sheet.names.last().unwrap() == name.as_bytes());
-        only += u32::from(Reserved::of(&bytes) == Reserved::Only);
+        only += u32::from(Blame::reserved(&bytes) == Blame::Only);
     }
     assert!(double > 1_000 && capital > 1_000, "{double} {capital}");
     assert!(not_used > 100, "{not_used}");
@@ -93,15 +95,106 @@ fn enough_reserved_names() {
     let [mut first, mut only] = [0; 2];
     for _ in 0..20_000 {
         let bytes = any(&mut rng);
-        match Reserved::of(&bytes) {
-            Reserved::No => continue,
-            Reserved::First => first += 1,
-            Reserved::Only => only += 1,
+        match Blame::reserved(&bytes) {
+            Blame::No => continue,
+            Blame::First => first += 1,
+            Blame::Only => only += 1,
         }
         assert_eq!(answer(&bytes), 3);
     }
     assert!(first > 20 && only > 500, "{first} {only}");
     assert!(first + only > 800, "{first} {only}");
+}
+
+/// Each has one such name, and edition 1 accepts nearly all.
+#[test]
+fn keywords_of_cxx20_are_3_in_edition_2() {
+    let mut rng = Rng::new(11);
+    let mut only = 0;
+    let mut words = HashSet::new();
+    for _ in 0..4_000 {
+        let bytes = keyword(&mut rng);
+        assert_eq!(answer(&bytes), 3, "{}", desc::hex(&bytes));
+        let sheet = decode_base(&bytes).unwrap();
+        assert_eq!((sheet.edition, encode(&sheet)), (2, bytes.clone()));
+        let names = sheet.names.iter().map(|name| str::from_utf8(name).unwrap());
+        let found: Vec<&str> = names.filter(|name| ADDED_KEYWORDS.contains(name)).collect();
+        let [word] = found[..] else {
+            panic!("{found:?}");
+        };
+        words.insert(word.to_string());
+        let older = answer(&with_edition(&bytes, 1));
+        assert_ne!(older, 3, "{}", desc::hex(&bytes));
+        let blame = if older == 0 {
+            Blame::Only
+        } else {
+            Blame::First
+        };
+        assert_eq!(Blame::keyword(&bytes), blame);
+        assert_eq!(Blame::reserved(&bytes), Blame::No);
+        only += u32::from(blame == Blame::Only);
+    }
+    assert_eq!(words.len(), ADDED_KEYWORDS.len());
+    assert!(only > 3_500, "{only}");
+}
+
+/// Half of the sheets that `any` makes are of edition 2, and every edition
+/// occurs; enough are refused for a keyword of C++20 alone.
+#[test]
+fn editions() {
+    let mut rng = Rng::new(12);
+    let mut editions = [0; 16];
+    let [mut first, mut only, mut older] = [0; 3];
+    for _ in 0..20_000 {
+        let bytes = any(&mut rng);
+        let Some(byte) = bytes.first() else {
+            continue;
+        };
+        let edition = byte >> 4;
+        editions[usize::from(edition)] += 1;
+        let given = answer(&bytes);
+        if bytes.len() <= limit::SHEET_BYTES {
+            assert_eq!(given == 2, !EDITIONS.contains(&edition));
+        }
+        match Blame::keyword(&bytes) {
+            Blame::No => {}
+            Blame::First => first += 1,
+            Blame::Only => only += 1,
+        }
+        if given == 0 && edition == 1 {
+            older += u32::from(answer(&with_edition(&bytes, 2)) == 3);
+        }
+    }
+    assert!((9_800..10_400).contains(&editions[2]), "{editions:?}");
+    assert!(editions[1] > 8_500, "{editions:?}");
+    assert!(editions.iter().all(|count| *count > 20), "{editions:?}");
+    assert!(first > 10 && only > 400, "{first} {only}");
+    assert!(older > 500, "{older}");
+}
+
+/// A sheet of edition 2 is one of edition 1 with the same value. The other way
+/// round a keyword of C++20 is what can keep it from that.
+#[test]
+fn the_other_edition() {
+    let mut rng = Rng::new(13);
+    let mut accepted = [0; 2];
+    for _ in 0..8_000 {
+        let sheet = good(&mut rng);
+        let bytes = encode(&sheet);
+        let mut other = sheet.clone();
+        other.edition = 3 - sheet.edition;
+        let is_kept = sheet.names.iter().all(|name| is_name(other.edition, name));
+        let given = answer(&with_edition(&bytes, other.edition));
+        assert_eq!(given, if is_kept { 0 } else { 3 }, "{}", desc::hex(&bytes));
+        assert_eq!(encode(&other), with_edition(&bytes, other.edition));
+        if is_kept {
+            assert_eq!(decode(&encode(&other)), Ok(other));
+            accepted[usize::from(sheet.edition) - 1] += 1;
+        } else {
+            assert_eq!(sheet.edition, 1);
+        }
+    }
+    assert!(accepted.iter().all(|count| *count > 2_000), "{accepted:?}");
 }
 
 /// A table of no names can get one too.
@@ -110,6 +203,13 @@ fn a_name_is_added() {
     let mut sheet = Sheet::empty();
     reserve(&mut Rng::new(10), &mut sheet);
     assert_eq!((sheet.names.len(), answer(&encode(&sheet))), (1, 3));
+    for edition in EDITIONS {
+        let mut sheet = Sheet::empty();
+        sheet.edition = edition;
+        put_keyword(&mut Rng::new(10), &mut sheet);
+        let wanted = if edition == 1 { 0 } else { 3 };
+        assert_eq!((sheet.names.len(), answer(&encode(&sheet))), (1, wanted));
+    }
 }
 
 #[test]
@@ -135,14 +235,27 @@ fn every_cut_of_a_good_sheet_is_1() {
     }
 }
 
+/// All sheets of up to two bytes, and those of three of a known edition: of these
+/// the eight empty ones are accepted.
 #[test]
-fn short_sheets_of_edition_1() {
-    for first in 0x10..0x20 {
-        for rest in 0..=u16::MAX {
-            let [second, third] = rest.to_be_bytes();
-            answer(&[first, second, third]);
+fn short_sheets() {
+    assert_eq!(answer(&[]), 1);
+    let mut accepted = 0;
+    for first in 0..=u8::MAX {
+        let is_known = EDITIONS.contains(&(first >> 4));
+        let cut = if is_known { 1 } else { 2 };
+        assert_eq!(answer(&[first]), cut);
+        for second in 0..=u8::MAX {
+            assert_eq!(answer(&[first, second]), cut);
+            let thirds = if is_known { 0..=u8::MAX } else { 0..=0 };
+            for third in thirds {
+                let given = answer(&[first, second, third]);
+                assert_eq!(given == 2, !is_known);
+                accepted += u32::from(given == 0);
+            }
         }
     }
+    assert_eq!(accepted, 8);
 }
 
 #[test]
@@ -156,6 +269,20 @@ fn limits() {
         let given = answer(bytes);
         let expected = if label == "reserved __x, cut" {
             1
+        } else if let Some(edition) = label.strip_prefix("edition ") {
+            let (edition, cut) = match edition.strip_suffix(", cut") {
+                Some(edition) => (edition, 1),
+                None => (edition.trim_end_matches(", both bits"), 0),
+            };
+            if ["1", "2"].contains(&edition) {
+                cut
+            } else {
+                2
+            }
+        } else if label.starts_with("keyword ") {
+            if label.contains("edition 2") { 3 } else { 0 }
+        } else if label.starts_with("no keyword ") {
+            0
         } else if label.starts_with("reserved ") {
             3
         } else if label.starts_with("not reserved ") {

@@ -1,7 +1,7 @@
 //! docs/SHEET.md against the code: its drawn example, its sheets, its tables.
 
-use sheet::name::{ALTERNATIVE_TOKENS, KEYWORDS};
-use sheet::{Kind, Sheet, Type, check, desc, encode, index_width, indirect, limit, read};
+use sheet::name::{ADDED_KEYWORDS, ALTERNATIVE_TOKENS, KEYWORDS, is_name};
+use sheet::{EDITIONS, Kind, Sheet, Type, check, desc, encode, index_width, indirect, limit, read};
 use std::fs;
 
 const PAGE: &str = include_str!("../../../docs/SHEET.md");
@@ -185,11 +185,24 @@ fn widths_and_limits() {
 }
 
 #[test]
-fn reserved_words() {
-    let lines = code("### Reserved words", 0);
-    let words = lines.iter().flat_map(|line| line.split_whitespace());
-    let reserved = KEYWORDS.iter().chain(&ALTERNATIVE_TOKENS);
-    assert!(words.eq(reserved.copied()));
+fn editions_and_reserved_words() {
+    let words = |number| -> Vec<&str> {
+        let lines = code("### Reserved words", number).into_iter();
+        lines.flat_map(str::split_whitespace).collect()
+    };
+    let in_both = words(0);
+    assert_eq!(in_both, [&KEYWORDS[..], &ALTERNATIVE_TOKENS].concat());
+    let in_edition_2 = words(1);
+    assert_eq!(in_edition_2, ADDED_KEYWORDS);
+    let all = [in_both, in_edition_2].concat();
+    let editions = table("### Editions");
+    assert_eq!(editions.len(), EDITIONS.count());
+    for (row, edition) in editions.iter().zip(EDITIONS) {
+        assert_eq!(number(row[0]), usize::from(edition));
+        assert_eq!(quoted(row[1]), [format!("{edition:04b}")]);
+        let is_reserved = |word: &&&str| !is_name(edition, word.as_bytes());
+        assert_eq!(number(row[3]), all.iter().filter(is_reserved).count());
+    }
 }
 
 /// The type of a readable form; `::T` is a type whose pointer bit is set.
@@ -236,6 +249,6 @@ fn the_lines_of_the_readable_form() {
     let lines: Vec<&str> = rows.flat_map(|row| quoted(row[0])).collect();
     let sheet = desc::parse(&lines.join("\n")).unwrap();
     assert!(sheet.header && sheet.doxygen);
-    assert_eq!(sheet.items.len(), 5);
+    assert_eq!((sheet.edition, sheet.items.len()), (2, 5));
     assert_eq!(check(&encode(&sheet)), 0);
 }

@@ -74,6 +74,8 @@ static char const *thrown() {
 }
 
 extern "C" char const *run() {
+  // All objects that g++ builds have one such variable.
+  mill::Part::dropped = 0;
   for (auto part : {values, jobs, held, thrown}) {
     if (char const *wrong = part()) {
       return wrong;

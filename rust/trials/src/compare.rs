@@ -1,7 +1,8 @@
 //! One sheet through a service, and what the service owes for it.
 
 use bridgetext::Refusal;
-use sheet::Sheet;
+use sheet::name::ADDED_KEYWORDS;
+use sheet::{Sheet, with_edition};
 use std::fmt::{self, Display};
 
 /// What the struct order service owes, but for the buffer: the list, or the
@@ -36,7 +37,8 @@ pub fn check(bytes: &[u8]) -> Result<u8, String> {
 }
 
 /// The order by the crate's `sort`; it needs the crate's source. The crate is
-/// asked about accepted sheets only, so never about one with a reserved name.
+/// asked about accepted sheets only, so never about one with a name that only the
+/// orders of document 02 forbid.
 pub fn wanted_order(bytes: &[u8]) -> Order {
     match sheet::read(bytes) {
         Ok(sheet) => Ok(oracle::struct_order(&sheet)),
@@ -59,8 +61,12 @@ pub fn text(sheet: &Sheet) -> Vec<u8> {
 
 /// The struct order of an accepted sheet by the service.
 pub fn order(sheet: &Sheet) -> Vec<u8> {
+    order_of(&sheet::encode(sheet))
+}
+
+fn order_of(bytes: &[u8]) -> Vec<u8> {
     let mut list = vec![0; 255];
-    let length = bridgetext::struct_order(&sheet::encode(sheet), &mut list).unwrap();
+    let length = bridgetext::struct_order(bytes, &mut list).unwrap();
     list.truncate(length);
     list
 }
@@ -141,6 +147,40 @@ fn with_buffer(
         memory[at],
         wanted_memory[at]
     ))
+}
+
+/// Puts an accepted sheet with this text through the services under the other
+/// edition, and says whether that accepts it. If so, text and struct order are
+/// the same; if not, a keyword that C++20 added is why, and every buffer stays as
+/// it was.
+pub fn other_edition(bytes: &[u8], text: &[u8], margin: usize) -> Result<bool, String> {
+    let edition = 3 - (bytes[0] >> 4);
+    let under = |error| format!("under edition {edition}: {error}");
+    let other = with_edition(bytes, edition);
+    let names = sheet::decode(bytes).unwrap().names;
+    let mut names = names.iter().map(|name| str::from_utf8(name).unwrap());
+    let is_refused = edition == 2 && names.any(|name| ADDED_KEYWORDS.contains(&name));
+    let wanted = match is_refused {
+        true => Refusal::BadName.number(),
+        false => 0,
+    };
+    let answer = check(&other).map_err(under)?;
+    if answer != wanted {
+        return Err(under(format!("a check answers {answer}, not {wanted}")));
+    }
+    let answers = [
+        (Service::Write, text.to_vec()),
+        (Service::StructOrder, order_of(bytes)),
+    ];
+    for (service, answer) in answers {
+        let lengths = [answer.len()];
+        let wanted = match is_refused {
+            true => Err(wanted),
+            false => Ok(answer),
+        };
+        with_buffers(service, &other, &wanted, &lengths, margin).map_err(under)?;
+    }
+    Ok(!is_refused)
 }
 
 impl Service {

@@ -3,14 +3,26 @@
 use std::path::Path;
 use std::process::Command;
 
-/// The flags for the text of a sheet. A symbol has `$` in it.
-pub const CXX_FLAGS: [&str; 5] = [
-    "-std=c++17",
+/// The flags for the text of a sheet, but for the standard. A symbol has `$` in
+/// it.
+pub const CXX_FLAGS: [&str; 4] = [
     "-Wall",
     "-Wextra",
     "-Werror",
     "-Wno-dollar-in-identifier-extension",
 ];
+
+pub const CXX_17: &str = "-std=c++17";
+pub const CXX_20: &str = "-std=c++20";
+
+/// The flag for the standard of an edition.
+pub fn standard(edition: u8) -> &'static str {
+    match edition {
+        1 => CXX_17,
+        2 => CXX_20,
+        _ => panic!("no edition {edition}"),
+    }
+}
 
 /// The compilers of C++ that every text goes through.
 pub const CXX: [&str; 2] = ["g++", "clang++"];

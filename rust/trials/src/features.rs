@@ -1,5 +1,6 @@
 //! What occurs in the sheets of a run, so that a report can say so.
 
+use sheet::name::ADDED_KEYWORDS;
 use sheet::{Form, Function, Item, Kind, RUST_STRING, Sheet, Type, indirect, limit};
 use std::fmt::{self, Display};
 
@@ -10,6 +11,11 @@ pub struct Features(Vec<(&'static str, u64)>);
 impl Features {
     pub fn count(&mut self, sheet: &Sheet) {
         let functions = sheet.items.iter().filter(|item| item.is_function()).count();
+        let keyword = |name: &Vec<u8>| ADDED_KEYWORDS.iter().any(|word| word.as_bytes() == name);
+        let older = sheet.names.iter().any(keyword);
+        self.add("sheets of edition 1", sheet.edition == 1);
+        self.add("sheets of edition 2", sheet.edition == 2);
+        self.add("sheets with a keyword of C++20 as a name", older);
         self.add("sheets with the header bit", sheet.header);
         self.add("sheets with the Doxygen bit", sheet.doxygen);
         self.add("sheets with both", sheet.header && sheet.doxygen);

@@ -5,6 +5,7 @@
 //! and enums have none; a scope has a name once; C++ copies a type with pointer
 //! bit 0 bit by bit.
 
+use sheet::name::ADDED_KEYWORDS;
 use sheet::{
     Arg, Form, Function, Item, ItemIndex, Kind, NameIndex, RUST_STRING, Rng, Sheet, Type, indirect,
     limit,
@@ -13,11 +14,17 @@ use std::collections::HashSet;
 
 const NAMESPACES: [&str; 6] = ["mill", "pack", "driver", "detail", "std", "rust"];
 const TYPES: [&str; 5] = ["Job", "Tool", "Axis", "Blank", "Spindle"];
-const FUNCTIONS: [&str; 7] = ["count", "spin", "feed", "retract", "probe", "park", "f"];
 #[rustfmt::skip]
-const ARGUMENTS: [&str; 12] = [
-    "x", "y", "job", "self", "error", "value", "std", "rust", "count", "size", "return_", "_",
+const FUNCTIONS: [&str; 8] = [
+    "count", "spin", "feed", "retract", "probe", "park", "f", "override",
 ];
+#[rustfmt::skip]
+const ARGUMENTS: [&str; 14] = [
+    "x", "y", "job", "self", "error", "value", "std", "rust", "count", "size", "return_", "_",
+    "final", "override",
+];
+/// Words of C++20's modules, which no keyword table has.
+const MODULES: [&str; 2] = ["import", "module"];
 const COMMENTS: [&str; 8] = [
     "",
     " counts the jobs",
@@ -38,8 +45,9 @@ enum Named {
     NoStructs,
 }
 
-/// A sheet; with an outer namespace, every item stands in it.
-pub fn sheet(rng: &mut Rng, outer: Option<&str>) -> Sheet {
+/// A sheet of this edition; with an outer namespace, every item stands in it.
+/// One of edition 1 uses the keywords that C++20 added.
+pub fn sheet(rng: &mut Rng, edition: u8, outer: Option<&str>) -> Sheet {
     let mut draft = Draft {
         rng,
         sheet: Sheet::empty(),
@@ -47,6 +55,7 @@ pub fn sheet(rng: &mut Rng, outer: Option<&str>) -> Sheet {
         taken: HashSet::new(),
         symbols: HashSet::new(),
     };
+    draft.sheet.edition = edition;
     draft.sheet.header = draft.rng.one_in(6);
     draft.sheet.doxygen = draft.rng.one_in(3);
     let outer = outer.map(|name| draft.name(name));
@@ -93,9 +102,19 @@ impl Draft<'_> {
         at as NameIndex
     }
 
-    /// One of the words, with a number behind it if it must have one.
+    /// One of the words, or one that another standard could keep.
+    fn word<'w>(&mut self, words: &[&'w str]) -> &'w str {
+        let words = match self.rng.below(8) {
+            0 if self.sheet.edition == 1 => &ADDED_KEYWORDS[..],
+            1 => &MODULES,
+            _ => words,
+        };
+        words[self.rng.below(words.len())]
+    }
+
+    /// Such a word, with a number behind it if it must have one.
     fn free(&mut self, words: &[&str], is_free: impl Fn(&Self, NameIndex) -> bool) -> NameIndex {
-        let word = *self.rng.pick(words);
+        let word = self.word(words);
         let mut name = self.name(word);
         let mut number = 1;
         while !is_free(self, name) {
@@ -157,7 +176,13 @@ impl Draft<'_> {
             let namespace = self.rng.pick(&self.paths).clone();
             let name = match kind {
                 Kind::Function(_) => 0,
-                _ => self.entity(&namespace, &TYPES),
+                _ => {
+                    let name = self.entity(&namespace, &TYPES);
+                    // A member of the type's name would be a constructor.
+                    let scope = [&namespace[..], &[name]].concat();
+                    self.taken.insert((scope, name));
+                    name
+                }
             };
             self.sheet.items.push(Item {
                 namespace,

@@ -18,6 +18,7 @@ pub fn texts(rng: &mut Rng) -> Vec<u8> {
 /// 255 functions, or a few types and functions of every form.
 pub fn many_functions(rng: &mut Rng) -> Sheet {
     let mut sheet = Sheet::empty();
+    sheet.edition = generate::edition(rng);
     sheet.header = rng.one_in(4);
     sheet.doxygen = rng.bit();
     let words = (0..limit::ITEMS + limit::ARGUMENTS).map(|i| format!("f{i}").into_bytes());
@@ -134,6 +135,7 @@ pub fn structs(rng: &mut Rng) -> Sheet {
     let place = shuffled(rng, count + others);
     let named = |item: usize| Type::Named(place[item] as ItemIndex);
     let mut sheet = Sheet::empty();
+    sheet.edition = generate::edition(rng);
     let words = (0..count + others).map(|i| format!("S{i}").into_bytes());
     sheet.names = words.collect();
     let mut items = vec![None; count + others];

@@ -1,7 +1,7 @@
 //! Generated and damaged sheets: the services agree with the Rust check, the
 //! crate's `sort` and its writer. The program `differential` runs more of them.
 
-use sheet::{Reserved, Rng, desc, encode, generate};
+use sheet::{Blame, Rng, desc, encode, generate};
 use trials::compare::Text;
 use trials::{compare, sheets};
 
@@ -70,39 +70,43 @@ fn generated_sheets() {
     let skipped = oracle::skipped();
     let mut rng = Rng::new(1);
     let mut answers = [0; 13];
-    let mut not_compared = 0;
+    let [mut reserved, mut keyword] = [0; 2];
     for _ in 0..16_000 {
         let sheet = generate::any(&mut rng);
         match both(&sheet, skipped) {
             Ok(answer) => answers[usize::from(answer)] += 1,
             Err(error) => panic!("{error}\n{}", desc::hex(&sheet)),
         }
-        not_compared += u32::from(Reserved::of(&sheet) == Reserved::Only);
+        reserved += u32::from(Blame::reserved(&sheet) == Blame::Only);
+        keyword += u32::from(Blame::keyword(&sheet) == Blame::Only);
     }
     assert!(answers.iter().all(|count| *count > 100), "{answers:?}");
-    assert!(not_compared > 320, "{not_compared}");
+    assert!(reserved > 320 && keyword > 320, "{reserved} {keyword}");
 }
 
 #[test]
 fn many_structs() {
     let skipped = oracle::skipped();
     let mut rng = Rng::new(2);
-    let mut not_compared = 0;
+    let [mut reserved, mut keyword] = [0; 2];
     for number in 0..4_000 {
         let mut sheet = sheets::structs(&mut rng);
-        if number % 20 == 7 {
-            generate::reserve(&mut rng, &mut sheet);
+        match number % 20 {
+            7 => generate::reserve(&mut rng, &mut sheet),
+            11 | 13 => generate::put_keyword(&mut rng, &mut sheet),
+            _ => {}
         }
         let mut sheet = encode(&sheet);
         if number % 8 == 0 {
             generate::damage(&mut rng, &mut sheet);
         }
-        not_compared += u32::from(Reserved::of(&sheet) == Reserved::Only);
+        reserved += u32::from(Blame::reserved(&sheet) == Blame::Only);
+        keyword += u32::from(Blame::keyword(&sheet) == Blame::Only);
         if let Err(error) = both(&sheet, skipped) {
             panic!("{error}\n{}", desc::hex(&sheet));
         }
     }
-    assert!(not_compared > 100, "{not_compared}");
+    assert!(reserved > 100 && keyword > 100, "{reserved} {keyword}");
 }
 
 #[test]
@@ -158,15 +162,16 @@ fn generated_texts() {
         return;
     }
     let mut rng = Rng::new(6);
-    let [mut accepted, mut not_compared] = [0; 2];
+    let [mut accepted, mut reserved, mut keyword] = [0; 3];
     for _ in 0..4_000 {
         let sheet = sheets::texts(&mut rng);
         match text(&sheet) {
             Ok(text) => accepted += u32::from(text.is_ok()),
             Err(error) => panic!("{error}\n{}", desc::hex(&sheet)),
         }
-        not_compared += u32::from(Reserved::of(&sheet) == Reserved::Only);
+        reserved += u32::from(Blame::reserved(&sheet) == Blame::Only);
+        keyword += u32::from(Blame::keyword(&sheet) == Blame::Only);
     }
     assert!(accepted > 2_000, "{accepted}");
-    assert!(not_compared > 80, "{not_compared}");
+    assert!(reserved > 80 && keyword > 60, "{reserved} {keyword}");
 }

@@ -2,7 +2,7 @@
 //! this process loads it while it runs, and C++ (cxx/mill.cc) calls the Rust
 //! functions below through it.
 
-use sheet::desc;
+use sheet::{EDITIONS, desc};
 use std::cell::RefCell;
 use std::cmp::Ordering;
 use std::ffi::{CStr, CString, c_char, c_int, c_void};
@@ -91,19 +91,28 @@ drop second
 drop first
 ";
 
+/// Of either edition, by its standard.
 #[test]
 fn calls_through_the_glue() {
-    let text = compare::text(&desc::parse(SHEET).unwrap());
+    let mut sheet = desc::parse(SHEET).unwrap();
+    for edition in EDITIONS {
+        sheet.edition = edition;
+        calls(edition, &compare::text(&sheet));
+    }
+}
+
+fn calls(edition: u8, text: &[u8]) {
     let mut glue = b"#include \"mill.h\"\n".to_vec();
     glue.extend(text);
     glue.extend(b"#include \"mill.cc\"\n");
     let made = Path::new(env!("CARGO_TARGET_TMPDIR"));
-    let source = made.join("glue.cc");
+    let source = made.join(format!("glue-{edition}.cc"));
     fs::write(&source, glue).unwrap();
     for compiler in CXX {
-        let object = made.join(format!("glue-{compiler}.so"));
+        let object = made.join(format!("glue-{edition}-{compiler}.so"));
         compilers::run(
             Command::new(compiler)
+                .arg(compilers::standard(edition))
                 .args(CXX_FLAGS)
                 .args(["-O2", "-shared", "-fPIC", "-I"])
                 .arg(folder())
@@ -116,10 +125,12 @@ fn calls_through_the_glue() {
         let wrong = unsafe { run() };
         if !wrong.is_null() {
             // SAFETY: a string literal of mill.cc, which stays loaded.
-            panic!("{compiler}: {:?}", unsafe { CStr::from_ptr(wrong) });
+            panic!("{edition}, {compiler}: {:?}", unsafe {
+                CStr::from_ptr(wrong)
+            });
         }
         let calls = CALLS.take().join("\n");
-        assert_eq!(calls, ARRIVED.trim(), "{compiler}");
+        assert_eq!(calls, ARRIVED.trim(), "{edition}, {compiler}");
     }
 }
 

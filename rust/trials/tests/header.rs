@@ -1,5 +1,5 @@
-//! `include/bridgetext.h`: it compiles as C99 and as C++17, and its refusals and
-//! versions are those of `bridgetext`.
+//! `include/bridgetext.h`: it compiles as C99, C++17 and C++20, and its refusals
+//! and versions are those of `bridgetext`.
 
 use bridgetext::Refusal;
 use std::fs;
@@ -15,8 +15,10 @@ fn it_compiles() {
     for (compiler, standard, language) in [
         ("gcc", "-std=c99", "c"),
         ("g++", "-std=c++17", "c++"),
+        ("g++", "-std=c++20", "c++"),
         ("clang", "-std=c99", "c"),
         ("clang++", "-std=c++17", "c++"),
+        ("clang++", "-std=c++20", "c++"),
     ] {
         compilers::run(
             Command::new(compiler)

@@ -1,6 +1,6 @@
 //! `run-oracle`: generated sheets through the check and the crate.
 
-use sheet::{Reserved, Rng, generate};
+use sheet::{Blame, Rng, generate};
 use std::fmt::{self, Display};
 use std::io::{self, Write};
 use std::panic;
@@ -10,11 +10,11 @@ use std::time::Instant;
 const USAGE: &str = "usage: run-oracle [--count N] [--seed S]
 
 Generates N sheets (100000 unless given) from the seed (1 unless given), after
-some 300 fixed ones at the limits. Each goes through the check, the plain reader
+some 400 fixed ones at the limits. Each goes through the check, the plain reader
 and back into bytes; each accepted one through the crate, both ways. Prints how
-many had which answer; of those refused 3, how many for a reserved identifier;
-and of these, how many would be accepted but for it, so that only this keeps
-them from the crate.
+many had which answer; of those refused 3, how many for a reserved identifier,
+and how many of edition 2 for a keyword that C++20 added; and of these, how many
+would be accepted but for it, so that only this keeps them from the crate.
 
 Exit code: 0 all agree, 1 a disagreement or a panic (the sheet is printed as
 hex), 2 wrong use or no cxx-build source.";
@@ -70,6 +70,7 @@ fn arguments() -> Option<(u64, u64)> {
 struct Totals {
     answers: [u64; 13],
     reserved: u64,
+    keyword: u64,
     not_compared: u64,
     sheet_bytes: usize,
     text_bytes: usize,
@@ -82,8 +83,10 @@ impl Totals {
         let outcome = panic::catch_unwind(|| oracle::compare::compare(sheet))
             .map_err(|_| "a panic".to_string())??;
         self.answers[usize::from(outcome.answer)] += 1;
-        self.reserved += u64::from(outcome.reserved != Reserved::No);
-        self.not_compared += u64::from(outcome.reserved == Reserved::Only);
+        let blames = [outcome.reserved, outcome.keyword];
+        self.reserved += u64::from(outcome.reserved != Blame::No);
+        self.keyword += u64::from(outcome.keyword != Blame::No);
+        self.not_compared += u64::from(blames.contains(&Blame::Only));
         self.sheet_bytes += sheet.len();
         self.text_bytes += outcome.text.len();
         self.longest_text = self.longest_text.max(outcome.text.len());
@@ -100,6 +103,7 @@ impl Display for Totals {
             writeln!(out, "refused {number:2}    {count}")?;
         }
         writeln!(out, "reserved (3)  {}", self.reserved)?;
+        writeln!(out, "keyword (3)   {}", self.keyword)?;
         writeln!(out, "not compared  {}", self.not_compared)?;
         writeln!(out, "sheet bytes   {}", self.sheet_bytes)?;
         writeln!(out, "text bytes    {}", self.text_bytes)?;

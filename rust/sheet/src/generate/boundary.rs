@@ -1,7 +1,9 @@
 //! Sheets at document 01's limits, the same for every seed.
 
+use crate::name::ADDED_KEYWORDS;
 use crate::{
-    Arg, Form, Function, Item, ItemIndex, Kind, NameIndex, Sheet, Type, encode, encode_bits, limit,
+    Arg, EDITIONS, Form, Function, Item, ItemIndex, Kind, NameIndex, Sheet, Type, encode,
+    encode_bits, limit,
 };
 
 /// Each with what it shows.
@@ -25,7 +27,12 @@ pub fn boundaries() -> Vec<(String, Vec<u8>)> {
     for edition in 0..16 {
         let mut sheet = Sheet::empty();
         sheet.edition = edition;
-        add(format!("edition {edition}"), encode(&sheet));
+        let bytes = encode(&sheet);
+        add(format!("edition {edition}, cut"), bytes[..1].to_vec());
+        add(format!("edition {edition}"), bytes);
+        sheet.header = true;
+        sheet.doxygen = true;
+        add(format!("edition {edition}, both bits"), encode(&sheet));
     }
     for count in [0, 1, 2, 3, 4, 5, 8, 9, 16, 17, 512, 513, 1_022, 1_023] {
         add(format!("{count} names"), encode(&names(count, count)));
@@ -53,6 +60,30 @@ pub fn boundaries() -> Vec<(String, Vec<u8>)> {
     }
     for word in NOT_RESERVED {
         add(format!("not reserved {word}"), encode(&named(word)));
+    }
+    for edition in EDITIONS {
+        for word in ADDED_KEYWORDS {
+            let mut sheet = named(word);
+            sheet.edition = edition;
+            let label = format!("keyword {word} in edition {edition}");
+            add(label, encode(&sheet));
+            let mut sheet = names(2, 1);
+            sheet.edition = edition;
+            sheet.names[1] = word.into();
+            let label = format!("keyword {word} in edition {edition}, not used");
+            add(label, encode(&sheet));
+        }
+        for word in NOT_KEYWORDS {
+            let mut sheet = named(word);
+            sheet.edition = edition;
+            let label = format!("no keyword {word} in edition {edition}");
+            add(label, encode(&sheet));
+        }
+    }
+    for word in ["int", "xor_eq", "_Tool", "a__b", "__concept"] {
+        let mut sheet = named(word);
+        sheet.edition = 2;
+        add(format!("reserved {word} in edition 2"), encode(&sheet));
     }
     // The third character is not whole.
     let mut cut = encode(&named("__x"));
@@ -162,6 +193,18 @@ const RESERVED: [&str; 10] = [
     "_Tool", "a__b", "__", "x__", "__x", "___", "_A", "_Z", "_A_", "a_b__",
 ];
 const NOT_RESERVED: [&str; 8] = ["_", "_t", "_1", "a_B", "_1T", "a_", "T_", "_a_B_1_"];
+
+/// Names that no keyword table has, though C++20 gives some a meaning.
+const NOT_KEYWORDS: [&str; 8] = [
+    "import",
+    "module",
+    "final",
+    "override",
+    "concept_",
+    "Requires",
+    "char8",
+    "co_yields",
+];
 
 /// For each sort of type one sheet: a function of each form, throwing and not,
 /// that takes and returns it.

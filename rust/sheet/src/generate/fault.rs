@@ -1,7 +1,7 @@
 //! Good sheets with chosen faults.
 
 use super::good::{comment_line, good, random_name, type_of_depth};
-use crate::name::{ALTERNATIVE_TOKENS, KEYWORDS};
+use crate::name::{ADDED_KEYWORDS, ALTERNATIVE_TOKENS, KEYWORDS};
 use crate::{
     Arg, Form, Function, Item, ItemIndex, Kind, NameIndex, Refusal, Rng, Sheet, Type, encode,
     encode_bits, limit,
@@ -59,6 +59,29 @@ pub fn reserved(rng: &mut Rng) -> Vec<u8> {
 pub fn reserve(rng: &mut Rng, sheet: &mut Sheet) {
     let chars = reserved_name(rng);
     put_name(rng, sheet, chars);
+}
+
+/// A good sheet of edition 2, but for a keyword that C++20 added.
+pub fn keyword(rng: &mut Rng) -> Vec<u8> {
+    let mut sheet = loop {
+        let sheet = good(rng);
+        if sheet.edition == 2 {
+            break sheet;
+        }
+    };
+    put_keyword(rng, &mut sheet);
+    encode(&sheet)
+}
+
+/// Gives a name of the sheet the characters of a keyword that C++20 added, or
+/// adds one that nothing uses. A sheet of edition 1 is still accepted then.
+pub fn put_keyword(rng: &mut Rng, sheet: &mut Sheet) {
+    let chars = added_keyword(rng);
+    put_name(rng, sheet, chars);
+}
+
+fn added_keyword(rng: &mut Rng) -> Vec<u8> {
+    rng.pick(&ADDED_KEYWORDS).as_bytes().to_vec()
 }
 
 /// A base name with two underscores in a row, or with an underscore and a
@@ -296,19 +319,24 @@ impl Draft<'_> {
     }
 
     fn edition(&mut self) {
-        self.sheet.edition = *self.rng.pick(&[0, 2, 3, 4, 5, 8, 9, 15]);
+        self.sheet.edition = match self.rng.below(14) {
+            0 => 0,
+            number => number as u8 + 2,
+        };
     }
 
     fn bad_name(&mut self) {
         let mut chars = random_name(self.rng);
         let last = chars.len() - 1;
-        match self.rng.below(8) {
+        let kinds = if self.sheet.edition == 2 { 10 } else { 8 };
+        match self.rng.below(kinds) {
             0 => chars.clear(),
             1 => chars = self.rng.pick(&KEYWORDS).as_bytes().to_vec(),
             2 => chars = self.rng.pick(&ALTERNATIVE_TOKENS).as_bytes().to_vec(),
             3 => chars[0] = *self.rng.pick(b"0189 $.-@[`{/:"),
             4 => chars[last] = *self.rng.pick(b" $.-\0\n\x7f@[`{/:"),
             5 | 6 => chars = reserved_name(self.rng),
+            8 | 9 => chars = added_keyword(self.rng),
             _ => chars[last / 2] = *self.rng.pick(b" $.-\0\n\x7f@[`{/:"),
         }
         put_name(self.rng, self.sheet, chars);

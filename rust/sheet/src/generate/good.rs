@@ -1,17 +1,21 @@
 //! Accepted sheets with rich contents.
 
+use super::edition;
+use crate::name::{ADDED_KEYWORDS, is_name};
 use crate::{
     Arg, Form, Function, Item, ItemIndex, Kind, NameIndex, RUST_STRING, Rng, Sheet, Type, encode,
-    indirect, limit, name, rules,
+    indirect, limit, rules,
 };
 
-/// Words that the rules, the crate or the grammar could trip over.
+/// Words that the rules, the crate, the grammar or a keyword table could trip
+/// over. Each is a name in both editions.
 #[rustfmt::skip]
-const WORDS: [&str; 44] = [
+const WORDS: [&str; 51] = [
     "a", "b", "c", "x", "_", "_x", "_1", "_1T", "a_B", "x_", "mill", "Job", "count", "main",
     "main", "self", "self", "error", "error", "std", "rust", "u8", "String", "CxxString", "bool_",
     "T0", "T1", "Self", "return_", "cxxbridge1", "operator_", "size", "layout", "namespace_",
-    "f64", "f", "g", "value", "ptr", "Vec", "Box", "Result", "void_", "concept",
+    "f64", "f", "g", "value", "ptr", "Vec", "Box", "Result", "void_", "import", "module", "final",
+    "override", "concept_", "Requires", "co_awai", "char8",
 ];
 
 /// A sheet that a check accepts.
@@ -41,11 +45,12 @@ pub fn large(rng: &mut Rng) -> Sheet {
 }
 
 fn attempt(rng: &mut Rng, items: usize) -> Sheet {
+    let edition = edition(rng);
     let sheet = Sheet {
-        edition: 1,
+        edition,
         header: rng.one_in(4),
         doxygen: rng.one_in(3),
-        names: name_table(rng, items),
+        names: name_table(rng, edition, items),
         items: Vec::new(),
     };
     let mut draft = Draft {
@@ -62,7 +67,7 @@ fn attempt(rng: &mut Rng, items: usize) -> Sheet {
     draft.sheet
 }
 
-fn name_table(rng: &mut Rng, items: usize) -> Vec<Vec<u8>> {
+fn name_table(rng: &mut Rng, edition: u8, items: usize) -> Vec<Vec<u8>> {
     let count = match rng.below(30) {
         0 if items == 0 => 0,
         1 if items <= 40 => rng.between(1, 2),
@@ -70,11 +75,14 @@ fn name_table(rng: &mut Rng, items: usize) -> Vec<Vec<u8>> {
         _ if items > 40 => items + rng.between(100, 400),
         _ => items + rng.between(3, 24),
     };
+    // One sheet of edition 1 in three has names that edition 2 refuses.
+    let older = edition == 1 && rng.one_in(3);
     let mut names: Vec<Vec<u8>> = Vec::new();
     for _ in 0..count {
         let name = match rng.below(12) {
             0 if !names.is_empty() => rng.pick(&names).clone(),
             1..=5 => rng.pick(&WORDS).as_bytes().to_vec(),
+            6 if older => rng.pick(&ADDED_KEYWORDS).as_bytes().to_vec(),
             _ => random_name(rng),
         };
         names.push(name);
@@ -82,6 +90,7 @@ fn name_table(rng: &mut Rng, items: usize) -> Vec<Vec<u8>> {
     names
 }
 
+/// A name in both editions.
 pub fn random_name(rng: &mut Rng) -> Vec<u8> {
     const FIRST: &[u8] = b"abcdefghijklmnopqrstuvwxyzABCDEFGHIJKLMNOPQRSTUVWXYZ_";
     const REST: &[u8] = b"abcdefghijklmnopqrstuvwxyzABCDEFGHIJKLMNOPQRSTUVWXYZ_0123456789";
@@ -93,7 +102,7 @@ pub fn random_name(rng: &mut Rng) -> Vec<u8> {
     loop {
         let mut chars = vec![*rng.pick(FIRST)];
         chars.extend((1..len).map(|_| *rng.pick(REST)));
-        if name::is_name(&chars) {
+        if is_name(2, &chars) {
             return chars;
         }
     }

@@ -1,5 +1,6 @@
 //! Structs that hold one another: chains, diamonds, stars and rings.
 
+use super::edition;
 use crate::{Item, ItemIndex, Kind, NameIndex, Rng, Sheet, Type};
 
 /// A sheet of structs; one shape in four is a ring, which a check refuses.
@@ -39,6 +40,7 @@ pub fn graph(rng: &mut Rng) -> Sheet {
     edges = order.into_iter().map(|i| edges[i]).collect();
 
     let mut sheet = Sheet::empty();
+    sheet.edition = edition(rng);
     sheet.names = (0..count).map(|i| format!("S{i}").into_bytes()).collect();
     sheet.names.push(b"n".to_vec());
     sheet.items = (0..count)

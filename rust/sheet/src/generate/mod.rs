@@ -1,5 +1,6 @@
 //! Sheets from a seed: accepted ones, the same with chosen faults, with reserved
-//! identifiers, damaged copies, structs that hold one another, and the limits.
+//! identifiers or with keywords of C++20, damaged copies, structs that hold one
+//! another, and the limits.
 
 mod boundary;
 mod fault;
@@ -7,15 +8,21 @@ mod good;
 mod graph;
 
 pub use boundary::{boundaries, signatures};
-pub use fault::{faulty, reserve, reserved};
+pub use fault::{faulty, keyword, put_keyword, reserve, reserved};
 pub use good::{good, large, type_of_depth};
 pub use graph::graph;
 
 use crate::{Refusal, Rng, encode};
 
-/// Any sheet: about half of them are accepted.
+/// 1 or 2. Of the sheets that `any` makes some have another edition, or none;
+/// half of all are to have edition 2, so it comes a little more often.
+pub fn edition(rng: &mut Rng) -> u8 {
+    if rng.below(25) < 13 { 2 } else { 1 }
+}
+
+/// Any sheet: about half of them are accepted, and half are of edition 2.
 pub fn any(rng: &mut Rng) -> Vec<u8> {
-    match rng.below(42) {
+    match rng.below(43) {
         0 if rng.one_in(20) => encode(&large(rng)),
         0..=20 => encode(&good(rng)),
         21..=27 => {
@@ -30,6 +37,7 @@ pub fn any(rng: &mut Rng) -> Vec<u8> {
         32..=35 => damaged(rng),
         36..=38 => encode(&graph(rng)),
         39..=40 => reserved(rng),
+        41 => keyword(rng),
         _ => noise(rng),
     }
 }
@@ -64,13 +72,13 @@ pub fn damage(rng: &mut Rng, bytes: &mut Vec<u8>) {
     }
 }
 
-/// A few random bytes, mostly behind a whole edition.
+/// A few random bytes, mostly behind edition 1 or 2.
 fn noise(rng: &mut Rng) -> Vec<u8> {
     let mut bytes: Vec<u8> = (0..rng.below(24)).map(|_| rng.next_u64() as u8).collect();
     if let Some(first) = bytes.first_mut()
         && !rng.one_in(8)
     {
-        *first = 0x10 | *first & 0x0c;
+        *first = edition(rng) << 4 | *first & 0x0c;
     }
     bytes
 }

@@ -1,6 +1,6 @@
 //! `differential`: generated and damaged sheets through the proved services.
 
-use sheet::{Refusal, Reserved, Rng, encode, generate};
+use sheet::{Blame, Refusal, Rng, encode, generate};
 use std::fmt::{self, Display};
 use std::io::{self, Write};
 use std::panic;
@@ -14,15 +14,20 @@ const USAGE: &str = "usage: differential [--count N] [--seed S] [--service check
                     [--margin M]
 
 Generates N sheets (100000 unless given) from the seed (1 unless given), after
-some 300 fixed ones at the limits, and puts each through all services, or the
+some 400 fixed ones at the limits, and puts each through all services, or the
 one that is named. A check is compared with the Rust check. The struct order and
 the text are asked for with buffers of every length around the answer's, and
 each answer and every byte in and around the buffer are compared with the
-crate's `sort` and its writer. The order's sheets have many structs. Prints how
-many had which answer; of those refused 3, how many for a reserved identifier;
-of these, how many would be accepted but for it, and so are not compared with
-the crate, only with a refusal; and, for the text, what occurred in the accepted
-ones.
+crate's `sort` and its writer. The order's sheets have many structs. For the text
+each accepted sheet goes through all services once more under the other edition:
+where that accepts it, text and order must be the same.
+
+Half of the sheets are of edition 2, and a few of none that there is. Prints how
+many had which edition and which answer; of those refused 3, how many for a
+reserved identifier, and how many of edition 2 for a keyword that C++20 added; of
+these, how many would be accepted but for it, and so are not compared with the
+crate, only with a refusal; how many sheets both editions accept, and how many
+only edition 1 does; and, for the text, what occurred in the accepted ones.
 
 With --margin 0 a buffer has nothing around it (64 bytes unless given), so that
 valgrind sees every byte too far.
@@ -115,8 +120,10 @@ impl Options {
             };
         }
         let mut sheet = sheets::structs(rng);
-        if rng.one_in(20) {
-            generate::reserve(rng, &mut sheet);
+        match rng.below(20) {
+            0 => generate::reserve(rng, &mut sheet),
+            1 => generate::put_keyword(rng, &mut sheet),
+            _ => {}
         }
         let mut sheet = encode(&sheet);
         if rng.one_in(6) {
@@ -129,9 +136,16 @@ impl Options {
 #[derive(Default)]
 struct Totals {
     answers: [u64; 13],
-    /// Refused for a reserved identifier, and of these accepted but for it.
+    /// By the first four bits.
+    editions: [u64; 16],
+    /// Refused for a reserved identifier, for a keyword that C++20 added, and of
+    /// these accepted but for it.
     reserved: u64,
+    keyword: u64,
     not_compared: u64,
+    /// Accepted and put through the other edition, which accepts or refuses.
+    both_editions: u64,
+    one_edition: u64,
     sheet_bytes: usize,
     orders: Answers,
     texts: Answers,
@@ -169,15 +183,23 @@ impl Totals {
             let service = Service::Write;
             let overruns = compare::with_buffers(service, sheet, &text, &lengths, options.margin)?;
             self.texts.add(length, lengths.len(), overruns);
-            if answer == 0 {
+            if let Ok(text) = text {
                 self.features.count(&sheet::decode(sheet).unwrap());
+                match compare::other_edition(sheet, &text, options.margin)? {
+                    true => self.both_editions += 1,
+                    false => self.one_edition += 1,
+                }
             }
         }
         self.answers[usize::from(answer)] += 1;
+        if let Some(first) = sheet.first() {
+            self.editions[usize::from(first >> 4)] += 1;
+        }
         if answer == Refusal::BadName.number() {
-            let reserved = Reserved::of(sheet);
-            self.reserved += u64::from(reserved != Reserved::No);
-            self.not_compared += u64::from(reserved == Reserved::Only);
+            let blames = [Blame::reserved(sheet), Blame::keyword(sheet)];
+            self.reserved += u64::from(blames[0] != Blame::No);
+            self.keyword += u64::from(blames[1] != Blame::No);
+            self.not_compared += u64::from(blames.contains(&Blame::Only));
         }
         self.sheet_bytes += sheet.len();
         Ok(())
@@ -196,11 +218,15 @@ impl Answers {
 impl Display for Totals {
     fn fmt(&self, out: &mut fmt::Formatter) -> fmt::Result {
         writeln!(out, "sheets        {}", self.answers.iter().sum::<u64>())?;
+        for (number, count) in self.editions.iter().enumerate() {
+            writeln!(out, "edition {number:2}    {count}")?;
+        }
         writeln!(out, "accepted      {}", self.answers[0])?;
         for (number, count) in self.answers.iter().enumerate().skip(1) {
             writeln!(out, "refused {number:2}    {count}")?;
         }
         writeln!(out, "reserved (3)  {}", self.reserved)?;
+        writeln!(out, "keyword (3)   {}", self.keyword)?;
         writeln!(out, "not compared  {}", self.not_compared)?;
         writeln!(out, "sheet bytes   {}", self.sheet_bytes)?;
         let services = [
@@ -214,6 +240,10 @@ impl Display for Totals {
                 writeln!(out, "{bytes}{}", answers.bytes)?;
                 writeln!(out, "{longest}{}", answers.longest)?;
             }
+        }
+        if self.texts.calls > 0 {
+            writeln!(out, "both editions {}", self.both_editions)?;
+            writeln!(out, "one edition   {}", self.one_edition)?;
         }
         write!(out, "{}", self.features)
     }
