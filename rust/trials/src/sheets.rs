@@ -237,6 +237,17 @@ pub fn many_names() -> Sheet {
     sheet
 }
 
+/// The same with names of 8 small letters and underscores. Neither its length nor
+/// an end of it tells that such a name is no keyword.
+pub fn word_names() -> Sheet {
+    let mut sheet = many_names();
+    for (number, name) in (0..).zip(&mut sheet.names) {
+        let digits = [number / 676, number / 26 % 26, number % 26].map(|digit| b'a' + digit as u8);
+        *name = [&b"mill_"[..], &digits].concat();
+    }
+    sheet
+}
+
 /// The bytes of `functions(8)`, kept so that what is timed stays the same.
 pub const STORED_FUNCTIONS: &[u8] = include_bytes!("../../../vectors/bench/functions-8.sheet");
 

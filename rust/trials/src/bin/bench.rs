@@ -68,7 +68,7 @@ fn arguments() -> Option<(usize, bool)> {
 }
 
 /// A thousand sheets of at most 300 bytes, of edition 1, which accepts what
-/// edition 2 does: an archive of before editions can be timed too.
+/// edition 2 does.
 fn small() -> Vec<Vec<u8>> {
     let mut rng = Rng::new(1);
     let sheets = std::iter::repeat_with(|| encode(&generate::good(&mut rng)));
@@ -91,6 +91,11 @@ fn checks(runs: usize) -> Result<(), String> {
             vec![sheets::boundary("amplified")],
         ),
         ("1,023 names", one(sheets::many_names())),
+        ("1,023 names like keywords", one(sheets::word_names())),
+        (
+            "the same, edition 2",
+            vec![with_edition(&encode(&sheets::word_names()), 2)],
+        ),
         ("255 functions, 8 arguments", one(sheets::functions(8))),
         ("255 functions, 31 arguments", one(sheets::functions(31))),
         ("255 structs, 63 fields", one(sheets::dense())),
