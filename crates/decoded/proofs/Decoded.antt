@@ -20,7 +20,7 @@ use Rattle.format.specs.declared.TypeKind.the-variants as Kind
 use Rattle.format.specs.declared.ItemKind.{ItemKind}
 use Rattle.format.specs.declared.ItemKind.the-variants as Part
 use Rattle.format.specs.Limits.{lastEdition, mostBytes}
-use Rattle.format.specs.Decode.{Got, fault, got, Dec, pick, after, pure, many}
+use Rattle.format.specs.Decode.{Got, fault, got, Dec, pick, after, pure}
 use Rattle.format.specs.Bits.{bits}
 use Rattle.format.specs.Types.{Ty, atom, named, template, pointer, str, fn, array, Ret, none, gives, Tys, tys}
 use Rattle.format.specs.Sheet.{Name, Argument, Body, Item, Sheet}

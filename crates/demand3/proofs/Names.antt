@@ -51,7 +51,7 @@ module _ (rule : Name → Bool) (self : rule (bytes "self") ≡ true) (s : Sheet
       (declaration-names rule self s all x (k .names) f e g, shim-names rule self s all x (k .names) f e g)
 
   -- every name of a reading of the text keeps a rule that the sheet's names and `self` keep
-  text-names : (tree : Text) → Reading tree (text s) → every rule (namesOf tree) ≡ true
+  pub text-names : (tree : Text) → Reading tree (text s) → every rule (namesOf tree) ≡ true
   text-names =
       let named = each-kept-under rule (s .items) kept all in
       let P = KeptUnder rule (s .items) in

@@ -8,10 +8,11 @@ use std::collections::HashSet;
 pub struct Outcome {
     /// The check's answer.
     pub answer: u8,
-    /// Whether reserved identifiers are why, or keywords that C++20 added; the
-    /// crate, which knows of neither, is not asked about them.
+    /// Whether reserved identifiers are why, or keywords that C++20 added, or
+    /// either or both; the crate, which knows of neither, is not asked then.
     pub reserved: Blame,
     pub keyword: Blame,
+    pub orders: Blame,
     /// The crate's text and struct order, for an accepted sheet.
     pub text: Vec<u8>,
     pub order: Vec<u8>,
@@ -30,6 +31,7 @@ pub fn compare(bytes: &[u8]) -> Result<Outcome, String> {
         answer,
         reserved: Blame::reserved(bytes),
         keyword: Blame::keyword(bytes),
+        orders: Blame::orders(bytes),
         text: Vec::new(),
         order: Vec::new(),
     };

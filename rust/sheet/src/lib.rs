@@ -113,6 +113,12 @@ impl Blame {
         Self::of(|_, chars| name::is_name(1, chars), bytes)
     }
 
+    /// Either order or both, as a sheet with names of both sorts has it: by the
+    /// base rule of document 01.
+    pub fn orders(bytes: &[u8]) -> Self {
+        Self::of(|_, chars| name::is_base_name(chars), bytes)
+    }
+
     fn of(without: decode::NameRule, bytes: &[u8]) -> Self {
         if read(bytes) != Err(Refusal::BadName) {
             return Blame::No;

@@ -138,6 +138,19 @@ fn keywords_of_cxx20_are_3_in_edition_2() {
     assert!(only > 3_500, "{only}");
 }
 
+/// Names of both sorts in one sheet: neither order alone is why.
+#[test]
+fn a_reserved_identifier_and_a_keyword() {
+    let mut sheet = Sheet::empty();
+    sheet.edition = 2;
+    sheet.names = vec![b"a__b".to_vec(), b"concept".to_vec()];
+    let bytes = encode(&sheet);
+    assert_eq!(answer(&bytes), 3);
+    assert_eq!(Blame::reserved(&bytes), Blame::No);
+    assert_eq!(Blame::keyword(&bytes), Blame::No);
+    assert_eq!(Blame::orders(&bytes), Blame::Only);
+}
+
 /// Half of the sheets that `any` makes are of edition 2, and every edition
 /// occurs; enough are refused for a keyword of C++20 alone.
 #[test]

@@ -1,6 +1,6 @@
 //! The text of sheets whose types C++ can form compiles, with a small header in
-//! front: of edition 1 as C++17, of edition 2 as C++20 and as C++17. And the
-//! compilers have the keywords that C++20 added.
+//! front: of edition 1 as C++17, of edition 2 as C++20 and some as C++17 too. And
+//! the compilers have the keywords that C++20 added.
 
 use sheet::name::ADDED_KEYWORDS;
 use sheet::{EDITIONS, Rng};

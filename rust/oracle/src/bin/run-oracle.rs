@@ -12,9 +12,10 @@ const USAGE: &str = "usage: run-oracle [--count N] [--seed S]
 Generates N sheets (100000 unless given) from the seed (1 unless given), after
 some 400 fixed ones at the limits. Each goes through the check, the plain reader
 and back into bytes; each accepted one through the crate, both ways. Prints how
-many had which answer; of those refused 3, how many for a reserved identifier,
-and how many of edition 2 for a keyword that C++20 added; and of these, how many
-would be accepted but for it, so that only this keeps them from the crate.
+many had which answer; of those refused 3, how many for reserved identifiers
+alone, how many of edition 2 for keywords that C++20 added alone, and how many
+would be accepted but for either or both, so that only these keep them from the
+crate.
 
 Exit code: 0 all agree, 1 a disagreement or a panic (the sheet is printed as
 hex), 2 wrong use or no cxx-build source.";
@@ -83,10 +84,9 @@ impl Totals {
         let outcome = panic::catch_unwind(|| oracle::compare::compare(sheet))
             .map_err(|_| "a panic".to_string())??;
         self.answers[usize::from(outcome.answer)] += 1;
-        let blames = [outcome.reserved, outcome.keyword];
         self.reserved += u64::from(outcome.reserved != Blame::No);
         self.keyword += u64::from(outcome.keyword != Blame::No);
-        self.not_compared += u64::from(blames.contains(&Blame::Only));
+        self.not_compared += u64::from(outcome.orders == Blame::Only);
         self.sheet_bytes += sheet.len();
         self.text_bytes += outcome.text.len();
         self.longest_text = self.longest_text.max(outcome.text.len());

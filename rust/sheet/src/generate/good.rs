@@ -75,7 +75,7 @@ fn name_table(rng: &mut Rng, edition: u8, items: usize) -> Vec<Vec<u8>> {
         _ if items > 40 => items + rng.between(100, 400),
         _ => items + rng.between(3, 24),
     };
-    // One sheet of edition 1 in three has names that edition 2 refuses.
+    // One sheet of edition 1 in three may have names that edition 2 refuses.
     let older = edition == 1 && rng.one_in(3);
     let mut names: Vec<Vec<u8>> = Vec::new();
     for _ in 0..count {

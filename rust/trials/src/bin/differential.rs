@@ -23,11 +23,12 @@ each accepted sheet goes through all services once more under the other edition:
 where that accepts it, text and order must be the same.
 
 Half of the sheets are of edition 2, and a few of none that there is. Prints how
-many had which edition and which answer; of those refused 3, how many for a
-reserved identifier, and how many of edition 2 for a keyword that C++20 added; of
-these, how many would be accepted but for it, and so are not compared with the
-crate, only with a refusal; how many sheets both editions accept, and how many
-only edition 1 does; and, for the text, what occurred in the accepted ones.
+many had which edition and which answer; of those refused 3, how many for
+reserved identifiers alone, how many of edition 2 for keywords that C++20 added
+alone, and how many would be accepted but for either or both, and so are not
+compared with the crate, only with a refusal; how many sheets both editions
+accept, and how many only edition 1 does; and, for the text, what occurred in the
+accepted ones.
 
 With --margin 0 a buffer has nothing around it (64 bytes unless given), so that
 valgrind sees every byte too far.
@@ -138,8 +139,8 @@ struct Totals {
     answers: [u64; 13],
     /// By the first four bits.
     editions: [u64; 16],
-    /// Refused for a reserved identifier, for a keyword that C++20 added, and of
-    /// these accepted but for it.
+    /// Refused for reserved identifiers alone, for keywords that C++20 added
+    /// alone, and accepted but for either or both.
     reserved: u64,
     keyword: u64,
     not_compared: u64,
@@ -196,10 +197,9 @@ impl Totals {
             self.editions[usize::from(first >> 4)] += 1;
         }
         if answer == Refusal::BadName.number() {
-            let blames = [Blame::reserved(sheet), Blame::keyword(sheet)];
-            self.reserved += u64::from(blames[0] != Blame::No);
-            self.keyword += u64::from(blames[1] != Blame::No);
-            self.not_compared += u64::from(blames.contains(&Blame::Only));
+            self.reserved += u64::from(Blame::reserved(sheet) != Blame::No);
+            self.keyword += u64::from(Blame::keyword(sheet) != Blame::No);
+            self.not_compared += u64::from(Blame::orders(sheet) == Blame::Only);
         }
         self.sheet_bytes += sheet.len();
         Ok(())
