@@ -32,7 +32,7 @@ fn texts(seed: u64, files: usize) {
     for number in 0..files {
         for edition in EDITIONS {
             let path = file(&mut rng, edition, &format!("texts-{seed}-{number}"));
-            // g++ warns that a name of edition 1 is a keyword of the next standard.
+            // g++ 12.2 warns that `constinit` is a keyword of the next standard.
             let standards: &[&[&str]] = match edition {
                 1 => &[&[CXX_17, "-Wno-c++20-compat"]],
                 _ if number % 4 == 0 => &[&[CXX_20], &[CXX_17]],
