@@ -1,7 +1,7 @@
 -- Laws of bytes and lists of bytes.
-use mathlib.Core.Path.{_≡_, refl, ap₂}
+use mathlib.Core.Path.{_≡_, refl, sym, ap₂}
 use mathlib.Core.List.{List, [], _∷_, _++_, map}
-use mathlib.Core.Bool.{Bool, true, false, false≢true}
+use mathlib.Core.Bool.{Bool, true, false, _&&_, and-assoc, false≢true}
 use Prim.Native.Nat.{ℕ}
 use lib.Dec.{T, eqb, eqb→eq, eqb-refl}
 use Rattle.lexical.specs.Bytes.{elem, every, same, member}
@@ -69,6 +69,11 @@ module _ {A : Type 0} (test : A → Bool) where
   pub every-cons : (x : A) (xs : List A) → every test (x ∷ xs) ≡ true → (test x ≡ true) × (every test xs ≡ true)
   unfolding every
   every-cons x xs h = both (test x) (every test xs) h
+
+  pub every-both : (xs ys : List A) → every test (xs ++ ys) ≡ (every test xs && every test ys)
+  unfolding every
+  every-both [] ys = refl
+  every-both (x ∷ xs) ys = rw (every-both xs ys) (sym (and-assoc (test x) (every test xs) (every test ys)))
 
   pub every-append : (xs ys : List A) → every test xs ≡ true → every test ys ≡ true → every test (xs ++ ys) ≡ true
   unfolding every

@@ -1,3 +1,4 @@
 pub mod BoolLaws
 pub mod ByteLaws
+pub mod LaneLaws
 pub mod NameLaws

@@ -1,7 +1,7 @@
 -- Lists of bytes, quoted texts, and tests on both.
-use mathlib.Core.List.{List, [], _∷_}
+use mathlib.Core.List.{List, [], _∷_, _++_}
 use mathlib.Core.Bool.{Bool, true, false, _&&_, _||_}
-use Prim.Native.Nat.{ℕ}
+use Prim.Native.Nat.{ℕ, zero, suc, _/_, _%_}
 use Prim.Native.Char.{code}
 use Prim.Native.String as S
 use Prim.Native.String.{String}
@@ -37,3 +37,8 @@ same (c ∷ s) (d ∷ t) = eqb c d && same s t
 unfoldable pub member : List ℕ → List (List ℕ) → Bool
 member s [] = false
 member s (word ∷ words) = same s word || member s words
+
+-- the n characters that stand in a number, 7 bits each
+unfoldable pub charsIn : ℕ → ℕ → List ℕ
+charsIn zero x = []
+charsIn (suc n) x = charsIn n (x / 128) ++ ((x % 128) ∷ [])

@@ -1,0 +1,187 @@
+-- Laws of lanes: characters of 7 bits that stand in one number, tested at once.
+use mathlib.Core.Path.{_≡_, refl, sym, _∙_}
+use mathlib.Core.List.{List, [], _∷_, _++_}
+use mathlib.Core.Bool.{Bool, true, false, _&&_, _||_, not, and-true, and-false}
+use Prim.Native.Nat.{ℕ, zero, suc, _+_, _-_, _*_, _/_, _%_, _^_, _<_, _≤_}
+use native.Mathlib.Omega.{arith}
+use lib.Dec.{eqb}
+use lib.Pow.{split, high, low, pow-add, pow-mono, shr-lt}
+use lib.Bits.{bitAnd, bitOr, bitXor, and-block, or-block, xor-block, and-lt, or-lt, xor-lt, and-le-r}
+use borrow.Author.Tests.{eqb-true, eqb-false, eq-eqb, ne-eqb}
+use Rattle.lexical.specs.Bytes.{every, charsIn}
+use Rattle.lexical.specs.Names.{nameChar, underscore, starts, doubleUnderscore}
+use Rattle.lexical.proofs.BoolLaws.{both, by-cases}
+use Rattle.lexical.proofs.ByteLaws.{every-both}
+
+-- two functions agree below m, as computing shows
+abbrev pub agree : (f g : ℕ → ℕ) → ℕ → Bool
+agree f g zero = true
+agree f g (suc m) = eqb (f m) (g m) && agree f g m
+
+pub agreed : (f g : ℕ → ℕ) (m : ℕ) → agree f g m ≡ true → (c : ℕ) → c < m → f c ≡ g c
+agreed f g zero h c l = absurd (omega arith)
+agreed f g (suc m) h c l =
+    let q = both (eqb (f m) (g m)) (agree f g m) h in
+    by-cases (eqb c m) (λ e. rw (eqb-true c m e) (eqb-true (f m) (g m) (q .0)))
+    (λ e. agreed f g m (q .1) c (let d = eqb-false c m e in omega (arith, d)))
+
+-- n lanes that hold v each
+unfoldable pub lanes : ℕ → ℕ → ℕ
+lanes zero v = 0
+lanes (suc n) v = lanes n v * 128 + v
+
+lane : (v : ℕ) → lanes 1 v ≡ v
+unfolding lanes
+lane v = omega arith
+
+lane-more : (n v : ℕ) → lanes (suc n) v ≡ lanes n v * 128 + lanes 1 v
+unfolding lanes
+lane-more n v = omega arith
+
+-- what a lane scores: 64 where its test holds
+abbrev pub scoreLane : Bool → ℕ
+scoreLane true = 64
+scoreLane false = 0
+
+-- the first n of eight lanes
+lanes-shifted : (n : ℕ) → n < 9 → lanes 8 64 / 2 ^ (56 - 7 * n) ≡ lanes n 64
+unfolding lanes
+lanes-shifted = agreed (λ n. lanes 8 64 / 2 ^ (56 - 7 * n)) (λ n. lanes n 64) 9 refl
+
+-- all lanes are 64: the last, and those before it
+last-lane : (a l : ℕ) (b : Bool) → eqb (a * 128 + scoreLane b) (l * 128 + 64) ≡ (eqb a l && b)
+last-lane a l true =
+    by-cases (eqb a l) (λ e. rw (e, eqb-true a l e) (eq-eqb (l * 128 + 64) _ refl))
+    (λ e. rw e (ne-eqb (a * 128 + 64) (l * 128 + 64) (λ q. eqb-false a l e (omega arith))))
+last-lane a l false = rw (and-false (eqb a l)) (ne-eqb (a * 128 + 0) (l * 128 + 64) (λ q. omega arith))
+
+-- ---- what holds of the n last of m lanes, with 0 before them, lane by lane
+
+by-lanes : (P : ℕ → ℕ → ℕ → List ℕ → Type 0) → ((m : ℕ) → P 0 m 0 []) →
+    ((n m x c : ℕ) (cs : List ℕ) → c < 128 → P n m x cs → P (suc n) (suc m) (x * 128 + c) (cs ++ (c ∷ []))) →
+    (n m x : ℕ) → n ≤ m → x < 2 ^ (7 * n) → P n m x (charsIn n x)
+unfolding charsIn
+by-lanes P base step zero m x l h =
+    let z : x ≡ 0 = omega arith in
+    rw z (base m)
+by-lanes P base step (suc n) zero x l h = absurd (omega arith)
+by-lanes P base step (suc n) (suc m) x l h =
+    let z : 7 * suc n ≡ 7 * n + 7 = omega arith in
+    let c : x % 128 < 128 = omega arith in
+    rw (split x 7) at (step n m (x / 128) (x % 128) _ c (by-lanes P base step n m (x / 128) (omega arith) (shr-lt (7 * n) 7 (rw z at h))))
+
+-- ---- what is made of n lanes of x, each lane by itself
+
+pub record Apart (f : ℕ → ℕ → ℕ) : Type 0 where
+  pub fits : (c : ℕ) → c < 128 → f 1 c < 128
+  pub more : (n x c : ℕ) → c < 128 → f (suc n) (x * 128 + c) ≡ f n x * 128 + f 1 c
+
+module _ (op : ℕ → ℕ → ℕ) (lt : (k a b : ℕ) → a < 2 ^ k → b < 2 ^ k → op a b < 2 ^ k)
+    (block : (k a b r s : ℕ) → r < 2 ^ k → s < 2 ^ k → op (a * 2 ^ k + r) (b * 2 ^ k + s) ≡ op a b * 2 ^ k + op r s)
+    {f g : ℕ → ℕ → ℕ} (p : Apart f) (q : Apart g) where
+  apart-op : Apart (λ n x. op (f n x) (g n x))
+  apart-op = record {
+    fits = λ c l. lt 7 (f 1 c) (g 1 c) (p .fits c l) (q .fits c l);
+    more = λ n x c l. rw (p .more n x c l, q .more n x c l)
+        (block 7 (f n x) (g n x) (f 1 c) (g 1 c) (p .fits c l) (q .fits c l))
+  }
+
+pub apart-self : Apart (λ n x. x)
+apart-self = record { fits = λ c l. l; more = λ n x c l. refl }
+
+pub apart-all : (v : ℕ) → v < 128 → Apart (λ n x. lanes n v)
+unfolding lanes
+apart-all v h = record { fits = λ c l. omega arith; more = λ n x c l. omega arith }
+
+pub apart-and : {f g : ℕ → ℕ → ℕ} → Apart f → Apart g → Apart (λ n x. bitAnd (f n x) (g n x))
+apart-and = apart-op bitAnd and-lt and-block
+
+pub apart-or : {f g : ℕ → ℕ → ℕ} → Apart f → Apart g → Apart (λ n x. bitOr (f n x) (g n x))
+apart-or = apart-op bitOr or-lt or-block
+
+pub apart-xor : {f g : ℕ → ℕ → ℕ} → Apart f → Apart g → Apart (λ n x. bitXor (f n x) (g n x))
+apart-xor = apart-op bitXor xor-lt xor-block
+
+-- the low bits of a mask, and a sum that does not carry
+pub apart-sum : (m v : ℕ) → m + v < 128 → Apart (λ n x. bitAnd x (lanes n m) + lanes n v)
+unfolding lanes
+apart-sum m v h =
+    let p = apart-and apart-self (apart-all m (omega arith)) in
+    record {
+      fits = λ c l. omega (arith, and-le-r c (lanes 1 m));
+      more = λ n x c l. omega (arith, p .more n x c l)
+    }
+
+-- ---- marks: 64 in each lane that passes a test, else 0
+
+module _ {marks : ℕ → ℕ → ℕ} (test : ℕ → Bool) (p : Apart marks) (none : marks 0 0 ≡ 0) (zeros : test 0 ≡ false)
+    (is : (c : ℕ) → c < 128 → marks 1 c ≡ scoreLane (test c)) where
+  pub marks-none : (n : ℕ) → marks n 0 ≡ 0
+  marks-none zero = none
+  marks-none (suc n) = rw (p .more n 0 0 (omega arith), marks-none n, is 0 (omega arith), zeros)
+
+  -- at most eight characters pass the test
+  pub few-lanes : (n x : ℕ) → n ≤ 8 → x < 2 ^ (7 * n) →
+      eqb (marks 8 x) (lanes 8 64 / 2 ^ (56 - 7 * n)) ≡ every test (charsIn n x)
+  unfolding lanes every
+  few-lanes n x l h =
+      rw (lanes-shifted n (omega arith))
+      (by-lanes (λ n m x cs. eqb (marks m x) (lanes n 64) ≡ every test cs) (λ m. eq-eqb (marks m 0) 0 (marks-none m))
+        (λ n m x c cs k ih. rw (
+            p .more m x c k,
+            is c k,
+            last-lane (marks m x) (lanes n 64) (test c),
+            ih,
+            every-both test cs (c ∷ []),
+            and-true (test c),
+          )) n 8 x l h)
+
+-- ---- the characters of a name
+
+-- what the code makes of the n lanes of x: the low bits of each, and by which of two sums they reach 64
+abbrev pub between : ℕ → ℕ → ℕ → ℕ → ℕ → ℕ
+between m v w n x = bitXor (bitAnd x (lanes n m) + lanes n v) (bitAnd x (lanes n m) + lanes n w)
+
+unfoldable pub nameMarks : ℕ → ℕ → ℕ
+nameMarks n x =
+    let letters = between 31 63 37 n x in
+    let scores = between 63 33 32 n x in
+    let digits = between 63 16 6 n x in
+    bitAnd (bitXor digits (bitAnd (bitXor (bitOr letters scores) digits) x)) (lanes n 64)
+
+unfoldable pub scoreMarks : ℕ → ℕ → ℕ
+scoreMarks n x = bitAnd (bitAnd (between 63 33 32 n x) x) (lanes n 64)
+
+apart-between : (m v w : ℕ) → m + v < 128 → m + w < 128 → Apart (between m v w)
+apart-between m v w h k = apart-xor (apart-sum m v h) (apart-sum m w k)
+
+apart-scores : Apart (between 63 33 32)
+apart-scores = apart-between 63 33 32 (omega arith) (omega arith)
+
+apart-digits : Apart (between 63 16 6)
+apart-digits = apart-between 63 16 6 (omega arith) (omega arith)
+
+name-apart : Apart nameMarks
+unfolding nameMarks
+name-apart =
+    let letters = apart-between 31 63 37 (omega arith) (omega arith) in
+    let chosen = apart-and (apart-xor (apart-or letters apart-scores) apart-digits) apart-self in
+    apart-and (apart-xor apart-digits chosen) (apart-all 64 (omega arith))
+
+score-apart : Apart scoreMarks
+unfolding scoreMarks
+score-apart = apart-and (apart-and apart-scores apart-self) (apart-all 64 (omega arith))
+
+-- a lane by itself
+name-is : (c : ℕ) → c < 128 → nameMarks 1 c ≡ scoreLane (nameChar c)
+unfolding nameMarks lanes
+name-is = agreed (nameMarks 1) (λ c. scoreLane (nameChar c)) 128 refl
+
+score-is : (c : ℕ) → c < 128 → scoreMarks 1 c ≡ scoreLane (underscore c)
+unfolding scoreMarks lanes
+score-is = agreed (scoreMarks 1) (λ c. scoreLane (underscore c)) 128 refl
+
+pub all-names : (n x : ℕ) → n ≤ 8 → x < 2 ^ (7 * n) →
+    eqb (nameMarks 8 x) (lanes 8 64 / 2 ^ (56 - 7 * n)) ≡ every nameChar (charsIn n x)
+unfolding nameMarks lanes
+all-names = few-lanes nameChar name-apart refl refl name-is
