@@ -1,8 +1,9 @@
 -- Laws of lanes: characters of 7 bits that stand in one number, tested at once.
 use mathlib.Core.Path.{_≡_, refl, sym, _∙_}
 use mathlib.Core.List.{List, [], _∷_, _++_}
-use mathlib.Core.Bool.{Bool, true, false, _&&_, _||_, not, and-true, and-false}
+use mathlib.Core.Bool.{Bool, true, false, _&&_, _||_, not, and-true, and-false, or-false, or-assoc}
 use Prim.Native.Nat.{ℕ, zero, suc, _+_, _-_, _*_, _/_, _%_, _^_, _<_, _≤_}
+use native.Mathlib.Nat.{mul-assoc}
 use native.Mathlib.Omega.{arith}
 use lib.Dec.{eqb}
 use lib.Pow.{split, high, low, pow-add, pow-mono, shr-lt}
@@ -83,7 +84,7 @@ module _ (op : ℕ → ℕ → ℕ) (lt : (k a b : ℕ) → a < 2 ^ k → b < 2 
   apart-op = record {
     fits = λ c l. lt 7 (f 1 c) (g 1 c) (p .fits c l) (q .fits c l);
     more = λ n x c l. rw (p .more n x c l, q .more n x c l)
-        (block 7 (f n x) (g n x) (f 1 c) (g 1 c) (p .fits c l) (q .fits c l))
+        (block 7 (f n x) (g n x) (f 1 c) (g 1 c) (p .fits c l) (q .fits c l));
   }
 
 pub apart-self : Apart (λ n x. x)
@@ -109,7 +110,7 @@ apart-sum m v h =
     let p = apart-and apart-self (apart-all m (omega arith)) in
     record {
       fits = λ c l. omega (arith, and-le-r c (lanes 1 m));
-      more = λ n x c l. omega (arith, p .more n x c l)
+      more = λ n x c l. omega (arith, p .more n x c l);
     }
 
 -- ---- marks: 64 in each lane that passes a test, else 0
@@ -127,14 +128,14 @@ module _ {marks : ℕ → ℕ → ℕ} (test : ℕ → Bool) (p : Apart marks) (
   few-lanes n x l h =
       rw (lanes-shifted n (omega arith))
       (by-lanes (λ n m x cs. eqb (marks m x) (lanes n 64) ≡ every test cs) (λ m. eq-eqb (marks m 0) 0 (marks-none m))
-        (λ n m x c cs k ih. rw (
-            p .more m x c k,
-            is c k,
-            last-lane (marks m x) (lanes n 64) (test c),
-            ih,
-            every-both test cs (c ∷ []),
-            and-true (test c),
-          )) n 8 x l h)
+      (λ n m x c cs k ih. rw (
+        p .more m x c k,
+        is c k,
+        last-lane (marks m x) (lanes n 64) (test c),
+        ih,
+        every-both test cs (c ∷ []),
+        and-true (test c),
+      )) n 8 x l h)
 
 -- ---- the characters of a name
 
@@ -185,3 +186,124 @@ pub all-names : (n x : ℕ) → n ≤ 8 → x < 2 ^ (7 * n) →
     eqb (nameMarks 8 x) (lanes 8 64 / 2 ^ (56 - 7 * n)) ≡ every nameChar (charsIn n x)
 unfolding nameMarks lanes
 all-names = few-lanes nameChar name-apart refl refl name-is
+
+-- ---- underscores, with the character before the lanes
+
+abbrev pub scoreChar : Bool → ℕ
+scoreChar true = 95
+scoreChar false = 0
+
+-- the last character is an underscore; b: the one before the list is
+unfoldable pub lastScore : Bool → List ℕ → Bool
+lastScore b [] = b
+lastScore b (c ∷ cs) = lastScore (underscore c) cs
+
+char-score : (b : Bool) → underscore (scoreChar b) ≡ b
+char-score true = refl
+char-score false = refl
+
+last-more : (b : Bool) (cs : List ℕ) (c : ℕ) → lastScore b (cs ++ (c ∷ [])) ≡ underscore c
+unfolding lastScore
+last-more b [] c = refl
+last-more b (d ∷ cs) c = last-more (underscore d) cs c
+
+double-more : (d : ℕ) (cs : List ℕ) (c : ℕ) →
+    doubleUnderscore (d ∷ (cs ++ (c ∷ []))) ≡ (doubleUnderscore (d ∷ cs) || (lastScore (underscore d) cs && underscore c))
+unfolding doubleUnderscore lastScore
+double-more d [] c = rw (and-false (underscore c), and-false (underscore d), or-false (underscore d && underscore c))
+double-more d (e ∷ cs) c = rw (double-more e cs c) (sym (or-assoc (underscore d && underscore e) _ _))
+
+not-either : (a b : Bool) → not (a || b) ≡ (not a && not b)
+not-either true b = refl
+not-either false b = refl
+
+score-lt : (b : Bool) → scoreLane b < 128
+score-lt true = omega arith
+score-lt false = omega arith
+
+score-times : (b : Bool) (k : ℕ) → scoreLane b * k ≤ 64 * k
+score-times true k = omega arith
+score-times false k = omega arith
+
+score-none : (b : Bool) → eqb (scoreLane b) 0 ≡ not b
+score-none true = refl
+score-none false = refl
+
+score-both : (a b : Bool) → bitAnd (scoreLane b) (scoreLane a) ≡ scoreLane (a && b)
+score-both true true = refl
+score-both true false = refl
+score-both false true = refl
+score-both false false = refl
+
+-- no lane is 64: the last, and those before it
+none-lane : (a : ℕ) (b : Bool) → eqb (a * 128 + scoreLane b) 0 ≡ (eqb a 0 && not b)
+none-lane a true = rw (and-false (eqb a 0)) (ne-eqb (a * 128 + 64) 0 (λ q. omega arith))
+none-lane a false =
+    by-cases (eqb a 0) (λ e. rw (e, eqb-true a 0 e))
+    (λ e. rw e (ne-eqb (a * 128 + 0) 0 (λ q. eqb-false a 0 e (omega arith))))
+
+-- two lanes in a row that are 64: the last two, or two before them
+double-lane : (u : ℕ) (p q : Bool) → u % 128 ≡ scoreLane p →
+    eqb (bitAnd (u * 128 + scoreLane q) u) 0 ≡ (eqb (bitAnd u (u / 128)) 0 && not (p && q))
+double-lane u p q e =
+    let h : u % 128 < 128 = omega arith in
+    let s = rw (split u 7) at (and-block 7 u (u / 128) (scoreLane q) (u % 128) (score-lt q) h) in
+    rw (s, e, score-both p q) (none-lane (bitAnd u (u / 128)) (p && q))
+
+module _ (b : Bool) where
+  -- the underscores of m lanes, and of the character before the last n
+  abbrev scored : ℕ → ℕ → ℕ → ℕ
+  scored n m x = scoreMarks m x + scoreLane b * 2 ^ (7 * n)
+
+  scored-more : (n m x c : ℕ) → c < 128 →
+      scored (suc n) (suc m) (x * 128 + c) ≡ scored n m x * 128 + scoreLane (underscore c)
+  scored-more n m x c l =
+      let z : 7 * suc n ≡ 7 * n + 7 = omega arith in
+      rw (score-apart .more m x c l, score-is c l, z, pow-add 2 (7 * n) 7)
+      (omega (arith, mul-assoc (scoreLane b) (2 ^ (7 * n)) 128))
+
+  abbrev Scored : ℕ → ℕ → ℕ → List ℕ → Type 0
+  Scored n m x cs =
+      (scored n m x % 128 ≡ scoreLane (lastScore b cs)) ×
+      (eqb (bitAnd (scored n m x) (scored n m x / 128)) 0 ≡ not (doubleUnderscore (scoreChar b ∷ cs)))
+
+  scored-step : (n m x c : ℕ) (cs : List ℕ) → c < 128 → Scored n m x cs →
+      Scored (suc n) (suc m) (x * 128 + c) (cs ++ (c ∷ []))
+  scored-step n m x c cs l h =
+      let u = scored n m x in
+      rw (
+        scored-more n m x c l,
+        high u 7 (score-lt (underscore c)),
+        low u 7 (score-lt (underscore c)),
+        last-more b cs c,
+        double-more (scoreChar b) cs c,
+        char-score b,
+        not-either (doubleUnderscore (scoreChar b ∷ cs)) (lastScore b cs && underscore c),
+        ← h .1,
+      ) (refl, double-lane u (lastScore b cs) (underscore c) (h .0))
+
+scores-none : (m : ℕ) → scoreMarks m 0 ≡ 0
+unfolding scoreMarks lanes
+scores-none = marks-none underscore score-apart refl refl score-is
+
+scored-none : (b : Bool) (m : ℕ) → Scored b 0 m 0 []
+unfolding lastScore doubleUnderscore
+scored-none true m = rw (scores-none m) (refl, refl)
+scored-none false m = rw (scores-none m) (refl, refl)
+
+scored-all : (b : Bool) (n m x : ℕ) → n ≤ m → x < 2 ^ (7 * n) → Scored b n m x (charsIn n x)
+scored-all b = by-lanes (Scored b) (scored-none b) (scored-step b)
+
+module _ (b : Bool) (n x : ℕ) {u : ℕ} (e : u ≡ scoreMarks 8 x + scoreLane b * 2 ^ (7 * n)) (l : n ≤ 8) where
+  pub scores-double : x < 2 ^ (7 * n) → eqb (bitAnd u (u / 2 ^ 7)) 0 ≡ not (doubleUnderscore (scoreChar b ∷ charsIn n x))
+  scores-double h = rw e (scored-all b n 8 x l h .1)
+
+  pub scores-last : x < 2 ^ (7 * n) → eqb (u % 128) 0 ≡ not (lastScore b (charsIn n x))
+  scores-last h = rw (e, scored-all b n 8 x l h .0) (score-none (lastScore b (charsIn n x)))
+
+  pub scores-fit : u < 2 ^ 63
+  unfolding scoreMarks lanes
+  scores-fit =
+      let p : 7 * n ≤ 56 = omega arith in
+      let q = and-le-r (bitAnd (between 63 33 32 8 x) x) (lanes 8 64) in
+      omega (arith, q, score-times b (2 ^ (7 * n)), pow-mono p)
