@@ -1,5 +1,5 @@
 -- Laws of lanes: characters of 7 bits that stand in one number, tested at once.
-use mathlib.Core.Path.{_≡_, refl, sym, _∙_}
+use mathlib.Core.Path.{_≡_, refl, sym}
 use mathlib.Core.List.{List, [], _∷_, _++_}
 use mathlib.Core.Bool.{Bool, true, false, _&&_, _||_, not, and-true, and-false, or-false, or-assoc}
 use Prim.Native.Nat.{ℕ, zero, suc, _+_, _-_, _*_, _/_, _%_, _^_, _<_, _≤_}
@@ -10,7 +10,7 @@ use lib.Pow.{split, high, low, pow-add, pow-mono, shr-lt}
 use lib.Bits.{bitAnd, bitOr, bitXor, and-block, or-block, xor-block, and-lt, or-lt, xor-lt, and-le-r}
 use borrow.Author.Tests.{eqb-true, eqb-false, eq-eqb, ne-eqb}
 use Rattle.lexical.specs.Bytes.{every, charsIn}
-use Rattle.lexical.specs.Names.{nameChar, underscore, starts, doubleUnderscore}
+use Rattle.lexical.specs.Names.{nameChar, underscore, doubleUnderscore}
 use Rattle.lexical.proofs.BoolLaws.{both, by-cases}
 use Rattle.lexical.proofs.ByteLaws.{every-both}
 
@@ -30,14 +30,6 @@ agreed f g (suc m) h c l =
 unfoldable pub lanes : ℕ → ℕ → ℕ
 lanes zero v = 0
 lanes (suc n) v = lanes n v * 128 + v
-
-lane : (v : ℕ) → lanes 1 v ≡ v
-unfolding lanes
-lane v = omega arith
-
-lane-more : (n v : ℕ) → lanes (suc n) v ≡ lanes n v * 128 + lanes 1 v
-unfolding lanes
-lane-more n v = omega arith
 
 -- what a lane scores: 64 where its test holds
 abbrev pub scoreLane : Bool → ℕ
@@ -69,7 +61,8 @@ by-lanes P base step (suc n) zero x l h = absurd (omega arith)
 by-lanes P base step (suc n) (suc m) x l h =
     let z : 7 * suc n ≡ 7 * n + 7 = omega arith in
     let c : x % 128 < 128 = omega arith in
-    rw (split x 7) at (step n m (x / 128) (x % 128) _ c (by-lanes P base step n m (x / 128) (omega arith) (shr-lt (7 * n) 7 (rw z at h))))
+    let before = by-lanes P base step n m (x / 128) (omega arith) (shr-lt (7 * n) 7 (rw z at h)) in
+    rw (split x 7) at (step n m (x / 128) (x % 128) _ c before)
 
 -- ---- what is made of n lanes of x, each lane by itself
 
@@ -103,7 +96,7 @@ apart-or = apart-op bitOr or-lt or-block
 pub apart-xor : {f g : ℕ → ℕ → ℕ} → Apart f → Apart g → Apart (λ n x. bitXor (f n x) (g n x))
 apart-xor = apart-op bitXor xor-lt xor-block
 
--- the low bits of a mask, and a sum that does not carry
+-- the bits of a mask, and a sum that carries into no other lane
 pub apart-sum : (m v : ℕ) → m + v < 128 → Apart (λ n x. bitAnd x (lanes n m) + lanes n v)
 unfolding lanes
 apart-sum m v h =
@@ -121,11 +114,11 @@ module _ {marks : ℕ → ℕ → ℕ} (test : ℕ → Bool) (p : Apart marks) (
   marks-none zero = none
   marks-none (suc n) = rw (p .more n 0 0 (omega arith), marks-none n, is 0 (omega arith), zeros)
 
-  -- at most eight characters pass the test
-  pub few-lanes : (n x : ℕ) → n ≤ 8 → x < 2 ^ (7 * n) →
+  -- n characters, at most eight, pass the test
+  pub lanes-pass : (n x : ℕ) → n ≤ 8 → x < 2 ^ (7 * n) →
       eqb (marks 8 x) (lanes 8 64 / 2 ^ (56 - 7 * n)) ≡ every test (charsIn n x)
   unfolding lanes every
-  few-lanes n x l h =
+  lanes-pass n x l h =
       rw (lanes-shifted n (omega arith))
       (by-lanes (λ n m x cs. eqb (marks m x) (lanes n 64) ≡ every test cs) (λ m. eq-eqb (marks m 0) 0 (marks-none m))
       (λ n m x c cs k ih. rw (
@@ -139,10 +132,11 @@ module _ {marks : ℕ → ℕ → ℕ} (test : ℕ → Bool) (p : Apart marks) (
 
 -- ---- the characters of a name
 
--- what the code makes of the n lanes of x: the low bits of each, and by which of two sums they reach 64
+-- the high bit of each lane: whether its bits of the mask m reach 64 with v and not with w
 abbrev pub between : ℕ → ℕ → ℕ → ℕ → ℕ → ℕ
 between m v w n x = bitXor (bitAnd x (lanes n m) + lanes n v) (bitAnd x (lanes n m) + lanes n w)
 
+-- what the code makes of the n lanes of x: letters, digits and underscores
 unfoldable pub nameMarks : ℕ → ℕ → ℕ
 nameMarks n x =
     let letters = between 31 63 37 n x in
@@ -150,6 +144,7 @@ nameMarks n x =
     let digits = between 63 16 6 n x in
     bitAnd (bitXor digits (bitAnd (bitXor (bitOr letters scores) digits) x)) (lanes n 64)
 
+-- underscores
 unfoldable pub scoreMarks : ℕ → ℕ → ℕ
 scoreMarks n x = bitAnd (bitAnd (between 63 33 32 n x) x) (lanes n 64)
 
@@ -185,7 +180,7 @@ score-is = agreed (scoreMarks 1) (λ c. scoreLane (underscore c)) 128 refl
 pub all-names : (n x : ℕ) → n ≤ 8 → x < 2 ^ (7 * n) →
     eqb (nameMarks 8 x) (lanes 8 64 / 2 ^ (56 - 7 * n)) ≡ every nameChar (charsIn n x)
 unfolding nameMarks lanes
-all-names = few-lanes nameChar name-apart refl refl name-is
+all-names = lanes-pass nameChar name-apart refl refl name-is
 
 -- ---- underscores, with the character before the lanes
 

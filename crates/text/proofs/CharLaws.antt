@@ -10,6 +10,7 @@ use lib.ListN.{length, take, set, length-set}
 use lib.Pow.{high, low}
 use lib.Seq.{take-suc-set, take-take, take-at}
 use borrow.Author.Tests.{leb-true, leb-false}
+use Rattle.lexical.specs.Bytes.{charsIn}
 use Rattle.refusal.specs.declared.Refusal.the-variants.{CutSheet}
 use Rattle.format.specs.Decode.{fault, got, pick, many}
 use Rattle.format.specs.Bits.{bitsAt, bits}
@@ -59,6 +60,22 @@ module _ (s : List ℕ) where
   pub chars-more : (at n : ℕ) → charsAt s at (n + 1) ≡ charsAt s at n ++ (bitsAt s (at + 7 * n) 7 ∷ [])
   unfolding charsAt
   chars-more at n = chars-split at n 1
+
+  -- they are those that stand in the number of their bits
+  pub chars-in : (at n : ℕ) → charsAt s at n ≡ charsIn n (bitsAt s at (7 * n))
+  unfolding charsAt charsIn
+  chars-in at zero = refl
+  chars-in at (suc n) =
+      let z : 7 * suc n ≡ 7 * n + 7 = omega arith in
+      let h = bits-lt s (at + 7 * n) 7 in
+      rw (
+        rw (add-one n) at (chars-more at n),
+        z,
+        bits-split s at (7 * n) 7,
+        high (bitsAt s at (7 * n)) 7 h,
+        low (bitsAt s at (7 * n)) 7 h,
+        chars-in at n,
+      )
 
   pub chars-length : (at n : ℕ) → length (charsAt s at n) ≡ n
   unfolding charsAt

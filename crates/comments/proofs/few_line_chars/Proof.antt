@@ -1,8 +1,9 @@
--- Written by tools/proofkit from answers/few_line_chars.tpl (c4638200 ae7a1751).
+-- Written by tools/proofkit from answers/few_line_chars.tpl (45e4ab88 bc0f694e).
 use borrow.Author.Needs.{needs}
 use native.Mathlib.Omega.{arith}
 use lib.Bits.{and-le-r}
-use Rattle.comments.proofs.LineLaws.{lanes, marks, few-lanes}
+use Rattle.lexical.proofs.LaneLaws.{lanes}
+use Rattle.comments.proofs.LineLaws.{marks, few-lanes}
 use Rattle.comments.proofs.few_line_chars.Statement.{statement}
 use Rattle.comments.proofs.few_line_chars.Tie as tie
 
