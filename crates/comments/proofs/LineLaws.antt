@@ -10,8 +10,8 @@ use lib.Bits.{bitAnd, bitOr, bitXor}
 use lib.Seq.{getD-at}
 use Rattle.lexical.specs.Bytes.{within, every}
 use Rattle.lexical.proofs.ByteLaws.{every-both}
-use Rattle.lexical.proofs.LaneLaws.{agreed, lanes, scoreLane, Apart, apart-self, apart-all, apart-and, apart-or, apart-xor}
-use Rattle.lexical.proofs.LaneLaws.{apart-sum, lanes-pass}
+use Rattle.lexical.proofs.LaneLaws.{agreed, lanes, scoreLane, Apart, apart-self, apart-all, apart-and, apart-or}
+use Rattle.lexical.proofs.LaneLaws.{apart-xor, apart-sum, lanes-pass}
 use Rattle.refusal.specs.declared.Refusal.the-variants.{CutSheet, BadComment}
 use Rattle.format.specs.Decode.{got, pick}
 use Rattle.format.specs.Bits.{bitsAt, bits}

@@ -31,7 +31,7 @@ unfoldable pub lanes : ℕ → ℕ → ℕ
 lanes zero v = 0
 lanes (suc n) v = lanes n v * 128 + v
 
--- what a lane scores: 64 where its test holds
+-- what a lane scores: 64 where its test holds, else 0
 abbrev pub scoreLane : Bool → ℕ
 scoreLane true = 64
 scoreLane false = 0
@@ -184,6 +184,7 @@ all-names = lanes-pass nameChar name-apart refl refl name-is
 
 -- ---- underscores, with the character before the lanes
 
+-- an underscore, or another character
 abbrev pub scoreChar : Bool → ℕ
 scoreChar true = 95
 scoreChar false = 0
@@ -202,8 +203,8 @@ unfolding lastScore
 last-more b [] c = refl
 last-more b (d ∷ cs) c = last-more (underscore d) cs c
 
-double-more : (d : ℕ) (cs : List ℕ) (c : ℕ) →
-    doubleUnderscore (d ∷ (cs ++ (c ∷ []))) ≡ (doubleUnderscore (d ∷ cs) || (lastScore (underscore d) cs && underscore c))
+double-more : (d : ℕ) (cs : List ℕ) (c : ℕ) → doubleUnderscore (d ∷ (cs ++ (c ∷ []))) ≡
+    (doubleUnderscore (d ∷ cs) || (lastScore (underscore d) cs && underscore c))
 unfolding doubleUnderscore lastScore
 double-more d [] c = rw (and-false (underscore c), and-false (underscore d), or-false (underscore d && underscore c))
 double-more d (e ∷ cs) c = rw (double-more e cs c) (sym (or-assoc (underscore d && underscore e) _ _))
@@ -257,6 +258,7 @@ module _ (b : Bool) where
       rw (score-apart .more m x c l, score-is c l, z, pow-add 2 (7 * n) 7)
       (omega (arith, mul-assoc (scoreLane b) (2 ^ (7 * n)) 128))
 
+  -- the last lane tells of the last character, and two lanes in a row of two underscores in a row
   abbrev Scored : ℕ → ℕ → ℕ → List ℕ → Type 0
   Scored n m x cs =
       (scored n m x % 128 ≡ scoreLane (lastScore b cs)) ×
@@ -290,7 +292,8 @@ scored-all : (b : Bool) (n m x : ℕ) → n ≤ m → x < 2 ^ (7 * n) → Scored
 scored-all b = by-lanes (Scored b) (scored-none b) (scored-step b)
 
 module _ (b : Bool) (n x : ℕ) {u : ℕ} (e : u ≡ scoreMarks 8 x + scoreLane b * 2 ^ (7 * n)) (l : n ≤ 8) where
-  pub scores-double : x < 2 ^ (7 * n) → eqb (bitAnd u (u / 2 ^ 7)) 0 ≡ not (doubleUnderscore (scoreChar b ∷ charsIn n x))
+  pub scores-double : x < 2 ^ (7 * n) →
+      eqb (bitAnd u (u / 2 ^ 7)) 0 ≡ not (doubleUnderscore (scoreChar b ∷ charsIn n x))
   scores-double h = rw e (scored-all b n 8 x l h .1)
 
   pub scores-last : x < 2 ^ (7 * n) → eqb (u % 128) 0 ≡ not (lastScore b (charsIn n x))
