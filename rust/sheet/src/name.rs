@@ -30,6 +30,31 @@ pub const ALTERNATIVE_TOKENS: [&str; 11] = [
     "xor_eq",
 ];
 
+/// The keywords of an edition's table and the alternative tokens: 84 words in
+/// edition 1, 92 in edition 2.
+pub fn words(edition: u8) -> impl Iterator<Item = &'static str> {
+    let added: &[&str] = match edition {
+        2 => &ADDED_KEYWORDS,
+        _ => &[],
+    };
+    let words = KEYWORDS.iter().chain(added).chain(&ALTERNATIVE_TOKENS);
+    words.copied()
+}
+
+/// Whether one character changed, dropped or added makes one of the other.
+pub fn is_near(one: &[u8], two: &[u8]) -> bool {
+    let mut both = one.iter().zip(two);
+    let same = both.position(|(one, two)| one != two);
+    let same = same.unwrap_or(one.len().min(two.len()));
+    match (&one[same..], &two[same..]) {
+        (one @ [_, one_rest @ ..], two @ [_, two_rest @ ..]) => {
+            one_rest == two_rest || one_rest == two || one == two_rest
+        }
+        ([_], []) | ([], [_]) => true,
+        _ => false,
+    }
+}
+
 /// The name rule of a sheet of this edition: a letter or underscore, then
 /// letters, digits or underscores; no keyword of the edition's table and no
 /// alternative token; no identifier that C++ reserves. Any edition but 2 has the
@@ -160,6 +185,43 @@ mod tests {
         assert!(WORDS_17.is_sorted_by(|a, b| a < b));
         assert!(WORDS_20.is_sorted_by(|a, b| a < b));
         assert!(WORDS_17.iter().all(|word| WORDS_20.contains(word)));
+    }
+
+    #[test]
+    fn words_of_each_edition() {
+        for (edition, table) in [(1, &WORDS_17[..]), (2, &WORDS_20)] {
+            let mut words: Vec<u128> = words(edition).map(|word| pack(word.as_bytes())).collect();
+            words.sort();
+            assert_eq!(words, table);
+        }
+    }
+
+    #[test]
+    fn near_words() {
+        for (one, two) in [
+            ("int", "in"),
+            ("int", "nt"),
+            ("int", "it"),
+            ("int", "ant"),
+            ("int", "iNt"),
+            ("int", "inq"),
+            ("a", ""),
+            ("aab", "ab"),
+        ] {
+            assert!(is_near(one.as_bytes(), two.as_bytes()), "{one} {two}");
+            assert!(is_near(two.as_bytes(), one.as_bytes()), "{one} {two}");
+        }
+        for (one, two) in [
+            ("int", "int"),
+            ("int", "i"),
+            ("int", "tni"),
+            ("int", "intab"),
+            ("int", "xin"),
+            ("", ""),
+        ] {
+            assert!(!is_near(one.as_bytes(), two.as_bytes()), "{one} {two}");
+            assert!(!is_near(two.as_bytes(), one.as_bytes()), "{one} {two}");
+        }
     }
 
     #[test]

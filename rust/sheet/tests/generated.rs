@@ -3,7 +3,7 @@
 use sheet::generate::{
     any, boundaries, damaged, faulty, good, graph, keyword, put_keyword, reserve, reserved,
 };
-use sheet::name::{ADDED_KEYWORDS, is_base_name, is_name, is_reserved_shape};
+use sheet::name::{ADDED_KEYWORDS, is_base_name, is_name, is_near, is_reserved_shape, words};
 use sheet::{
     Blame, EDITIONS, Kind, Refusal, Rng, Sheet, Type, check, decode, decode_base, desc, encode,
     limit, read, with_edition,
@@ -149,6 +149,34 @@ fn a_reserved_identifier_and_a_keyword() {
     assert_eq!(Blame::reserved(&bytes), Blame::No);
     assert_eq!(Blame::keyword(&bytes), Blame::No);
     assert_eq!(Blame::orders(&bytes), Blame::Only);
+}
+
+/// Of the sheets that `any` makes enough are accepted with names that come close
+/// to keywords: to each one of their edition.
+#[test]
+fn names_near_keywords() {
+    let mut rng = Rng::new(14);
+    let mut near = [(); 2].map(|()| HashSet::new());
+    let mut hit = [(); 2].map(|()| HashSet::new());
+    for _ in 0..20_000 {
+        let Ok(sheet) = read(&any(&mut rng)) else {
+            continue;
+        };
+        let at = usize::from(sheet.edition) - 1;
+        for name in sheet.names {
+            let words = words(sheet.edition);
+            let words: Vec<&str> = words
+                .filter(|word| is_near(&name, word.as_bytes()))
+                .collect();
+            if !words.is_empty() {
+                hit[at].extend(words);
+                near[at].insert(name);
+            }
+        }
+    }
+    assert_eq!(hit.map(|words| words.len()), [84, 92]);
+    let near = near.map(|names| names.len());
+    assert!(near.iter().all(|count| *count > 1_000), "{near:?}");
 }
 
 /// Half of the sheets that `any` makes are of edition 2, and every edition

@@ -1,12 +1,17 @@
 //! What occurs in the sheets of a run, so that a report can say so.
 
-use sheet::name::ADDED_KEYWORDS;
+use sheet::name::{ADDED_KEYWORDS, is_near, words};
 use sheet::{Form, Function, Item, Kind, RUST_STRING, Sheet, Type, indirect, limit};
+use std::collections::BTreeSet;
 use std::fmt::{self, Display};
 
 /// How many of each were in the sheets.
 #[derive(Default)]
-pub struct Features(Vec<(&'static str, u64)>);
+pub struct Features {
+    counts: Vec<(&'static str, u64)>,
+    /// In edition 1 and 2, the keywords from which a name differs in a character.
+    near: [BTreeSet<&'static str>; 2],
+}
 
 impl Features {
     pub fn count(&mut self, sheet: &Sheet) {
@@ -16,6 +21,7 @@ impl Features {
         self.add("sheets of edition 1", sheet.edition == 1);
         self.add("sheets of edition 2", sheet.edition == 2);
         self.add("sheets with a keyword of C++20 as a name", older);
+        self.names(sheet);
         self.add("sheets with the header bit", sheet.header);
         self.add("sheets with the Doxygen bit", sheet.doxygen);
         self.add("sheets with both", sheet.header && sheet.doxygen);
@@ -29,6 +35,28 @@ impl Features {
                 _ => {}
             }
         }
+    }
+
+    fn names(&mut self, sheet: &Sheet) {
+        let [mut near, mut begins, mut underscore] = [false; 3];
+        for name in &sheet.names {
+            for word in words(sheet.edition) {
+                if is_near(name, word.as_bytes()) {
+                    near = true;
+                    self.near[usize::from(sheet.edition) - 1].insert(word);
+                }
+                begins |= word.as_bytes().starts_with(name);
+            }
+            let places = name.iter().enumerate().skip(7);
+            let mut borders = places.filter(|(at, _)| [7, 0].contains(&(at % 8)));
+            underscore |= borders.any(|(_, c)| *c == b'_');
+        }
+        self.add("sheets with a name near a keyword", near);
+        self.add("sheets with a name that begins a keyword", begins);
+        self.add(
+            "sheets with an underscore at an end of eight characters",
+            underscore,
+        );
     }
 
     fn function(&mut self, sheet: &Sheet, item: &Item, function: &Function) {
@@ -76,17 +104,27 @@ impl Features {
 
     fn add(&mut self, label: &'static str, occurs: bool) {
         let count = u64::from(occurs);
-        match self.0.iter_mut().find(|(other, _)| *other == label) {
+        match self.counts.iter_mut().find(|(other, _)| *other == label) {
             Some((_, sum)) => *sum += count,
-            None => self.0.push((label, count)),
+            None => self.counts.push((label, count)),
         }
     }
 }
 
 impl Display for Features {
     fn fmt(&self, out: &mut fmt::Formatter) -> fmt::Result {
-        for (label, count) in &self.0 {
+        for (label, count) in &self.counts {
             writeln!(out, "{count:9} {label}")?;
+        }
+        if self.counts.is_empty() {
+            return Ok(());
+        }
+        for (edition, near) in (1..).zip(&self.near) {
+            let count = near.len();
+            writeln!(
+                out,
+                "{count:9} keywords of edition {edition} with a name near them"
+            )?;
         }
         Ok(())
     }

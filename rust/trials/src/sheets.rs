@@ -222,13 +222,13 @@ pub fn boundary(label: &str) -> Vec<u8> {
     all.find(|(other, _)| other == label).unwrap().1
 }
 
-/// 1,023 names of 20 characters, nearly all in use: 255 types, each in three
-/// namespaces of its own.
-pub fn many_names() -> Sheet {
+/// So many names of 20 characters, nearly all in use: types, of the 1,023 names
+/// 255, each in three namespaces of its own.
+pub fn many_names(count: usize) -> Sheet {
     let mut sheet = Sheet::empty();
-    let words = (0..limit::NAMES).map(|i| format!("part_no_of_mill_{i:04}").into_bytes());
+    let words = (0..count).map(|i| format!("part_no_of_mill_{i:04}").into_bytes());
     sheet.names = words.collect();
-    let items = (0..limit::ITEMS as NameIndex).map(|i| Item {
+    let items = (0..(count / 4).min(limit::ITEMS) as NameIndex).map(|i| Item {
         namespace: vec![4 * i, 4 * i + 1, 4 * i + 2],
         name: 4 * i + 3,
         kind: Kind::CxxType { pointer: true },
@@ -237,10 +237,10 @@ pub fn many_names() -> Sheet {
     sheet
 }
 
-/// The same with names of 8 small letters and underscores. Neither its length nor
+/// The 1,023 as names of 8 small letters and underscores. Neither its length nor
 /// an end of it tells that such a name is no keyword.
 pub fn word_names() -> Sheet {
-    let mut sheet = many_names();
+    let mut sheet = many_names(limit::NAMES);
     for (number, name) in (0..).zip(&mut sheet.names) {
         let digits = [number / 676, number / 26 % 26, number % 26].map(|digit| b'a' + digit as u8);
         *name = [&b"mill_"[..], &digits].concat();

@@ -2,7 +2,7 @@
 //! before, and the paint that is gone is counted.
 
 use crate::sheets;
-use sheet::{Rng, encode, generate};
+use sheet::{Rng, encode, generate, limit};
 use std::arch::asm;
 
 /// The stack's size, and how much of it is painted.
@@ -85,7 +85,7 @@ pub fn deepest(generated: u64, mut call: impl FnMut(&[u8])) -> Result<(usize, St
 
 fn all(count: u64) -> impl Iterator<Item = (String, Vec<u8>)> {
     let large = [
-        ("1,023 names", sheets::many_names()),
+        ("1,023 names", sheets::many_names(limit::NAMES)),
         ("255 functions with 8 arguments", sheets::functions(8)),
         ("255 functions with 31 arguments", sheets::functions(31)),
         ("255 structs in a chain", sheets::chain()),

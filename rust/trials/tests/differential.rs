@@ -1,7 +1,7 @@
 //! Generated and damaged sheets: the services agree with the Rust check, the
 //! crate's `sort` and its writer. The program `differential` runs more of them.
 
-use sheet::{Blame, Rng, desc, encode, generate};
+use sheet::{Blame, Rng, desc, encode, generate, limit};
 use trials::compare::Text;
 use trials::{compare, sheets};
 
@@ -36,7 +36,7 @@ fn limits_and_signatures() {
 fn large_sheets() {
     let skipped = oracle::skipped();
     let large = [
-        sheets::many_names(),
+        sheets::many_names(limit::NAMES),
         sheets::functions(8),
         sheets::functions(31),
         sheets::apart(),
@@ -130,7 +130,7 @@ fn large_texts() {
     let mut rng = Rng::new(5);
     let many = (0..20).map(|_| sheets::many_functions(&mut rng));
     let large = [
-        sheets::many_names(),
+        sheets::many_names(limit::NAMES),
         sheets::functions(8),
         sheets::functions(31),
         sheets::dense(),

@@ -2,7 +2,7 @@
 //! which both accept has one text and one struct order.
 
 use bridgetext::Refusal;
-use sheet::{EDITIONS, Rng, encode, generate};
+use sheet::{EDITIONS, Rng, encode, generate, limit};
 use trials::compare::{self, MARGIN};
 use trials::sheets;
 
@@ -84,7 +84,7 @@ fn limits_and_large_sheets_under_the_other_edition() {
     let fixed = generate::boundaries().into_iter();
     let fixed = fixed.chain(generate::signatures()).map(|(_, sheet)| sheet);
     let large = [
-        sheets::many_names(),
+        sheets::many_names(limit::NAMES),
         sheets::functions(8),
         sheets::functions(31),
         sheets::dense(),

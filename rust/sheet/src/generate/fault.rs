@@ -1,6 +1,6 @@
 //! Good sheets with chosen faults.
 
-use super::good::{comment_line, good, random_name, type_of_depth};
+use super::good::{comment_line, good, near_keyword, random_name, type_of_depth};
 use crate::name::{ADDED_KEYWORDS, ALTERNATIVE_TOKENS, KEYWORDS};
 use crate::{
     Arg, Form, Function, Item, ItemIndex, Kind, NameIndex, Refusal, Rng, Sheet, Type, encode,
@@ -78,6 +78,15 @@ pub fn keyword(rng: &mut Rng) -> Vec<u8> {
 pub fn put_keyword(rng: &mut Rng, sheet: &mut Sheet) {
     let chars = added_keyword(rng);
     put_name(rng, sheet, chars);
+}
+
+/// Does the same with some names that come close to keywords; a good sheet is
+/// still good then, but where two of its names become one.
+pub fn put_near_keywords(rng: &mut Rng, sheet: &mut Sheet) {
+    for _ in 0..rng.between(1, 3) {
+        let chars = near_keyword(rng);
+        put_name(rng, sheet, chars);
+    }
 }
 
 fn added_keyword(rng: &mut Rng) -> Vec<u8> {

@@ -1,7 +1,7 @@
 //! Accepted sheets with rich contents.
 
 use super::edition;
-use crate::name::{ADDED_KEYWORDS, is_name};
+use crate::name::{self, ADDED_KEYWORDS, is_name};
 use crate::{
     Arg, Form, Function, Item, ItemIndex, Kind, NameIndex, RUST_STRING, Rng, Sheet, Type, encode,
     indirect, limit, rules,
@@ -90,10 +90,11 @@ fn name_table(rng: &mut Rng, edition: u8, items: usize) -> Vec<Vec<u8>> {
     names
 }
 
+const FIRST: &[u8] = b"abcdefghijklmnopqrstuvwxyzABCDEFGHIJKLMNOPQRSTUVWXYZ_";
+const REST: &[u8] = b"abcdefghijklmnopqrstuvwxyzABCDEFGHIJKLMNOPQRSTUVWXYZ_0123456789";
+
 /// A name in both editions.
 pub fn random_name(rng: &mut Rng) -> Vec<u8> {
-    const FIRST: &[u8] = b"abcdefghijklmnopqrstuvwxyzABCDEFGHIJKLMNOPQRSTUVWXYZ_";
-    const REST: &[u8] = b"abcdefghijklmnopqrstuvwxyzABCDEFGHIJKLMNOPQRSTUVWXYZ_0123456789";
     let len = match rng.below(16) {
         0 => limit::NAME_CHARS,
         1 => rng.between(12, limit::NAME_CHARS),
@@ -102,6 +103,32 @@ pub fn random_name(rng: &mut Rng) -> Vec<u8> {
     loop {
         let mut chars = vec![*rng.pick(FIRST)];
         chars.extend((1..len).map(|_| *rng.pick(REST)));
+        if is_name(2, &chars) {
+            return chars;
+        }
+    }
+}
+
+/// A name in both editions that comes close to a keyword of one: but for a
+/// character it is one, or one begins with it, or it begins or ends with one.
+pub fn near_keyword(rng: &mut Rng) -> Vec<u8> {
+    let words: Vec<&str> = name::words(2).collect();
+    loop {
+        let mut chars = rng.pick(&words).as_bytes().to_vec();
+        let at = rng.below(chars.len());
+        match rng.below(8) {
+            0 | 1 => chars[at] = *rng.pick(REST),
+            2 => chars[at] ^= b'a' ^ b'A',
+            3 | 4 => chars.insert(at + rng.below(2), *rng.pick(REST)),
+            5 => drop(chars.remove(at)),
+            6 => chars.truncate(at),
+            _ => {
+                let mut other = random_name(rng);
+                other.truncate(limit::NAME_CHARS - chars.len());
+                let at = if rng.bit() { 0 } else { chars.len() };
+                chars.splice(at..at, other);
+            }
+        }
         if is_name(2, &chars) {
             return chars;
         }

@@ -1,6 +1,6 @@
 //! Sheets from a seed: accepted ones, the same with chosen faults, with reserved
-//! identifiers or with keywords of C++20, damaged copies, structs that hold one
-//! another, and the limits.
+//! identifiers, with keywords of C++20 or with names that come close to keywords,
+//! damaged copies, structs that hold one another, and the limits.
 
 mod boundary;
 mod fault;
@@ -8,7 +8,7 @@ mod good;
 mod graph;
 
 pub use boundary::{boundaries, signatures};
-pub use fault::{faulty, keyword, put_keyword, reserve, reserved};
+pub use fault::{faulty, keyword, put_keyword, put_near_keywords, reserve, reserved};
 pub use good::{good, large, type_of_depth};
 pub use graph::graph;
 
@@ -24,7 +24,12 @@ pub fn edition(rng: &mut Rng) -> u8 {
 pub fn any(rng: &mut Rng) -> Vec<u8> {
     match rng.below(43) {
         0 if rng.one_in(20) => encode(&large(rng)),
-        0..=20 => encode(&good(rng)),
+        0..=13 => encode(&good(rng)),
+        14..=20 => {
+            let mut sheet = good(rng);
+            put_near_keywords(rng, &mut sheet);
+            encode(&sheet)
+        }
         21..=27 => {
             let refusal = *rng.pick(&Refusal::ALL);
             faulty(rng, &[refusal])

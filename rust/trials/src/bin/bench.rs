@@ -1,6 +1,6 @@
 //! `bench`: the time of the services.
 
-use sheet::{Rng, encode, generate, with_edition};
+use sheet::{Rng, encode, generate, limit, with_edition};
 use std::cell::RefCell;
 use std::fmt::{self, Display};
 use std::hint::black_box;
@@ -90,7 +90,8 @@ fn checks(runs: usize) -> Result<(), String> {
             "as many types as fit 32,768 bytes",
             vec![sheets::boundary("amplified")],
         ),
-        ("1,023 names", one(sheets::many_names())),
+        ("1,000 names", one(sheets::many_names(1_000))),
+        ("1,023 names", one(sheets::many_names(limit::NAMES))),
         ("1,023 names like keywords", one(sheets::word_names())),
         (
             "the same, edition 2",
