@@ -59,10 +59,11 @@ module _ (s : List ℕ) (h : ℕ) where
       rw (b, z) (ap (λ (room : ℕ). windowFrom room h (bitsAt s at 7) (charsAt s (at + 7) (k + n))) d ∙
       window-rest at 7 k (7 - k) n (λ g. omega (arith, q g)))
 
+  -- the characters counted by the bits up to their end
   pub digest-start : (at n : ℕ) → digestFrom h (charsAt s at n) ≡ digestFrom h (charsAt s at ((at + 7 * n - at) / 7))
   digest-start at n = let z : (at + 7 * n - at) / 7 ≡ n = omega arith in rw z
 
-  -- a window of b bits, of the characters up to the end
+  -- a turn: the window's b bits are 56, or those left
   pub digest-turn : {at end b x y : ℕ} → at < end → (end - at) % 7 ≡ 0 → b ≡ end - at - (end - at - 56) →
       x ≡ bitsAt s at b → y ≡ mix h x →
       digestFrom h (charsAt s at ((end - at) / 7)) ≡ digestFrom y (charsAt s (at + b) ((end - (at + b)) / 7))
@@ -94,7 +95,7 @@ module _ (i x : ℕ) (h : x + 3 ≤ 2 ^ (7 * i + 2)) where
 pub short-digest : (w : List ℕ) → digest w ≡ windowFrom 8 0 0 w
 unfolding digestFrom windowFrom mix
 short-digest [] = refl
-short-digest (c ∷ w) = ap (λ (x : ℕ). windowFrom 7 0 x w) (let z : c ≡ 0 * 128 + c = omega arith in z)
+short-digest (c ∷ w) = let z : c ≡ 0 * 128 + c = omega arith in ap (λ (x : ℕ). windowFrom 7 0 x w) z
 
 module _ (w : List ℕ) (i x : ℕ) where
   pub short-turn : {c y : ℕ} → i < length w → length w ≤ 8 → c ≡ getD w i 0 → y ≡ x * 128 + c →
