@@ -1,7 +1,7 @@
--- Written by tools/proofkit from answers/check_name.tpl (dcb63616 d0e5a300).
+-- Written by tools/proofkit from answers/check_name.tpl (213478e3 8231710f).
 use borrow.Author.Needs.{needs}
 use native.Mathlib.Omega.{arith}
-use mathlib.Core.Path.{refl, sym, _∙_}
+use mathlib.Core.Path.{refl, sym}
 use lib.Seq.{length-take-le}
 use Rattle.lexical.specs.Names.{tableOf, sheetName}
 use Rattle.format.specs.Decoding.{nameBy}

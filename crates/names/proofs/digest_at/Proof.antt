@@ -1,9 +1,8 @@
--- Written by tools/proofkit from answers/digest_at.tpl (fa78bb2c fb38a293).
+-- Written by tools/proofkit from answers/digest_at.tpl (8bd3cbc5 ce8ed9b7).
 use borrow.Author.Needs.{needs}
 use native.Mathlib.Omega.{arith}
 use mathlib.Core.Path.{_≡_, sym, _∙_}
 use Prim.Native.Nat.{_+_, _*_, _/_, _%_, _^_, _<_, _≤_, _-_}
-use lib.Pow.{pow-mono}
 use Rattle.text.specs.Text.{charsAt}
 use Rattle.cursor.proofs.BitLaws.{bits-short}
 use Rattle.names.specs.Digests.{digest, digestFrom}
