@@ -78,7 +78,7 @@ fn is_indirect_template(k: Template) -> bool
 // Where it is asked, whether name i is the text.
 fn name_when(s: &[u8], names: &[u32], digests: &[u32], asked: bool, i: u32, text: &[u8]) -> bool
     requires { ⌜ Named (now s) (now names) × (now digests ≡ digestsAt (now s) (now names)) ×
-        (i < length (now names)) ⌝ }
+        (i < length (now names)) × (length (now text) ≤ 8) ⌝ }
     ensures { λ r. ⌜ r ≡
         (asked && same (nameAt (now (s .entry)) (getD (now (names .entry)) i 0)) (now (text .entry))) ⌝ }
 {

@@ -2,12 +2,16 @@
 use cursor::Cursor;
 use cursor::Field;
 use cursor::Step;
+use cursor::end_of;
+use cursor::extract_wide;
+use cursor::read;
 use refusal::Refusal;
 use text::read_text;
+use text::unpack;
 use words::equal;
 use words::is_sheet_name;
 ghost use mathlib.Core.Path.{_≡_};
-ghost use Prim.Native.Nat.{_+_, _≤_, _<_};
+ghost use Prim.Native.Nat.{_+_, _-_, _*_, _^_, _≤_, _<_};
 ghost use lib.ListN.{length, getD};
 ghost use Rattle.lexical.specs.Bytes.{same};
 ghost use Rattle.lexical.specs.Names.{tableOf};
@@ -16,6 +20,7 @@ ghost use Rattle.format.specs.Decode.{many};
 ghost use Rattle.format.specs.Decoding.{name, tableName};
 ghost use Rattle.cursor.specs.Checking.{Limited, positionOf, Fills};
 ghost use Rattle.cursor.specs.Yielding.{Yields};
+ghost use Rattle.text.specs.Text.{charsAt};
 ghost use Rattle.names.specs.Fetching.{Fetched};
 ghost use Rattle.names.specs.Naming.{nameAt, Named};
 ghost use Rattle.names.specs.Digests.{mix as mixOf, digest as digestChars, digestsAt, digestOf, Digests};
@@ -32,37 +37,60 @@ impl Name {
 
 // ---- digests
 
-fn to_u32(c: u8) -> u32
-    ensures { λ r. ⌜ r ≡ c ⌝ }
-{
-    c as u32
-}
-
-fn to_u64(c: u32) -> u64
-    ensures { λ r. ⌜ r ≡ c ⌝ }
+fn to_u64(c: u8) -> u64
+    ensures { λ r. ⌜ (r ≡ c) × (r < 256) ⌝ }
 {
     c as u64
 }
 
-// A digest with one number more.
-pub fn mix(h: u32, c: u32) -> u32
-    ensures { λ r. ⌜ r ≡ mixOf h c ⌝ }
+// A digest with a window of characters more.
+fn mix(h: u64, x: u64) -> u64
+    requires { ⌜ (h < 2 ^ 32) × (x < 2 ^ 58) ⌝ }
+    ensures { λ r. ⌜ (r ≡ mixOf h x) × (r < 2 ^ 32) ⌝ }
 {
-    let sum = to_u64(h) * 31 + to_u64(c);
-    (sum % 4294967296) as u32
+    (h * 786033569 + x / 268435456 * 7116134815 + x % 268435456 * 10617743077) / 1048576
+        % 4294967296
 }
 
-// The digest of characters.
+// The digest of at most eight characters.
 pub fn digest(w: &[u8]) -> u32
+    requires { ⌜ length (now w) ≤ 8 ⌝ }
     ensures { λ r. ⌜ r ≡ digestChars (now (w .entry)) ⌝ }
 {
-    let mut h: u32 = 0;
+    let mut x: u64 = 0;
     let mut i: usize = 0;
     while i < w.len() {
-        h = mix(h, to_u32(w[i]));
+        x = x * 128 + to_u64(w[i]);
         i = i + 1;
     }
-    h
+    mix(0, x) as u32
+}
+
+// The bits of the next window, where so many are left.
+fn window_bits(left: u32) -> u32
+    ensures { λ r. ⌜ r ≡ left - (left - 56) ⌝ }
+{
+    if left < 56 {
+        return left;
+    }
+    56
+}
+
+// The digest of the n characters at a position.
+fn digest_at(s: &[u8], at: u32, n: u32) -> u32
+    requires { ⌜ Limited (now s) × (at + 7 * n ≤ 8 * length (now s)) ⌝ }
+    ensures { λ r. ⌜ r ≡ digestChars (charsAt (now (s .entry)) at n) ⌝ }
+{
+    let end = at + 7 * n;
+    let mut h: u64 = 0;
+    let mut next = at;
+    while next < end {
+        let bits = window_bits(end - next);
+        let x = extract_wide(s, next, bits);
+        h = mix(h, x);
+        next = next + bits;
+    }
+    h as u32
 }
 
 // ---- a walk over the names
@@ -78,16 +106,22 @@ fn check_name(s: &[u8], c: Cursor, edition: u32) -> Digested
     requires { ⌜ Limited (now s) ⌝ }
     ensures { λ r. ⌜ Digests (tableName (tableOf edition) (now (s .entry)) (c .at)) r ⌝ }
 {
-    let mut buf = [0u8; Name::LONGEST];
-    let f = read_text(s, c, 6, &mut buf);
+    let f = read(s, c, 6);
     match f {
         Field::Cut => Digested::Fault(Refusal::CutSheet),
-        Field::Value(n, next) => {
+        Field::Value(n, first) => {
+            let at = first.at;
+            let end = at + 7 * n;
+            if end_of(s) < end {
+                return Digested::Fault(Refusal::CutSheet);
+            }
+            let mut buf = [0u8; Name::LONGEST];
+            unpack(s, at, n, &mut buf);
             let k = n as usize;
             let good = is_sheet_name(edition, &buf[..k]);
             if good {
-                let h = digest(&buf[..k]);
-                return Digested::At(h, next);
+                let h = digest_at(s, at, n);
+                return Digested::At(h, Cursor { at: end });
             }
             Digested::Fault(Refusal::BadName)
         }
@@ -191,7 +225,7 @@ pub fn name_reads(s: &[u8], names: &[u32], i: u32, text: &[u8]) -> bool
 // Whether name i is the text; unequal digests tell them apart.
 pub fn name_is(s: &[u8], names: &[u32], digests: &[u32], i: u32, text: &[u8]) -> bool
     requires { ⌜ Named (now s) (now names) × (now digests ≡ digestsAt (now s) (now names)) ×
-        (i < length (now names)) ⌝ }
+        (i < length (now names)) × (length (now text) ≤ 8) ⌝ }
     ensures { λ r. ⌜ r ≡ same (nameAt (now (s .entry)) (getD (now (names .entry)) i 0)) (now (text .entry)) ⌝ }
 {
     let k = i as usize;

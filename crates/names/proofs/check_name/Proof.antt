@@ -1,56 +1,63 @@
--- Written by tools/proofkit from answers/check_name.tpl (52fb6dee aa57312b).
+-- Written by tools/proofkit from answers/check_name.tpl (213478e3 8231710f).
 use borrow.Author.Needs.{needs}
 use native.Mathlib.Omega.{arith}
 use mathlib.Core.Path.{refl, sym}
 use lib.Seq.{length-take-le}
 use Rattle.lexical.specs.Names.{tableOf, sheetName}
-use Rattle.refusal.specs.declared.Refusal.the-variants.{BadName}
 use Rattle.format.specs.Decoding.{nameBy}
 use Rattle.lexical.proofs.BoolLaws.{known}
-use Rattle.text.specs.Text.{ruledText}
-use Rattle.text.proofs.TextLaws.{text-value, text-none, text-lt}
+use Rattle.cursor.proofs.FieldLaws.{value, cut, field-lt}
+use Rattle.text.proofs.CharLaws.{field-end}
+use Rattle.names.proofs.DigestLaws.{name-short, name-good, name-bad}
 use Rattle.names.proofs.check_name.Statement.{statement}
 use Rattle.names.proofs.check_name.Tie as tie
 
-array-share-prefix-buf : tie.Need-array-share-prefix-buf
-array-share-prefix-buf c = omega (arith, text-lt 6 _ _ (c .before .before .before .before .read-text .ensures) (c .before .f .given .1))
+mul-end : tie.Need-mul-end
+mul-end c = omega (arith, field-lt 6 _ _ (value (c .before .before .before .read .ensures) (c .before .f .given .1)))
 
-slice-aggregate-is-sheet-name : tie.Need-slice-aggregate-is-sheet-name
-slice-aggregate-is-sheet-name c = sym (length-take-le _ _ (omega (arith, text-lt 6 _ _ (c .before .before .before .before .before .read-text .ensures) (c .before .before .f .given .1), c .before .before .before .before .before .read-text .kept .1 .1 .1 .0)))
-
-array-share-prefix-buf-2 : tie.Need-array-share-prefix-buf-2
-array-share-prefix-buf-2 c = omega (arith, text-lt 6 _ _ (c .before .before .before .before .before .before .before .read-text .ensures) (c .before .before .before .before .f .given .1))
-
-slice-aggregate-digest : tie.Need-slice-aggregate-digest
-slice-aggregate-digest c = sym (length-take-le _ _ (omega (arith, text-lt 6 _ _ (c .before .before .before .before .before .before .before .before .read-text .ensures) (c .before .before .before .before .before .f .given .1), c .before .before .before .before .before .before .before .before .read-text .kept .1 .1 .1 .0)))
+add-end : tie.Need-add-end
+add-end c = omega (arith, field-lt 6 _ _ (value (c .before .before .before .read .ensures) (c .before .f .given .1)), field-end 6 _ _ (value (c .before .before .before .read .ensures) (c .before .f .given .1)))
 
 returns : tie.Need-returns
-unfolding nameBy ruledText
-returns c = rw (text-value 6 _ _ (c .before .before .before .before .before .before .before .before .before .read-text .ensures) (c .before .before .before .before .before .before .f .given .1) (sheetName (tableOf (c .before .before .before .before .before .before .before .before .before .before .before .before .args .edition))) BadName, known (c .before .before .before .is-sheet-name .ensures) (c .before .before .if1 .taken)) record { step = rw (c .digest .ensures) }
+returns c = name-short (sheetName (tableOf (c .before .before .before .before .before .before .before .args .edition))) _ _ (value (c .before .before .before .before .before .read .ensures) (c .before .before .before .f .given .1)) (omega arith)
+
+unpack-requires : tie.Need-unpack-requires
+unpack-requires c κs = (c .before .before .before .before .before .before .before .before .pre, omega arith, omega (arith, field-lt 6 _ _ (value (c .before .before .before .before .before .before .read .ensures) (c .before .before .before .before .f .given .1))))
+
+array-share-prefix-buf : tie.Need-array-share-prefix-buf
+array-share-prefix-buf c = omega (arith, field-lt 6 _ _ (value (c .before .before .before .before .before .before .before .before .read .ensures) (c .before .before .before .before .before .before .f .given .1)))
+
+slice-aggregate-is-sheet-name : tie.Need-slice-aggregate-is-sheet-name
+slice-aggregate-is-sheet-name c = sym (length-take-le _ _ (omega (arith, field-lt 6 _ _ (value (c .before .before .before .before .before .before .before .before .before .read .ensures) (c .before .before .before .before .before .before .before .f .given .1)), c .before .before .unpack .kept .1 .1 .1 .0)))
 
 returns-2 : tie.Need-returns-2
-unfolding nameBy ruledText
-returns-2 c = rw (text-none 6 _ _ (c .before .before .before .read-text .ensures) (c .enum-told .given .1) (sheetName (tableOf (c .before .before .before .before .before .before .args .edition))) BadName) record { step = refl }
+returns-2 c = name-good (sheetName (tableOf (c .before .before .before .before .before .before .before .before .before .before .before .before .before .before .args .edition))) _ _ (value (c .before .before .before .before .before .before .before .before .before .before .before .before .read .ensures) (c .before .before .before .before .before .before .before .before .before .before .f .given .1)) (omega arith) (rw (← c .before .before .before .before .before .unpack .ensures .chars) (known (c .before .before .is-sheet-name .ensures) (c .before .if2 .taken))) (c .digest-at .ensures)
 
 returns-3 : tie.Need-returns-3
-unfolding nameBy ruledText
-returns-3 c = rw (text-value 6 _ _ (c .before .before .before .before .before .before .before .read-text .ensures) (c .before .before .before .before .f .given .1) (sheetName (tableOf (c .before .before .before .before .before .before .before .before .before .before .args .edition))) BadName, known (c .before .is-sheet-name .ensures) (c .if1 .left)) record { step = refl }
+unfolding nameBy
+returns-3 c = rw (cut _ _ _ (c .before .before .read .ensures) (c .enum-told .given .1)) record { step = refl }
+
+returns-4 : tie.Need-returns-4
+returns-4 c = name-bad (sheetName (tableOf (c .before .before .before .before .before .before .before .before .before .before .before .before .before .args .edition))) _ _ (value (c .before .before .before .before .before .before .before .before .before .before .before .read .ensures) (c .before .before .before .before .before .before .before .before .before .f .given .1)) (omega arith) (rw (← c .before .before .before .before .unpack .ensures .chars) (known (c .before .is-sheet-name .ensures) (c .if2 .left)))
 
 pub check-name-spec : {M : Type 1} → statement M
 check-name-spec =
     tie.close
     (tie.spec
-    (λ c. search needs)
     (λ c κs. search needs)
     (λ c. search needs)
     (λ c. search needs)
+    mul-end
+    add-end
+    (λ c κs. search needs)
+    returns
+    (λ c. search needs)
+    unpack-requires
     (λ c. search needs)
     array-share-prefix-buf
     slice-aggregate-is-sheet-name
     (λ c κs. search needs)
-    array-share-prefix-buf-2
-    slice-aggregate-digest
     (λ c κs. search needs)
-    returns
     returns-2
-    returns-3)
+    returns-3
+    returns-4)
