@@ -2,3 +2,4 @@ mod FetchLaws
 pub mod NameLaws
 pub mod DigestLaws
 pub mod NamedLaws
+mod JudgeLaws

@@ -1,9 +1,12 @@
 -- Digests: numbers that tell most unequal names apart.
 use mathlib.Core.Path.{_≡_}
 use mathlib.Core.List.{List, [], _∷_, map}
+use mathlib.Core.Bool.{Bool, true, false}
 use Prim.Native.Nat.{ℕ, zero, suc, _+_, _*_, _/_, _%_}
 use Rattle.format.specs.Decode.{Got, fault, got, Dec, after}
 use Rattle.format.specs.Sheet.{Name}
+use Rattle.names.specs.declared.Judged.{Judged}
+use Rattle.names.specs.declared.Judged.the-variants.{Good, Bad}
 use Rattle.names.specs.declared.Digested.{Digested}
 use Rattle.names.specs.declared.Digested.the-variants.{At, Fault}
 use Rattle.names.specs.Naming.{nameAt}
@@ -33,6 +36,11 @@ unfoldable pub digestsAt : List ℕ → List ℕ → List ℕ
 digestsAt s names = map (λ at. digest (nameAt s at)) names
 
 -- ---- a walk that digests
+
+-- the digest h, where the test holds
+abbrev pub judgedOf : Bool → ℕ → Judged
+judgedOf true h = Good h
+judgedOf false h = Bad
 
 -- the digest of the name that d reads
 abbrev pub digestOf : Dec Name → Dec ℕ

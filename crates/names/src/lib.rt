@@ -7,23 +7,27 @@ use cursor::extract_wide;
 use cursor::read;
 use refusal::Refusal;
 use text::read_text;
-use text::unpack;
+use walk::walk;
+use words::State;
+use words::Words;
 use words::equal;
-use words::is_sheet_name;
+use words::verdict;
 ghost use mathlib.Core.Path.{_≡_};
 ghost use Prim.Native.Nat.{_+_, _-_, _*_, _^_, _≤_, _<_};
 ghost use lib.ListN.{length, getD};
 ghost use Rattle.lexical.specs.Bytes.{same};
-ghost use Rattle.lexical.specs.Names.{tableOf};
+ghost use Rattle.lexical.specs.Names.{tableOf, sheetName};
 ghost use Rattle.format.specs.Limits.{longestName};
 ghost use Rattle.format.specs.Decode.{many};
 ghost use Rattle.format.specs.Decoding.{name, tableName};
 ghost use Rattle.cursor.specs.Checking.{Limited, positionOf, Fills};
 ghost use Rattle.cursor.specs.Yielding.{Yields};
 ghost use Rattle.text.specs.Text.{charsAt};
+ghost use Rattle.words.specs.Words.{Right};
 ghost use Rattle.names.specs.Fetching.{Fetched};
 ghost use Rattle.names.specs.Naming.{nameAt, Named};
-ghost use Rattle.names.specs.Digests.{mix as mixOf, digest as digestChars, digestsAt, digestOf, Digests};
+ghost use Rattle.names.specs.Digests.{mix as mixOf, digest as digestChars, digestsAt, digestOf, judgedOf};
+ghost use Rattle.names.specs.Digests.{Digests};
 
 // A name whose characters stand in the front of a buffer: how many there are.
 pub struct Name {
@@ -76,24 +80,38 @@ fn window_bits(left: u32) -> u32
     56
 }
 
-// The digest of the n characters at a position.
-fn digest_at(s: &[u8], at: u32, n: u32) -> u32
-    requires { ⌜ Limited (now s) × (at + 7 * n ≤ 8 * length (now s)) ⌝ }
-    ensures { λ r. ⌜ r ≡ digestChars (charsAt (now (s .entry)) at n) ⌝ }
+// ---- a walk over the names
+
+// The digest of a name, or that the characters are none.
+pub enum Judged {
+    Good(u32),
+    Bad,
+}
+
+// The n characters at a position, by the rule of a sheet of that edition: each window of them is read once, and steps both
+// the digest and the state.
+fn judge_name(t: &[u16; Words::SIZE], s: &[u8], at: u32, n: u32, edition: u32) -> Judged
+    requires { ⌜ Right (now t) × Limited (now s) × (at + 7 * n ≤ 8 * length (now s)) ⌝ }
+    ensures { λ r. ⌜ r ≡ judgedOf (sheetName (tableOf edition) (charsAt (now (s .entry)) at n))
+        (digestChars (charsAt (now (s .entry)) at n)) ⌝ }
 {
     let end = at + 7 * n;
+    let mut q = State::start();
     let mut h: u64 = 0;
     let mut next = at;
     while next < end {
         let bits = window_bits(end - next);
         let x = extract_wide(s, next, bits);
         h = mix(h, x);
+        q = walk(t, q, x, bits);
         next = next + bits;
     }
-    h as u32
+    let good = verdict(t, q, edition);
+    if good {
+        return Judged::Good(h as u32);
+    }
+    Judged::Bad
 }
-
-// ---- a walk over the names
 
 // A name's digest and the position behind it, or the refusal.
 pub enum Digested {
@@ -102,8 +120,8 @@ pub enum Digested {
 }
 
 // Past the name at c, by the rule of a sheet of that edition.
-fn check_name(s: &[u8], c: Cursor, edition: u32) -> Digested
-    requires { ⌜ Limited (now s) ⌝ }
+fn check_name(t: &[u16; Words::SIZE], s: &[u8], c: Cursor, edition: u32) -> Digested
+    requires { ⌜ Right (now t) × Limited (now s) ⌝ }
     ensures { λ r. ⌜ Digests (tableName (tableOf edition) (now (s .entry)) (c .at)) r ⌝ }
 {
     let f = read(s, c, 6);
@@ -115,15 +133,11 @@ fn check_name(s: &[u8], c: Cursor, edition: u32) -> Digested
             if end_of(s) < end {
                 return Digested::Fault(Refusal::CutSheet);
             }
-            let mut buf = [0u8; Name::LONGEST];
-            unpack(s, at, n, &mut buf);
-            let k = n as usize;
-            let good = is_sheet_name(edition, &buf[..k]);
-            if good {
-                let h = digest_at(s, at, n);
-                return Digested::At(h, Cursor { at: end });
+            let r = judge_name(t, s, at, n, edition);
+            match r {
+                Judged::Good(h) => Digested::At(h, Cursor { at: end }),
+                Judged::Bad => Digested::Fault(Refusal::BadName),
             }
-            Digested::Fault(Refusal::BadName)
         }
     }
 }
@@ -142,10 +156,11 @@ pub fn check_names(
         (now (offsets .exit)) ×
         Fills (many n (digestOf (tableName (tableOf edition))) (now (s .entry)) (c .at)) r n (now (digests .exit)) ⌝ }
 {
+    let words = Words::table();
     let mut next = c;
     let mut i: u32 = 0;
     while i < n {
-        let r = check_name(s, next, edition);
+        let r = check_name(&words, s, next, edition);
         match r {
             Digested::At(h, p) => {
                 let k = i as usize;

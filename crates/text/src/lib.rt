@@ -15,7 +15,7 @@ ghost use Rattle.cursor.specs.Checking.{Limited, Fills};
 ghost use Rattle.text.specs.Text.{Holds, Spelled};
 
 // A character of a number, d bits of which stand behind it.
-fn char_in(x: u64, d: u32) -> u8
+pub fn char_in(x: u64, d: u32) -> u8
     requires { ⌜ d < 64 ⌝ }
     ensures { λ r. ⌜ r ≡ x / 2 ^ d % 128 ⌝ }
 {

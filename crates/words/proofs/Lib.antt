@@ -1,3 +1,5 @@
 pub mod ByteLoops
-pub mod WordLaws
+pub mod OrderLaws
 pub mod ShapeLaws
+pub mod WalkLaws
+pub mod TableLaws

@@ -1,12 +1,15 @@
-// The name rule of documents 01 and 02, on the bytes of a name, with its table of words.
+// The name rule of documents 01 and 02 as a walk over the characters of a name: the table of words that are no names, and
+// the state with its steps and its verdict (specs/Walking.antt).
 ghost use mathlib.Core.Path.{_≡_};
-ghost use mathlib.Core.Bool.{_&&_, not};
-ghost use Prim.Native.Nat.{_+_, _≤_};
-ghost use lib.ListN.{length, take, drop};
-ghost use Rattle.lexical.specs.Bytes.{within, every, same, member};
-ghost use Rattle.lexical.specs.Names.{letter, nameStart, nameChar, tableOf, underscore, capital};
-ghost use Rattle.lexical.specs.Names.{doubleUnderscore, underscoreCapital, sheetName};
-ghost use Rattle.words.specs.Words.{wordsOf, total};
+ghost use mathlib.Core.List.{[], _∷_};
+ghost use Prim.Native.Nat.{_-_, _≤_, _<_};
+ghost use lib.ListN.{length, getD};
+ghost use Rattle.lexical.specs.Bytes.{within, same};
+ghost use Rattle.lexical.specs.Names.{letter};
+ghost use Rattle.words.specs.declared.Shape.the-variants.{Empty};
+ghost use Rattle.words.specs.Walking.{start as startState, stepShape, stepWord, firstWith, common, free, charBehind, comparedOf};
+ghost use Rattle.words.specs.Walking.{behind as behindOf, verdict as verdictOf};
+ghost use Rattle.words.specs.Words.{wordsIn, addedIn, Right};
 
 mod keywords;
 
@@ -38,8 +41,6 @@ pub fn equal(a: &[u8], b: &[u8]) -> bool
     true
 }
 
-// ---- characters and words
-
 fn is_letter(c: u8) -> bool
     ensures { λ r. ⌜ r ≡ letter c ⌝ }
 {
@@ -50,156 +51,293 @@ fn is_letter(c: u8) -> bool
     in_range(65, 90, c)
 }
 
-fn is_name_start(c: u8) -> bool
-    ensures { λ r. ⌜ r ≡ nameStart c ⌝ }
+// ---- the table of words
+
+// The table of words, which a service makes once and lends: a constant is built anew in each call that looks into it.
+pub struct Words {
+    pub count: u8,
+}
+
+impl Words {
+    // Its entries.
+    pub const SIZE: usize = 971;
+    // The number behind that of the last word: no word.
+    pub const NONE: u8 = 92;
+    // Where its parts begin (src/keywords.rt, specs/Words.antt).
+    const SHARED: usize = 92;
+
+    const ADDED: usize = 184;
+
+    const FIRST: usize = 276;
+
+    const STARTS: usize = 302;
+
+    const CHARS: usize = 394;
+
+    pub fn table() -> [u16; Words::SIZE]
+        ensures { λ r. ⌜ Right r ⌝ }
+    {
+        keywords::TABLE
+    }
+}
+
+// ---- the state
+
+// What the characters of a name up to here are.
+pub enum Shape {
+    Empty,
+    Leading,
+    Plain,
+    Underscore,
+    Reserved,
+    Broken,
+}
+
+// The first word that begins with them, how many of them it was asked for, and the shape.
+pub struct State {
+    pub word: u8,
+    pub matched: u8,
+    pub shape: Shape,
+}
+
+impl State {
+    pub fn start() -> State
+        ensures { λ r. ⌜ r ≡ startState ⌝ }
+    {
+        State {
+            word: 0,
+            matched: 0,
+            shape: Shape::Empty,
+        }
+    }
+}
+
+// c behind other characters: a letter or digit leaves `plain`, an underscore `score`.
+fn behind(plain: Shape, score: Shape, c: u8) -> Shape
+    ensures { λ r. ⌜ r ≡ behindOf plain score c ⌝ }
 {
     let letter = is_letter(c);
     if letter {
-        return true;
+        return plain;
     }
-    c == b'_'
+    let digit = in_range(48, 57, c);
+    if digit {
+        return plain;
+    }
+    if c == b'_' {
+        return score;
+    }
+    Shape::Broken
+}
+
+// c as the first character.
+fn begin(c: u8) -> Shape
+    ensures { λ r. ⌜ r ≡ stepShape Empty c ⌝ }
+{
+    let letter = is_letter(c);
+    if letter {
+        return Shape::Plain;
+    }
+    if c == b'_' {
+        return Shape::Leading;
+    }
+    Shape::Broken
+}
+
+fn follow(shape: Shape, c: u8) -> Shape
+    ensures { λ r. ⌜ r ≡ stepShape shape c ⌝ }
+{
+    match shape {
+        Shape::Empty => begin(c),
+        Shape::Leading => {
+            let capital = in_range(65, 90, c);
+            if capital {
+                return Shape::Reserved;
+            }
+            behind(Shape::Plain, Shape::Reserved, c)
+        }
+        Shape::Plain => behind(Shape::Plain, Shape::Underscore, c),
+        Shape::Underscore => behind(Shape::Plain, Shape::Reserved, c),
+        Shape::Reserved => behind(Shape::Reserved, Shape::Reserved, c),
+        Shape::Broken => Shape::Broken,
+    }
+}
+
+// The shape with one character more. The first is asked for apart: most names are stepped for it alone.
+pub fn step_shape(shape: Shape, c: u8) -> Shape
+    ensures { λ r. ⌜ r ≡ stepShape shape c ⌝ }
+{
+    match shape {
+        Shape::Empty => begin(c),
+        _ => follow(shape, c),
+    }
+}
+
+// ---- words of the table
+
+fn to_index(n: u16) -> usize
+    ensures { λ r. ⌜ r ≡ n ⌝ }
+{
+    n as usize
+}
+
+fn to_u8(n: u16) -> u8
+    requires { ⌜ n < 256 ⌝ }
+    ensures { λ r. ⌜ r ≡ n ⌝ }
+{
+    n as u8
+}
+
+// How long a word is.
+fn word_length(t: &[u16; Words::SIZE], w: usize) -> u16
+    requires { ⌜ Right (now t) × (w < 92) ⌝ }
+    ensures { λ r. ⌜ r ≡ length (getD (wordsIn (now (t .entry))) w []) ⌝ }
+{
+    t[w]
+}
+
+// A character of a word.
+fn word_char(t: &[u16; Words::SIZE], w: usize, k: usize) -> u16
+    requires { ⌜ Right (now t) × (w < 92) × (k < length (getD (wordsIn (now t)) w [])) ⌝ }
+    ensures { λ r. ⌜ r ≡ getD (getD (wordsIn (now (t .entry))) w []) k 0 ⌝ }
+{
+    let start = to_index(t[Words::STARTS + w]);
+    t[Words::CHARS + start + k]
+}
+
+// How many characters a word shares with the one before it.
+fn shared_by(t: &[u16; Words::SIZE], w: usize) -> u16
+    requires { ⌜ Right (now t) × (0 < w) × (w < 92) ⌝ }
+    ensures { λ r. ⌜ r ≡ common (getD (wordsIn (now (t .entry))) (w - 1) []) (getD (wordsIn (now (t .entry))) w []) ⌝ }
+{
+    t[Words::SHARED + w]
 }
 
 fn to_usize(b: u8) -> usize
-    ensures { λ r. ⌜ r ≡ b ⌝ }
+    ensures { λ r. ⌜ (r ≡ b) × (r < 256) ⌝ }
 {
     b as usize
 }
 
-// Whether w is the n bytes from at on.
-fn is_word(bytes: &[u8], at: usize, n: usize, w: &[u8]) -> bool
-    requires { ⌜ at + n ≤ length (now bytes) ⌝ }
-    ensures { λ r. ⌜ r ≡ same (now (w .entry)) (take n (drop at (now (bytes .entry)))) ⌝ }
+fn to_u16(b: u8) -> u16
+    ensures { λ r. ⌜ (r ≡ b) × (r < 256) ⌝ }
 {
-    if w.len() != n {
-        return false;
-    }
-    let end = at + n;
-    equal(w, &bytes[at..end])
+    b as u16
 }
 
-// Whether w is a word of a table.
-pub fn listed(lengths: &[u8], bytes: &[u8], w: &[u8]) -> bool
-    requires { ⌜ total (now lengths) ≤ length (now bytes) ⌝ }
-    ensures { λ r. ⌜ r ≡ member (now (w .entry)) (wordsOf (now (lengths .entry)) (now (bytes .entry))) ⌝ }
+// What a word has behind its first characters, as many as matched: c, a larger character, or neither.
+pub enum Compared {
+    Same,
+    Larger,
+    Other,
+}
+
+fn compare(t: &[u16; Words::SIZE], w: usize, matched: u8, c: u8) -> Compared
+    requires { ⌜ Right (now t) × (w < 92) ⌝ }
+    ensures { λ r. ⌜ r ≡ comparedOf (charBehind (getD (wordsIn (now (t .entry))) w []) matched) c ⌝ }
 {
-    let mut at: usize = 0;
-    let mut i: usize = 0;
-    while i < lengths.len() {
-        let n = to_usize(lengths[i]);
-        let found = is_word(bytes, at, n, w);
-        if found {
-            return true;
+    if word_length(t, w) <= to_u16(matched) {
+        return Compared::Other;
+    }
+    let d = word_char(t, w, to_usize(matched));
+    let e = to_u16(c);
+    if d == e {
+        return Compared::Same;
+    }
+    if e < d {
+        return Compared::Larger;
+    }
+    Compared::Other
+}
+
+// The first word from one on that has the same first characters, as many as matched, and then c.
+fn seek(t: &[u16; Words::SIZE], word: u8, matched: u8, c: u8) -> u8
+    requires { ⌜ Right (now t) × (word < 92) × (matched ≤ length (getD (wordsIn (now t)) word [])) ⌝ }
+    ensures { λ r. ⌜ r ≡ stepWord (wordsIn (now (t .entry))) word matched c ⌝ }
+{
+    let mut w = to_usize(word);
+    while w < 92 {
+        let r = compare(t, w, matched, c);
+        match r {
+            Compared::Same => {
+                return w as u8;
+            }
+            Compared::Larger => {
+                return Words::NONE;
+            }
+            Compared::Other => {}
         }
-        at = at + n;
-        i = i + 1;
+        w = w + 1;
+        if w < 92 {
+            if shared_by(t, w) < to_u16(matched) {
+                return Words::NONE;
+            }
+        }
     }
-    false
+    Words::NONE
 }
 
-// How many words an edition's table has.
-fn word_count(edition: u32) -> usize
-    ensures { λ r. ⌜ r ≡ length (tableOf edition) ⌝ }
+// The first word that begins with c.
+fn first_word(t: &[u16; Words::SIZE], c: u8) -> u8
+    requires { ⌜ Right (now t) ⌝ }
+    ensures { λ r. ⌜ r ≡ firstWith (c ∷ []) (wordsIn (now (t .entry))) ⌝ }
 {
-    if edition < 2 {
-        return keywords::FIRST;
+    if c < b'a' {
+        return Words::NONE;
     }
-    keywords::LENGTHS.len()
+    if b'z' < c {
+        return Words::NONE;
+    }
+    to_u8(t[Words::FIRST + to_usize(c - b'a')])
 }
 
-// Whether w is a keyword or an alternative token of an edition. Each of these begins and ends with a small letter:
-// names that are longer than all of them, or begin or end otherwise, are not searched for.
-fn is_reserved(edition: u32, w: &[u8]) -> bool
-    ensures { λ r. ⌜ r ≡ member (now (w .entry)) (tableOf edition) ⌝ }
+// The word with one character more.
+pub fn step_word(t: &[u16; Words::SIZE], word: u8, matched: u8, c: u8) -> u8
+    requires { ⌜ Right (now t) × (word < 92) × (matched ≤ length (getD (wordsIn (now t)) word [])) ⌝ }
+    ensures { λ r. ⌜ r ≡ stepWord (wordsIn (now (t .entry))) word matched c ⌝ }
 {
-    let n = w.len();
-    if n == 0 {
-        return false;
+    if matched == 0 {
+        if word == 0 {
+            return first_word(t, c);
+        }
     }
-    if keywords::LONGEST < n {
-        return false;
-    }
-    if w[0] < b'a' {
-        return false;
-    }
-    if w[n - 1] < b'a' {
-        return false;
-    }
-    let k = word_count(edition);
-    listed(&keywords::LENGTHS[..k], &keywords::BYTES, w)
+    seek(t, word, matched, c)
 }
 
-// ---- the characters of a name
+// ---- the verdict
 
-// Whether d may follow c in a name: a letter, a digit, or an underscore behind no other.
-fn follows(c: u8, d: u8) -> bool
-    ensures { λ r. ⌜ r ≡ (nameChar d && not (underscore c && underscore d)) ⌝ }
+fn is_free(shape: Shape) -> bool
+    ensures { λ r. ⌜ r ≡ free shape ⌝ }
 {
-    let letter = is_letter(d);
-    if letter {
+    match shape {
+        Shape::Empty => false,
+        Shape::Leading => true,
+        Shape::Plain => true,
+        Shape::Underscore => true,
+        Shape::Reserved => false,
+        Shape::Broken => false,
+    }
+}
+
+// Whether the characters are a name of a sheet of that edition.
+pub fn verdict(t: &[u16; Words::SIZE], q: State, edition: u32) -> bool
+    requires { ⌜ Right (now t) ⌝ }
+    ensures { λ r. ⌜ r ≡ verdictOf (wordsIn (now (t .entry))) (addedIn (now (t .entry))) edition q ⌝ }
+{
+    let shape = q.shape;
+    let good = is_free(shape);
+    if !good {
+        return false;
+    }
+    if Words::NONE <= q.word {
         return true;
     }
-    if d == b'_' {
-        return c != b'_';
+    let w = to_usize(q.word);
+    if word_length(t, w) != to_u16(q.matched) {
+        return true;
     }
-    in_range(48, 57, d)
-}
-
-// Whether w is of name characters, without a double underscore.
-fn all_follow(w: &[u8]) -> bool
-    ensures { λ r. ⌜ r ≡ (every nameChar (now (w .entry)) && not (doubleUnderscore (now (w .entry)))) ⌝ }
-{
-    let mut last: u8 = 0;
-    let mut i: usize = 0;
-    while i < w.len() {
-        let ok = follows(last, w[i]);
-        if !ok {
-            return false;
-        }
-        last = w[i];
-        i = i + 1;
+    if edition < 2 {
+        return t[Words::ADDED + w] != 0;
     }
-    true
-}
-
-fn are_underscore_capital(c: u8, d: u8) -> bool
-    ensures { λ r. ⌜ r ≡ (underscore c && capital d) ⌝ }
-{
-    if c != b'_' {
-        return false;
-    }
-    in_range(65, 90, d)
-}
-
-fn begins_reserved(w: &[u8]) -> bool
-    ensures { λ r. ⌜ r ≡ underscoreCapital (now (w .entry)) ⌝ }
-{
-    if w.len() < 2 {
-        return false;
-    }
-    are_underscore_capital(w[0], w[1])
-}
-
-// ---- the name rule of a sheet
-
-pub fn is_sheet_name(edition: u32, w: &[u8]) -> bool
-    ensures { λ r. ⌜ r ≡ sheetName (tableOf edition) (now (w .entry)) ⌝ }
-{
-    if w.len() == 0 {
-        return false;
-    }
-    let first = is_name_start(w[0]);
-    if !first {
-        return false;
-    }
-    let all = all_follow(w);
-    if !all {
-        return false;
-    }
-    let kept = begins_reserved(w);
-    if kept {
-        return false;
-    }
-    let word = is_reserved(edition, w);
-    !word
+    false
 }
