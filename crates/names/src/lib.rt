@@ -129,13 +129,13 @@ fn check_name(t: &[u16; Words::SIZE], s: &[u8], c: Cursor, edition: u32) -> Dige
         Field::Cut => Digested::Fault(Refusal::CutSheet),
         Field::Value(n, first) => {
             let at = first.at;
-            let end = at + 7 * n;
-            if end_of(s) < end {
+            let behind = at + 7 * n;
+            if end_of(s) < behind {
                 return Digested::Fault(Refusal::CutSheet);
             }
             let r = judge_name(t, s, at, n, edition);
             match r {
-                Judged::Good(h) => Digested::At(h, Cursor { at: end }),
+                Judged::Good(h) => Digested::At(h, Cursor { at: behind }),
                 Judged::Bad => Digested::Fault(Refusal::BadName),
             }
         }

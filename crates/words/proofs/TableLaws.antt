@@ -2,7 +2,7 @@
 use mathlib.Core.Path.{_≡_, refl, sym, ap, _∙_}
 use mathlib.Core.List.{List, [], _∷_, _++_}
 use mathlib.Core.Bool.{Bool, true, false, false≢true, _||_, not, and-false}
-use Prim.Native.Nat.{ℕ, zero, suc, _+_, _-_, _<_, _≤_}
+use Prim.Native.Nat.{ℕ, zero, suc, _+_, _-_, _/_, _%_, _^_, _<_, _≤_}
 use native.Mathlib.Omega.{arith}
 use native.Mathlib.Numerals.{add-one}
 use lib.Dec.{leb, ltb, eqb}
@@ -17,14 +17,16 @@ use Rattle.lexical.proofs.NameLaws.{table-first, table-later}
 use Rattle.format.specs.Decode.{pick}
 use Rattle.words.specs.declared.State.{State}
 use Rattle.words.specs.Walking.{begins, firstWith, stepWord, walk, verdict, baseVerdict, start, before, sorted, chosen}
-use Rattle.words.specs.Walking.{common, charBehind, comparedOf, free, isWord}
+use Rattle.words.specs.Walking.{common, charBehind, comparedOf, free, isWord, Fits, step, shapeNumber, pack}
+use Rattle.words.specs.declared.Shape.{Shape}
+use Rattle.words.specs.declared.Shape.the-variants.{Empty, Leading, Plain, Underscore, Reserved, Broken}
 use Rattle.words.specs.declared.Compared.{Compared}
 use Rattle.words.specs.declared.Compared.the-variants.{Same, Larger, Other}
 use Rattle.words.specs.Words.{wordsOf, total, startsOf, sharedOf, firstsOf, lengthsIn, sharedIn, addedIn}
 use Rattle.words.specs.Words.{firstIn, startsIn, wordsIn, small, Right}
 use Rattle.words.proofs.OrderLaws.{begins-more, begins-less, common-yes, common-no, before-front, before-more}
 use Rattle.words.proofs.OrderLaws.{before-larger, take-begins, none-later, sorted-behind}
-use Rattle.words.proofs.WalkLaws.{first-least, walk-name, walk-base}
+use Rattle.words.proofs.WalkLaws.{first-least, fits-step, walk-name, walk-base}
 
 -- ---- any lengths and bytes
 
@@ -178,6 +180,96 @@ module _ {t : List ℕ} (r : Right t) where
     pub base-verdict : baseVerdict (wordsIn t) (addedIn t) (walk (wordsIn t) start cs) ≡ isName cs
     unfolding nameOk reserved tableOf
     base-verdict = walk-base (wordsIn t) (addedIn t) (r .sorted) cs ∙ rw (r .edition 1 cs)
+
+-- ---- a state is three bytes
+
+-- the shape of a number
+abbrev shapeOf : ℕ → Shape
+shapeOf zero = Empty
+shapeOf (suc zero) = Leading
+shapeOf (suc (suc zero)) = Plain
+shapeOf (suc (suc (suc zero))) = Underscore
+shapeOf (suc (suc (suc (suc zero)))) = Reserved
+shapeOf (suc (suc (suc (suc (suc n))))) = Broken
+
+shape-of : (q : Shape) → shapeOf (shapeNumber q) ≡ q
+shape-of Empty = refl
+shape-of Leading = refl
+shape-of Plain = refl
+shape-of Underscore = refl
+shape-of Reserved = refl
+shape-of Broken = refl
+
+few-shapes : (q : Shape) → shapeNumber q ≤ 5
+few-shapes Empty = omega arith
+few-shapes Leading = omega arith
+few-shapes Plain = omega arith
+few-shapes Underscore = omega arith
+few-shapes Reserved = omega arith
+few-shapes Broken = omega arith
+
+-- a state whose fields are bytes
+abbrev pub Small : State → Type 0
+Small q = (q .word ≤ 92) × (q .matched ≤ 17)
+
+-- the three bytes of its number
+module _ (q : State) (s : Small q) where
+  first-byte : pack q % 256 ≡ q .word
+  unfolding pack
+  first-byte = omega arith
+
+  second-byte : pack q / 256 % 256 ≡ q .matched
+  unfolding pack
+  second-byte = omega arith
+
+  third-byte : pack q / 65536 ≡ shapeNumber (q .shape)
+  unfolding pack
+  third-byte = omega arith
+
+-- it is told by its number
+pub pack-apart : (p q : State) → Small p → Small q → pack p ≡ pack q → p ≡ q
+pack-apart p q a b e =
+    let w : p .word ≡ q .word = sym (first-byte p a) ∙ ap (λ (x : ℕ). x % 256) e ∙ first-byte q b in
+    let m : p .matched ≡ q .matched = sym (second-byte p a) ∙ ap (λ (x : ℕ). x / 256 % 256) e ∙ second-byte q b in
+    let n : shapeNumber (p .shape) ≡ shapeNumber (q .shape) =
+    sym (third-byte p a) ∙ ap (λ (x : ℕ). x / 65536) e ∙ third-byte q b in
+    let s : p .shape ≡ q .shape = sym (shape-of (p .shape)) ∙ ap shapeOf n ∙ shape-of (q .shape) in
+    let z : _≡_ {A = State} (record { word = p .word; matched = p .matched; shape = p .shape })
+    (record { word = q .word; matched = q .matched; shape = q .shape }) = rw (w, m, s) in
+    z
+
+module _ {t : List ℕ} (r : Right t) where
+  small-step : (c : ℕ) (q : State) → Fits (wordsIn t) q → Small q → Small (step (wordsIn t) q c)
+  unfolding step stepWord
+  small-step c q f s =
+      let z = first-least (take (q .matched) (getD (wordsIn t) (q .word) []) ++ (c ∷ [])) (drop (q .word) (wordsIn t)) in
+      let y = length-drop (q .word) (wordsIn t) in
+      let n = table-count r in (
+        omega arith,
+        by-cases (ltb (q .word) (length (wordsIn t)))
+            (λ l. let k = ltb-true (q .word) (length (wordsIn t)) l in
+            let a = f k in
+            let b = length-short r (q .word) (omega arith) in
+            rw l (omega arith))
+            (λ l. rw l (omega arith)),
+      )
+
+  small-walk : (cs : List ℕ) (q : State) → Fits (wordsIn t) q → Small q → Small (walk (wordsIn t) q cs)
+  unfolding walk
+  small-walk [] q f s = s
+  small-walk (c ∷ cs) q f s =
+      small-walk cs (step (wordsIn t) q c) (fits-step (wordsIn t) c q f) (small-step c q f s)
+
+  -- the state behind any characters
+  pub state-small : (cs : List ℕ) → Small (walk (wordsIn t) start cs)
+  state-small cs = small-walk cs start (λ l. omega arith) (omega arith, omega arith)
+
+  pub state-packs : (cs : List ℕ) → pack (walk (wordsIn t) start cs) < 2 ^ 24
+  unfolding pack
+  state-packs cs =
+      let s = state-small cs in
+      let f = few-shapes (walk (wordsIn t) start cs .shape) in
+      omega arith
 
 -- ---- the words of each edition
 

@@ -1,4 +1,4 @@
--- Written by tools/proofkit from answers/check_name.tpl (de6006fa 65ff869b).
+-- Written by tools/proofkit from answers/check_name.tpl (173aa173 11443563).
 use borrow.Author.Needs.{needs}
 use native.Mathlib.Omega.{arith}
 use mathlib.Core.Path.{refl}
@@ -11,11 +11,11 @@ use Rattle.names.proofs.JudgeLaws.{told-good, told-bad}
 use Rattle.names.proofs.check_name.Statement.{statement}
 use Rattle.names.proofs.check_name.Tie as tie
 
-mul-end : tie.Need-mul-end
-mul-end c = omega (arith, field-lt 6 _ _ (value (c .before .before .before .read .ensures) (c .before .f .given .1)))
+mul-behind : tie.Need-mul-behind
+mul-behind c = omega (arith, field-lt 6 _ _ (value (c .before .before .before .read .ensures) (c .before .f .given .1)))
 
-add-end : tie.Need-add-end
-add-end c = omega (arith, field-lt 6 _ _ (value (c .before .before .before .read .ensures) (c .before .f .given .1)), field-end 6 _ _ (value (c .before .before .before .read .ensures) (c .before .f .given .1)))
+add-behind : tie.Need-add-behind
+add-behind c = omega (arith, field-lt 6 _ _ (value (c .before .before .before .read .ensures) (c .before .f .given .1)), field-end 6 _ _ (value (c .before .before .before .read .ensures) (c .before .f .given .1)))
 
 returns : tie.Need-returns
 returns c = name-short (sheetName (tableOf (c .before .before .before .before .before .before .before .args .edition))) _ _ (value (c .before .before .before .before .before .read .ensures) (c .before .before .before .f .given .1)) (omega arith)
@@ -42,8 +42,8 @@ check-name-spec =
     (λ c κs. search needs)
     (λ c. search needs)
     (λ c. search needs)
-    mul-end
-    add-end
+    mul-behind
+    add-behind
     (λ c κs. search needs)
     returns
     judge-name-requires
