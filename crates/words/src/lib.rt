@@ -1,5 +1,5 @@
-// The name rule of documents 01 and 02 as a walk over the characters of a name: the table of words that are no names, and
-// the state with its steps and its verdict (specs/Walking.antt).
+// The name rule of documents 01 and 02 as a walk over the characters of a name: the table of words that are no names,
+// the state, its steps and its verdict (specs/Walking.antt).
 ghost use mathlib.Core.Path.{_≡_};
 ghost use mathlib.Core.List.{[], _∷_};
 ghost use Prim.Native.Nat.{_-_, _≤_, _<_};
@@ -7,7 +7,8 @@ ghost use lib.ListN.{length, getD};
 ghost use Rattle.lexical.specs.Bytes.{within, same};
 ghost use Rattle.lexical.specs.Names.{letter};
 ghost use Rattle.words.specs.declared.Shape.the-variants.{Empty};
-ghost use Rattle.words.specs.Walking.{start as startState, stepShape, stepWord, firstWith, common, free, charBehind, comparedOf};
+ghost use Rattle.words.specs.Walking.{start as startState, stepShape, stepWord, firstWith, common, free};
+ghost use Rattle.words.specs.Walking.{charBehind, comparedOf};
 ghost use Rattle.words.specs.Walking.{behind as behindOf, verdict as verdictOf};
 ghost use Rattle.words.specs.Words.{wordsIn, addedIn, Right};
 
