@@ -88,8 +88,8 @@ pub enum Judged {
     Bad,
 }
 
-// The n characters at a position, by the rule of a sheet of that edition. Each window of them is read once, for the digest
-// and for the state.
+// The n characters at a position, by the rule of a sheet of that edition. Each window of them is read once, for the
+// digest and for the state.
 fn judge_name(t: &[u16; Words::SIZE], s: &[u8], at: u32, n: u32, edition: u32) -> Judged
     requires { ⌜ Right (now t) × Limited (now s) × (at + 7 * n ≤ 8 * length (now s)) ⌝ }
     ensures { λ r. ⌜ r ≡ judgedOf (sheetName (tableOf edition) (charsAt (now (s .entry)) at n))
