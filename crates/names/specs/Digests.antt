@@ -12,7 +12,7 @@ use Rattle.names.specs.declared.Digested.the-variants.{At, Fault}
 use Rattle.names.specs.Naming.{nameAt}
 
 -- a digest with a window of at most eight characters more, which is one number of 7 bits each: a multiplicative hash
--- (Knuth, TAOCP 6.4)
+-- (Knuth, TAOCP 6.4), whose multipliers no proof asks for
 unfoldable pub mix : ℕ → ℕ → ℕ
 mix h x = (h * 786033569 + x / 268435456 * 7116134815 + x % 268435456 * 10617743077) / 1048576 % 4294967296
 

@@ -47,7 +47,7 @@ fn to_u64(c: u8) -> u64
     c as u64
 }
 
-// A digest with a window of characters more.
+// A digest with a window of characters more; of a text they may have eight bits.
 fn mix(h: u64, x: u64) -> u64
     requires { ⌜ (h < 2 ^ 32) × (x < 2 ^ 58) ⌝ }
     ensures { λ r. ⌜ (r ≡ mixOf h x) × (r < 2 ^ 32) ⌝ }

@@ -1,18 +1,18 @@
 -- Laws of windows: a walk over the characters of a number.
 use mathlib.Core.Logic.{_⊎_, inl, inr}
 use mathlib.Core.Path.{_≡_, refl, sym, ap, _∙_}
-use mathlib.Core.List.{List, [], _∷_, _++_}
+use mathlib.Core.List.{List, [], _∷_}
 use mathlib.Core.Bool.{Bool, true, false, false≢true, _||_, not}
 use Prim.Native.Nat.{ℕ, zero, suc, _+_, _-_, _*_, _/_, _%_, _^_, _<_, _≤_}
 use native.Mathlib.Omega.{arith}
 use lib.Dec.{eqb}
-use lib.ListN.{length, getD, take, drop, drop-of-length-le}
+use lib.ListN.{length, drop, drop-of-length-le}
 use lib.Pow.{pow-add, pow-pos, mod-pow-add, shl-exact}
 use native.Mathlib.Nat.{mul-assoc, mod-lt, mod-eq-of-lt}
 use lib.Bits.{bitAnd}
 use borrow.Author.Tests.{lt-ltb, le-ltb, eq-eqb, ne-eqb}
 use Rattle.lexical.specs.Bytes.{every, charsIn}
-use Rattle.lexical.specs.Names.{letter, digit, nameChar, underscore, capital, starts, doubleUnderscore}
+use Rattle.lexical.specs.Names.{letter, digit, nameChar, underscore, doubleUnderscore}
 use Rattle.lexical.proofs.BoolLaws.{by-cases, both, not-true, not-false}
 use Rattle.lexical.proofs.LaneLaws.{lanes, nameMarks, all-names, scoreLane, scoreChar, lastScore, scoreMarks}
 use Rattle.lexical.proofs.LaneLaws.{scores-double, scores-last, scores-fit}

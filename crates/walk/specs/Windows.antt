@@ -7,7 +7,7 @@ use Rattle.words.specs.declared.Shape.the-variants.{Empty, Leading, Plain, Unde
 use Rattle.words.specs.declared.State.{State}
 use Rattle.words.specs.Walking.{walk}
 
--- the word of a walk, which the shape has no part in
+-- a walk from a word and a number of characters; its shape is not asked for
 abbrev pub walkWord : List (List ℕ) → ℕ → ℕ → List ℕ → State
 walkWord words i m cs = walk words (record { word = i; matched = m; shape = Empty }) cs
 

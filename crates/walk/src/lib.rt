@@ -16,7 +16,7 @@ ghost use Rattle.walk.specs.Windows.{walkWord, settled};
 
 // ---- the word
 
-// The word of a state, and how many characters it was asked for.
+// A state without its shape.
 pub struct Place {
     pub word: u8,
     pub matched: u8,

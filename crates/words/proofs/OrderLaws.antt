@@ -1,8 +1,8 @@
 -- Laws of sorted words: beginnings, and what stands behind a word.
-use mathlib.Core.Path.{_≡_, refl, sym, ap, ap₂, _∙_}
+use mathlib.Core.Path.{_≡_, refl, sym, ap, ap₂}
 use mathlib.Core.List.{List, [], _∷_, _++_}
-use mathlib.Core.Bool.{Bool, true, false, false≢true, _&&_, _||_, not}
-use Prim.Native.Nat.{ℕ, zero, suc, _+_, _<_, _≤_}
+use mathlib.Core.Bool.{Bool, true, false, false≢true, _&&_, and-false}
+use Prim.Native.Nat.{ℕ, zero, suc, _<_, _≤_}
 use native.Mathlib.Omega.{arith}
 use lib.Dec.{ltb, eqb}
 use lib.ListN.{length, getD, take, drop}
@@ -11,7 +11,6 @@ use borrow.Author.Tests.{ltb-true, lt-ltb}
 use Rattle.lexical.specs.Bytes.{every}
 use Rattle.lexical.proofs.BoolLaws.{both, and-of, by-cases, or-cases, or-left, or-right}
 use Rattle.lexical.proofs.ByteLaws.{byte-eq, byte-refl, every-cons}
-use Rattle.format.specs.Decode.{pick}
 use Rattle.words.specs.Walking.{begins, firstWith, before, sorted, common}
 
 -- ---- beginnings
@@ -144,11 +143,7 @@ not-before (c ∷ p) (d ∷ w) h =
     let q = both (eqb c d) (begins p w) h in
     let z = byte-eq c d (q .0) in
     by-cases (ltb d c) (λ k. absurd (let i = ltb-true d c k in omega arith))
-    (λ k. rw (k, not-before p w (q .1)) (and-no (eqb d c)))
-  where
-    and-no : (b : Bool) → (b && false) ≡ false
-    and-no true = refl
-    and-no false = refl
+    (λ k. rw (k, not-before p w (q .1)) (and-false (eqb d c)))
 
 -- ---- the first word with a beginning
 

@@ -1,11 +1,10 @@
 -- Laws of the shape: what it says of all characters that were read.
 use mathlib.Core.Path.{_≡_, refl, sym, ap, _∙_}
 use mathlib.Core.List.{List, [], _∷_}
-use mathlib.Core.Bool.{Bool, true, false, false≢true, _&&_, _||_, not, and-true, and-false, and-assoc}
+use mathlib.Core.Bool.{Bool, true, false, false≢true, _&&_, _||_, not, or-false, and-true, and-false}
 use Prim.Native.Nat.{ℕ}
-use lib.Dec.{eqb}
 use Rattle.lexical.specs.Bytes.{within, every}
-use Rattle.lexical.specs.Names.{letter, digit, nameStart, nameChar, starts, nameShape, underscore, capital}
+use Rattle.lexical.specs.Names.{letter, digit, nameChar, starts, nameShape, underscore, capital}
 use Rattle.lexical.specs.Names.{doubleUnderscore, underscoreCapital, reservedShape}
 use Rattle.lexical.proofs.BoolLaws.{by-cases, neither, or-left}
 use Rattle.lexical.proofs.ByteLaws.{byte-eq}
@@ -194,11 +193,7 @@ shape-free (c ∷ cs) =
     (λ e. rw (l, e) (ap free (broken-stays cs))))
   where
     plain : letter c ≡ true → underscore c ≡ false → run false cs ≡ (nameShape (c ∷ cs) && not (reservedShape (c ∷ cs)))
-    plain l e = rw (l, e, or-none (doubleUnderscore cs))
-      where
-        or-none : (b : Bool) → (b || false) ≡ b
-        or-none true = refl
-        or-none false = refl
+    plain l e = rw (l, e, or-false (doubleUnderscore cs))
 
     scored : (e d k : Bool) → ((e && not d) && not k) ≡ (e && not (d || k))
     scored true true k = refl

@@ -17,7 +17,7 @@ use Rattle.lexical.proofs.NameLaws.{table-first, table-later}
 use Rattle.format.specs.Decode.{pick}
 use Rattle.words.specs.declared.State.{State}
 use Rattle.words.specs.Walking.{begins, firstWith, stepWord, walk, verdict, baseVerdict, start, before, sorted, chosen}
-use Rattle.words.specs.Walking.{common, charBehind, comparedOf, free, isWord, Fits, step, shapeNumber, pack}
+use Rattle.words.specs.Walking.{common, charBehind, comparedOf, free, isWord, Fits, step, shapeNumber, shapeOf, pack, unpack}
 use Rattle.words.specs.declared.Shape.{Shape}
 use Rattle.words.specs.declared.Shape.the-variants.{Empty, Leading, Plain, Underscore, Reserved, Broken}
 use Rattle.words.specs.declared.Compared.{Compared}
@@ -35,11 +35,11 @@ unfolding wordsOf
 words-count [] b = refl
 words-count (n ∷ ns) b = ap suc (words-count ns (drop n b))
 
-word-long : (ns b : List ℕ) (i : ℕ) → i < length ns → total ns ≤ length b → length (getD (wordsOf ns b) i []) ≡ getD ns i 0
+words-long : (ns b : List ℕ) (i : ℕ) → i < length ns → total ns ≤ length b → length (getD (wordsOf ns b) i []) ≡ getD ns i 0
 unfolding wordsOf total
-word-long [] b i h l = absurd (omega arith)
-word-long (n ∷ ns) b zero h l = length-take-le n b (omega arith)
-word-long (n ∷ ns) b (suc i) h l = word-long ns (drop n b) i (omega arith) (rw (length-drop n b) (omega arith))
+words-long [] b i h l = absurd (omega arith)
+words-long (n ∷ ns) b zero h l = length-take-le n b (omega arith)
+words-long (n ∷ ns) b (suc i) h l = words-long ns (drop n b) i (omega arith) (rw (length-drop n b) (omega arith))
 
 word-at : (ns b : List ℕ) (at i k : ℕ) → i < length ns → k < getD ns i 0 →
     getD (getD (wordsOf ns (drop at b)) i []) k 0 ≡ getD b (getD (startsOf at ns) i 0 + k) 0
@@ -98,7 +98,7 @@ module _ {t : List ℕ} (r : Right t) where
   room = let z = r .size in let y = r .room in rw (length-drop 394 t) (omega arith)
 
   word-is : (w : ℕ) → w < 92 → length (getD (wordsIn t) w []) ≡ getD (lengthsIn t) w 0
-  word-is w h = word-long (lengthsIn t) (drop 394 t) w (rw (part-long 0 (omega arith)) h) room
+  word-is w h = words-long (lengthsIn t) (drop 394 t) w (rw (part-long 0 (omega arith)) h) room
 
   pub length-at : (w : ℕ) → w < 92 → getD t w 0 ≡ length (getD (wordsIn t) w [])
   length-at w h = sym (word-is w h ∙ getD-take 92 t w 0 h)
@@ -183,15 +183,6 @@ module _ {t : List ℕ} (r : Right t) where
 
 -- ---- a state is three bytes
 
--- the shape of a number
-abbrev shapeOf : ℕ → Shape
-shapeOf zero = Empty
-shapeOf (suc zero) = Leading
-shapeOf (suc (suc zero)) = Plain
-shapeOf (suc (suc (suc zero))) = Underscore
-shapeOf (suc (suc (suc (suc zero)))) = Reserved
-shapeOf (suc (suc (suc (suc (suc n))))) = Broken
-
 shape-of : (q : Shape) → shapeOf (shapeNumber q) ≡ q
 shape-of Empty = refl
 shape-of Leading = refl
@@ -208,8 +199,8 @@ few-shapes Underscore = omega arith
 few-shapes Reserved = omega arith
 few-shapes Broken = omega arith
 
--- a state whose fields are bytes
-abbrev pub Small : State → Type 0
+-- no more than the 92 words of the table, and one character more than its longest
+abbrev Small : State → Type 0
 Small q = (q .word ≤ 92) × (q .matched ≤ 17)
 
 -- the three bytes of its number
@@ -226,16 +217,16 @@ module _ (q : State) (s : Small q) where
   unfolding pack
   third-byte = omega arith
 
--- it is told by its number
-pub pack-apart : (p q : State) → Small p → Small q → pack p ≡ pack q → p ≡ q
-pack-apart p q a b e =
-    let w : p .word ≡ q .word = sym (first-byte p a) ∙ ap (λ (x : ℕ). x % 256) e ∙ first-byte q b in
-    let m : p .matched ≡ q .matched = sym (second-byte p a) ∙ ap (λ (x : ℕ). x / 256 % 256) e ∙ second-byte q b in
-    let n : shapeNumber (p .shape) ≡ shapeNumber (q .shape) =
-    sym (third-byte p a) ∙ ap (λ (x : ℕ). x / 65536) e ∙ third-byte q b in
-    let s : p .shape ≡ q .shape = sym (shape-of (p .shape)) ∙ ap shapeOf n ∙ shape-of (q .shape) in
-    let z : _≡_ {A = State} (record { word = p .word; matched = p .matched; shape = p .shape })
-    (record { word = q .word; matched = q .matched; shape = q .shape }) = rw (w, m, s) in
+packs : (q : State) → Small q → pack q < 2 ^ 24
+unfolding pack
+packs q s = let f = few-shapes (q .shape) in omega arith
+
+unpacked : (q : State) → Small q → unpack (pack q) ≡ q
+unfolding unpack
+unpacked q s =
+    let z : _≡_ {A = State} (record { word = pack q % 256; matched = pack q / 256 % 256; shape = shapeOf (pack q / 65536) })
+    (record { word = q .word; matched = q .matched; shape = q .shape }) =
+    rw (first-byte q s, second-byte q s, third-byte q s, shape-of (q .shape)) in
     z
 
 module _ {t : List ℕ} (r : Right t) where
@@ -260,16 +251,12 @@ module _ {t : List ℕ} (r : Right t) where
   small-walk (c ∷ cs) q f s =
       small-walk cs (step (wordsIn t) q c) (fits-step (wordsIn t) c q f) (small-step c q f s)
 
-  -- the state behind any characters
-  pub state-small : (cs : List ℕ) → Small (walk (wordsIn t) start cs)
-  state-small cs = small-walk cs start (λ l. omega arith) (omega arith, omega arith)
-
-  pub state-packs : (cs : List ℕ) → pack (walk (wordsIn t) start cs) < 2 ^ 24
-  unfolding pack
-  state-packs cs =
-      let s = state-small cs in
-      let f = few-shapes (walk (wordsIn t) start cs .shape) in
-      omega arith
+  -- the state behind any characters is a number of three bytes
+  pub state-packed : (cs : List ℕ) →
+      (pack (walk (wordsIn t) start cs) < 2 ^ 24) × (unpack (pack (walk (wordsIn t) start cs)) ≡ walk (wordsIn t) start cs)
+  state-packed cs =
+      let s = small-walk cs start (λ l. omega arith) (omega arith, omega arith) in
+      (packs (walk (wordsIn t) start cs) s, unpacked (walk (wordsIn t) start cs) s)
 
 -- ---- the words of each edition
 

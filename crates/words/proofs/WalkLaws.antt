@@ -1,22 +1,19 @@
 -- The verdict behind a walk is the name rule, for any sorted table of words.
-use mathlib.Core.Path.{_≡_, refl, sym, ap, _∙_}
+use mathlib.Core.Path.{_≡_, refl, sym, _∙_}
 use mathlib.Core.List.{List, [], _∷_, _++_, append-nil, append-assoc}
 use mathlib.Core.Bool.{Bool, true, false, false≢true, _&&_, _||_, not, and-true, and-false}
-use Prim.Native.Nat.{ℕ, zero, suc, _+_, _*_, _^_, _<_, _≤_}
+use Prim.Native.Nat.{ℕ, suc, _+_, _<_, _≤_}
 use native.Mathlib.Omega.{arith}
 use lib.Dec.{leb, ltb, eqb, leb·suc-suc, eqb·suc-suc}
 use lib.ListN.{length, getD, take, drop, length-append, length-drop, drop-of-length-le}
-use lib.Seq.{drop-cons, length-take-le, getD-drop, take-length}
-use borrow.Author.Tests.{ltb-true, ltb-false, lt-ltb, le-ltb, eqb-true, eq-eqb, ne-eqb}
+use lib.Seq.{length-take-le, getD-drop, take-length}
+use borrow.Author.Tests.{ltb-true, ltb-false, lt-ltb, ne-eqb}
 use Rattle.lexical.specs.Bytes.{every, same, member}
 use Rattle.lexical.specs.Names.{nameShape, nameOk, reservedShape, sheetName}
 use Rattle.lexical.proofs.BoolLaws.{both, by-cases}
-use Rattle.lexical.proofs.ByteLaws.{byte-eq, same-eq, same-refl, every-cons}
-use Rattle.format.specs.Decode.{pick}
+use Rattle.lexical.proofs.ByteLaws.{same-eq, every-cons}
 use Rattle.words.specs.declared.State.{State}
-use Rattle.words.specs.declared.Shape.{Shape}
-use Rattle.words.specs.declared.Shape.the-variants.{Empty}
-use Rattle.words.specs.Walking.{walkShape, free, wellFormed, begins, firstWith, stepWord, step, walk, Fits}
+use Rattle.words.specs.Walking.{walkShape, begins, firstWith, stepWord, step, walk, Fits}
 use Rattle.words.specs.Walking.{isWord, verdict, baseVerdict, start, before, sorted, withIf, chosen}
 use Rattle.words.proofs.OrderLaws.{begins-take, take-begins, begins-less, not-before}
 use Rattle.words.proofs.ShapeLaws.{shape-formed, shape-free}

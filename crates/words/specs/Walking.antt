@@ -2,7 +2,7 @@
 -- steps and its verdict, for any table of words.
 use mathlib.Core.List.{List, [], _∷_, _++_}
 use mathlib.Core.Bool.{Bool, true, false, _&&_, _||_, not}
-use Prim.Native.Nat.{ℕ, zero, suc, _+_, _*_, _<_, _≤_}
+use Prim.Native.Nat.{ℕ, zero, suc, _+_, _*_, _/_, _%_, _<_, _≤_}
 use lib.Dec.{leb, ltb, eqb}
 use lib.ListN.{length, getD, take, drop}
 use Rattle.lexical.specs.Bytes.{every}
@@ -16,7 +16,7 @@ use Rattle.words.specs.declared.Compared.the-variants.{Same, Larger, Oth
 
 -- ---- the shape: what the characters up to here are
 -- Empty: there are none. Leading: an underscore alone. Plain: a name that ends otherwise than in an underscore.
--- Underscore: a longer name that ends in one. Reserved: a name of a form that [lex.name] keeps. Broken: no name.
+-- Underscore: a longer name that ends in one. Reserved: a name of a form that [lex.name] reserves. Broken: no name.
 
 -- c behind other characters: a letter or digit leaves `plain`, an underscore `score`
 abbrev pub behind : Shape → Shape → ℕ → Shape
@@ -43,7 +43,7 @@ wellFormed Underscore = true
 wellFormed Reserved = true
 wellFormed Broken = false
 
--- and of no form that is kept
+-- and of no form that is reserved
 abbrev pub free : Shape → Bool
 free Empty = false
 free Leading = true
@@ -54,6 +54,7 @@ free Broken = false
 
 -- ---- the word: the first of a table that begins with the characters up to here
 
+-- p is a prefix of w
 unfoldable pub begins : List ℕ → List ℕ → Bool
 begins [] w = true
 begins (c ∷ p) [] = false
@@ -71,7 +72,7 @@ module _ (words : List (List ℕ)) where
 
   -- ---- the state
 
-  -- it has one character more; they are counted as long as some word begins with them
+  -- it has one character more, which is counted if some word began with those before it
   unfoldable pub step : State → ℕ → State
   step q c = record {
     word = stepWord (q .word) (q .matched) c;
@@ -83,7 +84,7 @@ module _ (words : List (List ℕ)) where
   walk q [] = q
   walk q (c ∷ cs) = walk (step q c) cs
 
-  -- the state's word is as long as what was read of it
+  -- the state's word is no shorter than what was matched
   abbrev pub Fits : State → Type 0
   Fits q = q .word < length words → q .matched ≤ length (getD words (q .word) [])
 
@@ -113,12 +114,25 @@ shapeNumber Underscore = 3
 shapeNumber Reserved = 4
 shapeNumber Broken = 5
 
+-- the shape of a number
+abbrev pub shapeOf : ℕ → Shape
+shapeOf zero = Empty
+shapeOf (suc zero) = Leading
+shapeOf (suc (suc zero)) = Plain
+shapeOf (suc (suc (suc zero))) = Underscore
+shapeOf (suc (suc (suc (suc zero)))) = Reserved
+shapeOf (suc (suc (suc (suc (suc n))))) = Broken
+
 unfoldable pub pack : State → ℕ
 pack q = q .word + 256 * (q .matched) + 65536 * shapeNumber (q .shape)
 
+-- the state of a number of three bytes
+unfoldable pub unpack : ℕ → State
+unpack x = record { word = x % 256; matched = x / 256 % 256; shape = shapeOf (x / 65536) }
+
 -- ---- sorted tables
 
--- a stands before b in the order of dictionaries
+-- a stands before b in lexicographic order
 unfoldable pub before : List ℕ → List ℕ → Bool
 before a [] = false
 before [] (d ∷ b) = true
@@ -138,16 +152,16 @@ unfoldable pub chosen : ℕ → List (List ℕ) → List ℕ → List (List ℕ)
 chosen e [] added = []
 chosen e (w ∷ ws) added = withIf (leb 2 e || eqb (getD added 0 0) 0) w (chosen e ws (drop 1 added))
 
--- how many characters two words have in common, from the first on
+-- the length of the longest common prefix
 unfoldable pub common : List ℕ → List ℕ → ℕ
 common [] b = 0
 common (c ∷ a) [] = 0
 common (c ∷ a) (d ∷ b) = pick (eqb c d) (suc (common a b)) 0
 
--- the character of a word behind its first m, and 1; 0 if there is none
+-- the character of a word behind its first m, plus 1; 0 if there is none
 abbrev pub charBehind : List ℕ → ℕ → ℕ
 charBehind w m = pick (ltb m (length w)) (getD w m 0 + 1) 0
 
--- what that is to c
+-- how it compares with c
 abbrev pub comparedOf : ℕ → ℕ → Compared
 comparedOf d c = pick (eqb d (c + 1)) Same (pick (ltb (c + 1) d) Larger Other)

@@ -94,7 +94,7 @@ pub enum Shape {
     Broken,
 }
 
-// The first word that begins with them, how many of them it was asked for, and the shape.
+// The number of the first word that begins with them, how many characters it was searched for, and the shape.
 pub struct State {
     pub word: u8,
     pub matched: u8,

@@ -1,8 +1,8 @@
--- Written by tools/proofkit from answers/judge_name.tpl (8a86a61a 0cf46f8d).
+-- Written by tools/proofkit from answers/judge_name.tpl (2d877958 fe206f34).
 use borrow.Author.Needs.{needs}
 use native.Mathlib.Omega.{arith}
-use mathlib.Core.Path.{_≡_, refl, sym, _∙_}
-use Prim.Native.Nat.{_+_, _*_, _/_, _%_, _^_, _<_, _≤_, _-_}
+use mathlib.Core.Path.{_≡_, _∙_}
+use Prim.Native.Nat.{_/_, _%_, _^_, _<_, _≤_, _-_}
 use Rattle.text.specs.Text.{charsAt}
 use Rattle.cursor.proofs.BitLaws.{bits-short, bits-lt}
 use Rattle.words.specs.Walking.{walk, Fits, start}

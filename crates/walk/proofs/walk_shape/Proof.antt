@@ -1,8 +1,8 @@
--- Written by tools/proofkit from answers/walk_shape.tpl (7e5756cf 6aac5faa).
+-- Written by tools/proofkit from answers/walk_shape.tpl (2efb9c94 f9308b76).
 use borrow.Author.Needs.{needs}
 use native.Mathlib.Omega.{arith}
 use native.Mathlib.Nat.{mod-lt}
-use mathlib.Core.Path.{_≡_, refl, sym, ap, _∙_}
+use mathlib.Core.Path.{_≡_, refl, sym, _∙_}
 use borrow.Author.Tests.{not-false}
 use Prim.Native.Nat.{_-_, _≤_, _%_, _/_, _^_}
 use lib.Pow.{pow-pos}

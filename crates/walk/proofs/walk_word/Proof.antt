@@ -1,7 +1,7 @@
--- Written by tools/proofkit from answers/walk_word.tpl (efac5ae9 c9f21d4b).
+-- Written by tools/proofkit from answers/walk_word.tpl (eebd401d ee4c0676).
 use borrow.Author.Needs.{needs}
 use native.Mathlib.Omega.{arith}
-use mathlib.Core.Path.{_≡_, refl, sym, _∙_}
+use mathlib.Core.Path.{_≡_}
 use borrow.Author.Tests.{ltb-true, ltb-false}
 use Prim.Native.Nat.{_≤_, _%_, _/_, _^_}
 use Rattle.lexical.specs.Bytes.{charsIn}

@@ -1,6 +1,5 @@
--- Written by tools/proofkit from answers/verdict.tpl (99731478 7c932d0b).
+-- Written by tools/proofkit from answers/verdict.tpl (d01f642f b2b80478).
 use borrow.Author.Needs.{needs}
-use native.Mathlib.Omega.{arith}
 use mathlib.Core.Path.{refl}
 use Rattle.words.proofs.TableLaws.{verdict-lost, verdict-none, verdict-other, verdict-first, verdict-later}
 use Rattle.words.proofs.verdict.Statement.{statement}
