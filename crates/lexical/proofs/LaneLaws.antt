@@ -6,7 +6,7 @@ use Prim.Native.Nat.{ℕ, zero, suc, _+_, _-_, _*_, _/_, _%_, _^_, _<_, _≤_}
 use native.Mathlib.Nat.{mul-assoc}
 use native.Mathlib.Omega.{arith}
 use lib.Dec.{eqb}
-use lib.Pow.{split, high, low, pow-add, pow-mono, shr-lt}
+use lib.Pow.{split, high, low, pow-add, shr-lt}
 use lib.Bits.{bitAnd, bitOr, bitXor, and-block, or-block, xor-block, and-lt, or-lt, xor-lt, and-le-r}
 use borrow.Author.Tests.{eqb-true, eqb-false, eq-eqb, ne-eqb}
 use Rattle.lexical.specs.Bytes.{every, charsIn}
@@ -217,10 +217,6 @@ score-lt : (b : Bool) → scoreLane b < 128
 score-lt true = omega arith
 score-lt false = omega arith
 
-score-times : (b : Bool) (k : ℕ) → scoreLane b * k ≤ 64 * k
-score-times true k = omega arith
-score-times false k = omega arith
-
 score-none : (b : Bool) → eqb (scoreLane b) 0 ≡ not b
 score-none true = refl
 score-none false = refl
@@ -298,10 +294,3 @@ module _ (b : Bool) (n x : ℕ) {u : ℕ} (e : u ≡ scoreMarks 8 x + scoreLane 
 
   pub scores-last : x < 2 ^ (7 * n) → eqb (u % 128) 0 ≡ not (lastScore b (charsIn n x))
   scores-last h = rw (e, scored-all b n 8 x l h .0) (score-none (lastScore b (charsIn n x)))
-
-  pub scores-fit : u < 2 ^ 63
-  unfolding scoreMarks lanes
-  scores-fit =
-      let p : 7 * n ≤ 56 = omega arith in
-      let q = and-le-r (bitAnd (between 63 33 32 8 x) x) (lanes 8 64) in
-      omega (arith, q, score-times b (2 ^ (7 * n)), pow-mono p)

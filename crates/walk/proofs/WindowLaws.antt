@@ -7,15 +7,15 @@ use Prim.Native.Nat.{ℕ, zero, suc, _+_, _-_, _*_, _/_, _%_, _^_, _<_, _≤_}
 use native.Mathlib.Omega.{arith}
 use lib.Dec.{eqb}
 use lib.ListN.{length, drop, drop-of-length-le}
-use lib.Pow.{pow-add, pow-pos, mod-pow-add, shl-exact}
+use lib.Pow.{pow-add, pow-pos, pow-mono, mod-pow-add, shl-lt, shl-exact}
 use native.Mathlib.Nat.{mul-assoc, mod-lt, mod-eq-of-lt}
-use lib.Bits.{bitAnd}
+use lib.Bits.{bitAnd, and-le-r}
 use borrow.Author.Tests.{lt-ltb, le-ltb, eq-eqb, ne-eqb}
 use Rattle.lexical.specs.Bytes.{every, charsIn}
 use Rattle.lexical.specs.Names.{letter, digit, nameChar, underscore, doubleUnderscore}
 use Rattle.lexical.proofs.BoolLaws.{by-cases, both, not-true, not-false}
 use Rattle.lexical.proofs.LaneLaws.{lanes, nameMarks, all-names, scoreLane, scoreChar, lastScore, scoreMarks}
-use Rattle.lexical.proofs.LaneLaws.{scores-double, scores-last, scores-fit}
+use Rattle.lexical.proofs.LaneLaws.{between, scores-double, scores-last}
 use Rattle.format.specs.Decode.{pick}
 use Rattle.words.specs.declared.Shape.{Shape}
 use Rattle.words.specs.declared.Shape.the-variants.{Empty, Leading, Plain, Underscore, Reserved, Broken}
@@ -192,6 +192,14 @@ module _ (x bits : ℕ) (l : bits ≤ 56) (m : bits % 7 ≡ 0) (h : x < 2 ^ bits
   pub none-here : (nameMarks 8 x ≡ lanes 8 64 / 2 ^ (56 - bits) → ⊥) → every nameChar (charsIn (bits / 7) x) ≡ false
   none-here n = sym all-is ∙ ne-eqb (nameMarks 8 x) (lanes 8 64 / 2 ^ (56 - bits)) n
 
+  -- the lanes with one in front of them
+  pub sum-room : (s : ℕ) → s ≤ 64 → scoreMarks 8 x + s * 2 ^ bits % 2 ^ 64 < 2 ^ 64
+  unfolding scoreMarks lanes
+  sum-room s k =
+      let r : 7 + bits ≤ 63 = omega arith in
+      let z = shl-lt {a = s} 7 bits (omega arith) in
+      rw (shl-exact {a = s} 7 bits 64 (omega arith) (omega arith)) (omega (arith, z, pow-mono r, and-le-r (bitAnd (between 63 33 32 8 x) x) (lanes 8 64)))
+
   module _ {q : Shape} {s : ℕ} (c : Score q s) {u : ℕ} (e : u ≡ scoreMarks 8 x + s * 2 ^ bits % 2 ^ 64) where
     sum : u ≡ scoreMarks 8 x + scoreLane (c .score) * 2 ^ (7 * (bits / 7))
     sum = e ∙ rw (c .lane, shl-exact 7 bits 64 (lane-lt (c .score)) (omega arith), seven)
@@ -199,9 +207,6 @@ module _ (x bits : ℕ) (l : bits ≤ 56) (m : bits % 7 ≡ 0) (h : x < 2 ^ bits
         lane-lt : (b : Bool) → scoreLane b < 2 ^ 7
         lane-lt true = omega arith
         lane-lt false = omega arith
-
-    pub sum-fits : u < 2 ^ 63
-    sum-fits = scores-fit (c .score) (bits / 7) x sum (omega arith)
 
     module _ (all : every nameChar (charsIn (bits / 7) x) ≡ true) where
       ends : walkShape q (charsIn (bits / 7) x) ≡

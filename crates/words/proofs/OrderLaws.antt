@@ -78,7 +78,7 @@ common-no (c ∷ p) (d ∷ a) (e ∷ b) h g =
 -- ---- behind a word
 
 -- a word behind p that does not begin with it: no word behind this one does
-pub beyond : (p a x : List ℕ) → before p a ≡ true → begins p a ≡ false → before a x ≡ true → begins p x ≡ false
+beyond : (p a x : List ℕ) → before p a ≡ true → begins p a ≡ false → before a x ≡ true → begins p x ≡ false
 unfolding begins before
 beyond [] a x h n g = absurd (false≢true (sym n))
 beyond (c ∷ p) [] x h n g = absurd (false≢true h)
@@ -156,7 +156,7 @@ none-later p a (w ∷ ws) h n g =
     let q = every-cons (before a) w ws g in
     rw (beyond p a w h n (q .0)) (ap suc (none-later p a ws h n (q .1)))
 
-pub sorted-drop : (i : ℕ) (ws : List (List ℕ)) → sorted ws ≡ true → sorted (drop i ws) ≡ true
+sorted-drop : (i : ℕ) (ws : List (List ℕ)) → sorted ws ≡ true → sorted (drop i ws) ≡ true
 unfolding sorted
 sorted-drop zero ws h = h
 sorted-drop (suc i) [] h = h

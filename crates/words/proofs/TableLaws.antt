@@ -136,7 +136,7 @@ module _ {t : List ℕ} (r : Right t) where
       let z : suc i - 1 ≡ i = omega arith in
       rw (← part-at 92 (suc i) h, r .shared, z) (shared-at [] (wordsIn t) i (rw table-count h))
 
-  pub added-at : (w : ℕ) → w < 92 → getD t (184 + w) 0 ≡ getD (addedIn t) w 0
+  added-at : (w : ℕ) → w < 92 → getD t (184 + w) 0 ≡ getD (addedIn t) w 0
   added-at w h = sym (part-at 184 w h)
 
   pub first-few : (c : ℕ) → firstWith (c ∷ []) (wordsIn t) ≤ 92

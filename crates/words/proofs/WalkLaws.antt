@@ -87,13 +87,13 @@ module _ (words : List (List ℕ)) where
         rw (lt-ltb (q .word) (length words) k, r .matched k, length-append));
   }
 
-  pub reached-walk : (cs p : List ℕ) (q : State) → Reached p q → Reached (p ++ cs) (walk words q cs)
+  reached-walk : (cs p : List ℕ) (q : State) → Reached p q → Reached (p ++ cs) (walk words q cs)
   unfolding walk
   reached-walk [] p q r = rw (append-nil p) r
   reached-walk (c ∷ cs) p q r =
       rw (← append-assoc p (c ∷ []) cs) (reached-walk cs (p ++ (c ∷ [])) (step words q c) (reached-step c p q r))
 
-  pub reached : (cs : List ℕ) → Reached cs (walk words start cs)
+  reached : (cs : List ℕ) → Reached cs (walk words start cs)
   reached cs = reached-walk cs [] start (record { word = sym (first-all words); matched = λ l. refl })
 
   pub walk-shape : (cs : List ℕ) (q : State) → walk words q cs .shape ≡ walkShape (q .shape) cs

@@ -1,11 +1,11 @@
--- Written by tools/proofkit from answers/shape_behind.tpl (233e14d0 65c845a5).
+-- Written by tools/proofkit from answers/shape_behind.tpl (53750a13 81143389).
 use borrow.Author.Needs.{needs}
 use native.Mathlib.Omega.{arith}
 use mathlib.Core.Path.{refl, sym}
 use Rattle.words.proofs.ShapeLaws.{broken-stays}
 use lib.Bits.{and-le-r}
 use Rattle.lexical.proofs.LaneLaws.{lanes, nameMarks, scoreMarks}
-use Rattle.walk.proofs.WindowLaws.{by-four, score-empty, score-leading, score-plain, score-under, all-here, none-here, sum-fits, window-broken, window-reserved, window-double, window-score, window-plain}
+use Rattle.walk.proofs.WindowLaws.{by-four, score-empty, score-leading, score-plain, score-under, all-here, none-here, sum-room, window-broken, window-reserved, window-double, window-score, window-plain}
 use Rattle.walk.proofs.shape_behind.Statement.{statement}
 use Rattle.walk.proofs.shape_behind.Tie as tie
 
@@ -46,7 +46,7 @@ returns-3 c = rw (c .enum-told6 .given .1) (sym (broken-stays _))
 
 add-u : tie.Need-add-u
 unfolding lanes scoreMarks
-add-u c = record { fits = omega (arith, sum-fits (c .before .before .before .args .x) (c .before .before .before .args .bits) (c .before .before .before .pre .1) (c .before .before .before .pre .2) (c .before .before .before .pre .3) (by-four (λ a. score-empty (c .before .before .before .pre .0) (a .1 .given .1)) (λ a. score-leading (c .before .before .before .pre .0) (a .1 .given .1)) (λ a. score-plain (a .1 .given .1) (a .2)) (λ a. score-under (a .1 .given .1) (a .2)) (c .before .match .came)) refl) }
+add-u c = record { fits = sum-room (c .before .before .before .args .x) (c .before .before .before .args .bits) (c .before .before .before .pre .1) (c .before .before .before .pre .2) (c .before .before .before .pre .3) _ (by-four (λ a. omega (arith, a .2)) (λ a. omega (arith, a .2)) (λ a. omega (arith, a .2)) (λ a. omega (arith, a .2)) (c .before .match .came)) }
 
 returns-4 : tie.Need-returns-4
 unfolding lanes nameMarks scoreMarks
