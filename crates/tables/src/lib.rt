@@ -64,7 +64,8 @@ impl Pool {
 
 // ---- the table
 
-fn copy_words(from: &[u32], to: &mut [u32])
+// Words into as many places.
+pub fn copy_words(from: &[u32], to: &mut [u32])
     requires { ⌜ length (now to) ≡ length (now from) ⌝ }
     ensures { λ _. ⌜ now (to .exit) ≡ now (from .entry) ⌝ }
 {
