@@ -1,6 +1,6 @@
 // Declarations, layouts and shims, each in its namespace and section: the port of the parts of write.rs that write an
 // item. Every function is lent the sheet, the table and the pool, the digests of the names, and the buffer; a
-// function's writer also room for the views of its arguments.
+// function's writer also the summaries that are kept, and room for one.
 use content::begin_extern_c;
 use content::end_extern_c;
 use content::set_namespace;
@@ -12,22 +12,22 @@ use out::next_section;
 use out::placed;
 use out::prepare;
 use shim::write_function_shim;
+use summary::load_summary;
 use tables::Pool;
 use tables::Table;
-use tables::fill_arguments;
 use tables::function;
 use view::ItemView;
 ghost use mathlib.Core.Path.{_≡_};
 ghost use mathlib.Core.Bool.{false};
 ghost use Prim.Native.Nat.{_≤_};
 ghost use lib.ListN.{length};
-ghost use Rattle.format.specs.Limits.{mostArguments};
 ghost use Rattle.format.specs.declared.ItemKind.the-variants.{RustFunction};
 ghost use Rattle.syntax.specs.Items.{itemAt};
 ghost use Rattle.bridge.specs.Write.{writeRustFunctionDecl, writeOpaqueTypeLayoutDecls, layoutDefinition};
 ghost use Rattle.bridge.specs.Write.{writeOpaqueTypeLayout};
 ghost use Rattle.names.specs.Digests.{digestsAt};
 ghost use Rattle.sections.specs.Runs.{Representing, Runs, hiddenForm, sectionOf, shimSection, sheetOf};
+ghost use Rattle.summary.specs.Summaries.{Summaries};
 ghost use Rattle.tables.specs.Tables.{namesIn, itemsOf, functionOf, Item, Lent};
 
 // ---- declarations
@@ -38,20 +38,21 @@ pub fn write_rust_function_decl(
     pool: &[u8; Pool::BYTES],
     digests: &[u32],
     v: ItemView,
+    kept: &[u32],
     offsets: &mut [u32],
     c: Content,
     out: &mut [u8],
 ) -> Content
     requires { ⌜ Lent (now s) (now t) (now pool) × (now digests ≡ digestsAt (now s) (namesIn (now t))) ×
-        Item (now s) (now t) v × (v .kind ≡ RustFunction) × (mostArguments ≤ length (now offsets)) ×
-        Representing (now s) (namesIn (now t)) (now out) c ⌝ }
+        Item (now s) (now t) v × (v .kind ≡ RustFunction) × Summaries (now s) (now t) (now kept) ×
+        (34 ≤ length (now offsets)) × Representing (now s) (namesIn (now t)) (now out) c ⌝ }
     ensures { λ r. ⌜ Runs (now (s .entry)) (namesIn (now (t .entry))) (now (out .entry)) (now (out .exit))
         (writeRustFunctionDecl (itemsOf (now (s .entry)) (now (t .entry)))
         (itemAt (itemsOf (now (s .entry)) (now (t .entry))) (v .number))
         (functionOf (now (s .entry)) (now (t .entry)) (v .number))) c r ⌝ }
 {
     let f = function(s, t, v);
-    fill_arguments(s, t, f, offsets);
+    load_summary(s, t, f, kept, offsets);
     let inside = set_namespace(s, t, digests, c, v);
     let begun = begin_extern_c(s, t, digests, inside);
     let asked = next_section(begun);
@@ -149,13 +150,14 @@ pub fn write_rust_function_shim(
     header: bool,
     doxygen: bool,
     v: ItemView,
+    kept: &[u32],
     offsets: &mut [u32],
     c: Content,
     out: &mut [u8],
 ) -> Content
     requires { ⌜ Lent (now s) (now t) (now pool) × (now digests ≡ digestsAt (now s) (namesIn (now t))) ×
-        Item (now s) (now t) v × (v .kind ≡ RustFunction) × (mostArguments ≤ length (now offsets)) ×
-        Representing (now s) (namesIn (now t)) (now out) c ⌝ }
+        Item (now s) (now t) v × (v .kind ≡ RustFunction) × Summaries (now s) (now t) (now kept) ×
+        (34 ≤ length (now offsets)) × Representing (now s) (namesIn (now t)) (now out) c ⌝ }
     ensures { λ r. ⌜ Runs (now (s .entry)) (namesIn (now (t .entry))) (now (out .entry)) (now (out .exit))
         (shimSection
         (sheetOf header doxygen (itemsOf (now (s .entry)) (now (t .entry))))
@@ -163,7 +165,7 @@ pub fn write_rust_function_shim(
         (functionOf (now (s .entry)) (now (t .entry)) (v .number))) c r ⌝ }
 {
     let f = function(s, t, v);
-    let comment = fill_arguments(s, t, f, offsets);
+    let comment = load_summary(s, t, f, kept, offsets);
     let asked = next_section(c);
     let inside = set_namespace(s, t, digests, asked, v);
     let hidden = is_hidden(header, f.form);

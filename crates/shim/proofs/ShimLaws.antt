@@ -97,11 +97,7 @@ module _ {s names items : List ℕ} {f : FunctionView} (a : FunctionAt s names i
 -- ---- the comment
 
 module _ {s names items : List ℕ} {f : FunctionView} (a : FunctionAt s names items f) where
-  module _ {at : ℕ}
-      (e : at ≡ nextOf (many (f .arguments) (argument (namesAt s names) (length items)) s (f .first .at))) where
-    comment-there : Yields (commentLines s at) (functionAt s names items (f .number) .comment)
-    comment-there = rw e (a .view .comment)
-
+  module _ (at : ℕ) (comment-there : Yields (commentLines s at) (functionAt s names items (f .number) .comment)) where
     pub comment-yields : Yields (commentLines s at) (valueOr [] (commentLines s at))
     comment-yields = rw (yielded [] comment-there) comment-there
 

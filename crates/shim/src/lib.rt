@@ -25,7 +25,9 @@ ghost use Rattle.lexical.specs.Decimal.{pickText};
 ghost use Rattle.syntax.specs.Items.{itemAt};
 ghost use Rattle.bridge.specs.Write.{isFree, shimBody, writeDoc, functionShim};
 ghost use Rattle.sink.specs.Sink.{sink, Wrote};
-ghost use Rattle.tables.specs.Tables.{itemsOf, functionOf, Item, Function, Arguments, behindArguments, Lent};
+ghost use Rattle.view.specs.Values.{Yields};
+ghost use Rattle.view.specs.Views.{commentLines};
+ghost use Rattle.tables.specs.Tables.{itemsOf, functionOf, Item, Function, Arguments, Lent};
 
 // ---- the body
 
@@ -97,7 +99,7 @@ fn write_shim_doc(
     at: usize,
 ) -> usize
     requires { ⌜ Lent (now s) (now t) (now pool) × Function (now s) (now t) f ×
-        (comment .at ≡ behindArguments (now s) (now t) f) ⌝ }
+        Yields (commentLines (now s) (comment .at)) (functionOf (now s) (now t) (f .number) .comment) ⌝ }
     ensures { λ r. ⌜ Wrote (sink (now (out .entry)) at)
         (pickText (isFree (functionOf (now (s .entry)) (now (t .entry)) (f .number) .form))
         (writeDoc doxygen (functionOf (now (s .entry)) (now (t .entry))
@@ -126,7 +128,7 @@ pub fn write_function_shim(
     requires { ⌜ Lent (now s) (now t) (now pool) × Item (now s) (now t) v ×
         Function (now s) (now t) f × (f .number ≡ v .number) ×
         Arguments (now s) (now t) f (now offsets) × (f .arguments ≤ length (now offsets)) ×
-        (comment .at ≡ behindArguments (now s) (now t) f) ⌝ }
+        Yields (commentLines (now s) (comment .at)) (functionOf (now s) (now t) (f .number) .comment) ⌝ }
     ensures { λ r. ⌜ Wrote (sink (now (out .entry)) at)
         (functionShim (record {
           header = header;

@@ -5,7 +5,8 @@ use mathlib.Core.List.{List, _++_}
 use Prim.Native.Nat.{ℕ, _+_, _-_, _<_, _≤_}
 use native.Mathlib.Omega.{arith}
 use native.Mathlib.Decide.{ℕ-discrete}
-use lib.ListN.{length, getD, take, drop, set, replicate, length-set, length-take, length-drop, length-append, List·getD-append, getD-replicate}
+use lib.ListN.{length, getD, take, drop, set, replicate, length-set, length-take, length-drop, length-append, length-replicate}
+use lib.ListN.{List·getD-append, getD-replicate}
 use lib.Seq.{getD-take, getD-drop, getD-set-same, getD-set-other, getD-append-add, length-take-le}
 use borrow.Rule.Slice.PartMut.{putMid, postOf, same-len-mid}
 use Rattle.cursor.specs.declared.Cursor.{Cursor}
@@ -187,15 +188,16 @@ module _ {s t kept : List ℕ} {i end : ℕ} (k : Keeping s t i end kept) where
           k .later j (omega (arith, l)) m;
     }
 
-pub keeping-begins : {s t kept : List ℕ} → 255 ≤ length kept → length kept ≤ 65536 →
-    kept ≡ replicate (length kept) 0 → Keeping s t 0 255 kept
-keeping-begins {kept = kept} h l e = record {
-  first = omega arith;
-  near = h;
-  small = l;
-  each = λ f x m z. absurd (omega (arith, m));
-  later = λ j m n. rw e (getD-replicate (length kept) j 0 0 (omega (arith, h, n)));
-}
+pub keeping-begins : {s t kept : List ℕ} → kept ≡ replicate 3328 0 → Keeping s t 0 255 kept
+keeping-begins {kept = kept} e =
+    let long : length kept ≡ 3328 = ap length e ∙ length-replicate {A = ℕ} 3328 0 in
+    record {
+      first = omega arith;
+      near = omega (arith, long);
+      small = omega (arith, long);
+      each = λ f x m z. absurd (omega (arith, m));
+      later = λ j m n. rw e (getD-replicate 3328 j 0 0 (omega (arith, n)));
+    }
 
 pub keeping-ends : {s t kept : List ℕ} {i end : ℕ} → Keeping s t i end kept → length (itemsIn t) ≤ i → Summaries s t kept
 keeping-ends k h = record { each = λ f x z. k .each f x (omega (arith, h, x .there)) z .2 }

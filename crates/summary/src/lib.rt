@@ -26,6 +26,8 @@ pub struct Words {
 impl Words {
     // The most words of a summary.
     pub const MOST: usize = FunctionView::ARGUMENTS + 3;
+    // The words that are kept: where the summary of each item begins, or 0, and the summaries.
+    pub const KEPT: usize = 3328;
 }
 
 // The summary of a function, whose texts are not counted; the answer is the position of its comment.
@@ -80,8 +82,7 @@ fn keep_item(s: &[u8], t: &[u32; Table::PLACES], i: u32, end: usize, kept: &mut 
 
 // The summaries of a sheet's functions, as far as they have room.
 pub fn fill_summaries(s: &[u8], t: &[u32; Table::PLACES], kept: &mut [u32])
-    requires { ⌜ Tabled (now s) (now t) × (255 ≤ length (now kept)) × (length (now kept) ≤ 65536) ×
-        (now kept ≡ replicate (length (now kept)) 0) ⌝ }
+    requires { ⌜ Tabled (now s) (now t) × (now kept ≡ replicate 3328 0) ⌝ }
     ensures { λ _. ⌜ Summaries (now (s .entry)) (now (t .entry)) (now (kept .exit)) ⌝ }
 {
     let n = t[Table::ITEMS];

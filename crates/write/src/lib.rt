@@ -2,7 +2,6 @@
 // pool, the digests of the names, room for the views of a function's arguments, and the buffer.
 use format::ItemKind;
 use forward::write_forward_declarations;
-use mangle::fill_full_names;
 use out::Content;
 use out::flush;
 use out::next_section;
@@ -11,23 +10,20 @@ use sections::write_opaque_type_layout;
 use sections::write_opaque_type_layout_decls;
 use sections::write_rust_function_decl;
 use sections::write_rust_function_shim;
+use summary::Words;
 use tables::Pool;
 use tables::Table;
-use tables::fill_pool;
-use tables::fill_table;
 use tables::item;
-use view::FunctionView;
 ghost use mathlib.Core.Path.{_≡_};
 ghost use Prim.Native.Nat.{_≤_, _<_};
 ghost use lib.ListN.{length};
 ghost use Rattle.sink.specs.Sink.{sink, Wrote};
-ghost use Rattle.format.specs.Limits.{mostArguments};
 ghost use Rattle.syntax.specs.Items.{itemAt};
 ghost use Rattle.bridge.specs.Write.{forEach, writeFunctions, text};
 ghost use Rattle.names.specs.Digests.{digestsAt};
-ghost use Rattle.view.specs.Values.{itemsAt, Ready};
 ghost use Rattle.sections.specs.Runs.{Representing, Runs, sheetOf};
 ghost use Rattle.write.specs.Passes.{declareItem, defineItem, Begins, Ends};
+ghost use Rattle.summary.specs.Summaries.{Summaries};
 ghost use Rattle.tables.specs.Tables.{namesIn, itemsIn, itemsOf, Item, Lent};
 
 // ---- the two passes
@@ -39,12 +35,13 @@ fn declare(
     pool: &[u8; Pool::BYTES],
     digests: &[u32],
     i: u32,
+    kept: &[u32],
     offsets: &mut [u32],
     c: Content,
     out: &mut [u8],
 ) -> Content
     requires { ⌜ Lent (now s) (now t) (now pool) × (now digests ≡ digestsAt (now s) (namesIn (now t))) ×
-        (i < length (itemsIn (now t))) × (mostArguments ≤ length (now offsets)) ×
+        (i < length (itemsIn (now t))) × Summaries (now s) (now t) (now kept) × (34 ≤ length (now offsets)) ×
         Representing (now s) (namesIn (now t)) (now out) c ⌝ }
     ensures { λ r. ⌜ Runs (now (s .entry)) (namesIn (now (t .entry))) (now (out .entry)) (now (out .exit))
         (declareItem (itemsOf (now (s .entry)) (now (t .entry)))
@@ -54,7 +51,7 @@ fn declare(
     let kind = v.kind;
     match kind {
         ItemKind::RustFunction => {
-            write_rust_function_decl(s, t, pool, digests, v, offsets, c, out)
+            write_rust_function_decl(s, t, pool, digests, v, kept, offsets, c, out)
         }
         ItemKind::RustType => write_opaque_type_layout_decls(s, t, pool, digests, v, c, out),
         ItemKind::Struct => c,
@@ -73,12 +70,13 @@ fn define(
     header: bool,
     doxygen: bool,
     i: u32,
+    kept: &[u32],
     offsets: &mut [u32],
     c: Content,
     out: &mut [u8],
 ) -> Content
     requires { ⌜ Lent (now s) (now t) (now pool) × (now digests ≡ digestsAt (now s) (namesIn (now t))) ×
-        (i < length (itemsIn (now t))) × (mostArguments ≤ length (now offsets)) ×
+        (i < length (itemsIn (now t))) × Summaries (now s) (now t) (now kept) × (34 ≤ length (now offsets)) ×
         Representing (now s) (namesIn (now t)) (now out) c ⌝ }
     ensures { λ r. ⌜ Runs (now (s .entry)) (namesIn (now (t .entry))) (now (out .entry)) (now (out .exit))
         (defineItem (sheetOf header doxygen (itemsOf (now (s .entry)) (now (t .entry))))
@@ -95,6 +93,7 @@ fn define(
             header,
             doxygen,
             v,
+            kept,
             offsets,
             c,
             out,
@@ -117,12 +116,13 @@ fn declare_all(
     t: &[u32; Table::PLACES],
     pool: &[u8; Pool::BYTES],
     digests: &[u32],
+    kept: &[u32],
     offsets: &mut [u32],
     mut c: Content,
     out: &mut [u8],
 ) -> Content
     requires { ⌜ Lent (now s) (now t) (now pool) × (now digests ≡ digestsAt (now s) (namesIn (now t))) ×
-        (mostArguments ≤ length (now offsets)) × Representing (now s) (namesIn (now t)) (now out) c ⌝ }
+        Summaries (now s) (now t) (now kept) × (34 ≤ length (now offsets)) × Representing (now s) (namesIn (now t)) (now out) c ⌝ }
     ensures { λ r. ⌜ Runs (now (s .entry)) (namesIn (now (t .entry))) (now (out .entry)) (now (out .exit))
         (forEach (declareItem (itemsOf (now (s .entry)) (now (t .entry))))
         (itemsOf (now (s .entry)) (now (t .entry)))) c r ⌝ }
@@ -130,7 +130,7 @@ fn declare_all(
     let n = t[Table::ITEMS];
     let mut i: u32 = 0;
     while i < n {
-        c = declare(s, t, pool, digests, i, offsets, c, out);
+        c = declare(s, t, pool, digests, i, kept, offsets, c, out);
         i = i + 1;
     }
     c
@@ -143,12 +143,13 @@ fn define_all(
     digests: &[u32],
     header: bool,
     doxygen: bool,
+    kept: &[u32],
     offsets: &mut [u32],
     mut c: Content,
     out: &mut [u8],
 ) -> Content
     requires { ⌜ Lent (now s) (now t) (now pool) × (now digests ≡ digestsAt (now s) (namesIn (now t))) ×
-        (mostArguments ≤ length (now offsets)) × Representing (now s) (namesIn (now t)) (now out) c ⌝ }
+        Summaries (now s) (now t) (now kept) × (34 ≤ length (now offsets)) × Representing (now s) (namesIn (now t)) (now out) c ⌝ }
     ensures { λ r. ⌜ Runs (now (s .entry)) (namesIn (now (t .entry))) (now (out .entry)) (now (out .exit))
         (forEach (defineItem (sheetOf header doxygen
         (itemsOf (now (s .entry)) (now (t .entry)))))
@@ -157,7 +158,19 @@ fn define_all(
     let count = t[Table::ITEMS];
     let mut i: u32 = 0;
     while i < count {
-        c = define(s, t, pool, digests, header, doxygen, i, offsets, c, out);
+        c = define(
+            s,
+            t,
+            pool,
+            digests,
+            header,
+            doxygen,
+            i,
+            kept,
+            offsets,
+            c,
+            out,
+        );
         i = i + 1;
     }
     c
@@ -171,21 +184,33 @@ fn write_functions(
     digests: &[u32],
     header: bool,
     doxygen: bool,
+    kept: &[u32],
     offsets: &mut [u32],
     c: Content,
     out: &mut [u8],
 ) -> Content
     requires { ⌜ Lent (now s) (now t) (now pool) × (now digests ≡ digestsAt (now s) (namesIn (now t))) ×
-        (mostArguments ≤ length (now offsets)) × Representing (now s) (namesIn (now t)) (now out) c ⌝ }
+        Summaries (now s) (now t) (now kept) × (34 ≤ length (now offsets)) × Representing (now s) (namesIn (now t)) (now out) c ⌝ }
     ensures { λ r. ⌜ Runs (now (s .entry)) (namesIn (now (t .entry))) (now (out .entry)) (now (out .exit))
         (writeFunctions (sheetOf header doxygen (itemsOf (now (s .entry)) (now (t .entry)))))
         c r ⌝ }
 {
     if header {
-        return define_all(s, t, pool, digests, header, doxygen, offsets, c, out);
+        return define_all(s, t, pool, digests, header, doxygen, kept, offsets, c, out);
     }
-    let declared = declare_all(s, t, pool, digests, offsets, c, out);
-    define_all(s, t, pool, digests, header, doxygen, offsets, declared, out)
+    let declared = declare_all(s, t, pool, digests, kept, offsets, c, out);
+    define_all(
+        s,
+        t,
+        pool,
+        digests,
+        header,
+        doxygen,
+        kept,
+        offsets,
+        declared,
+        out,
+    )
 }
 
 // ---- the text
@@ -209,60 +234,50 @@ fn write_body(
     digests: &[u32],
     header: bool,
     doxygen: bool,
+    kept: &[u32],
     c: Content,
     out: &mut [u8],
 ) -> usize
     requires { ⌜ Lent (now s) (now t) (now pool) × (now digests ≡ digestsAt (now s) (namesIn (now t))) ×
-        Representing (now s) (namesIn (now t)) (now out) c ⌝ }
+        Summaries (now s) (now t) (now kept) × Representing (now s) (namesIn (now t)) (now out) c ⌝ }
     ensures { λ r. ⌜ Ends (now (s .entry)) (namesIn (now (t .entry))) (now (out .entry)) (now (out .exit))
         (writeFunctions (sheetOf header doxygen (itemsOf (now (s .entry)) (now (t .entry)))))
         c r ⌝ }
 {
-    let mut offsets = [0u32; FunctionView::ARGUMENTS];
-    let written = write_functions(s, t, pool, digests, header, doxygen, &mut offsets, c, out);
+    let mut offsets = [0u32; Words::MOST];
+    let written = write_functions(
+        s,
+        t,
+        pool,
+        digests,
+        header,
+        doxygen,
+        kept,
+        &mut offsets,
+        c,
+        out,
+    );
     flush(s, t, pool, digests, written, out)
 }
 
-// The text by its table and pool.
-fn write_tabled(
+// The text, from the buffer's first byte on; the answer is the place behind it.
+pub fn write_text(
     s: &[u8],
     t: &[u32; Table::PLACES],
     pool: &[u8; Pool::BYTES],
     digests: &[u32],
     header: bool,
     doxygen: bool,
+    kept: &[u32],
     out: &mut [u8],
 ) -> usize
-    requires { ⌜ Lent (now s) (now t) (now pool) × (now digests ≡ digestsAt (now s) (namesIn (now t))) ⌝ }
+    requires { ⌜ Lent (now s) (now t) (now pool) × (now digests ≡ digestsAt (now s) (namesIn (now t))) ×
+        Summaries (now s) (now t) (now kept) ⌝ }
     ensures { λ r. ⌜ Wrote (sink (now (out .entry)) 0)
         (text (sheetOf header doxygen (itemsOf (now (s .entry)) (now (t .entry)))))
         (sink (now (out .exit)) r) ⌝ }
 {
     let at = write_forward_declarations(s, t, pool, digests, out, 0);
     let c = behind_forward(at);
-    write_body(s, t, pool, digests, header, doxygen, c, out)
-}
-
-// The text, from the buffer's first byte on; the answer is the place behind it. The pool's bytes are lent; the table
-// is made here, so that it takes no stack before a sheet is accepted.
-pub fn write_text(
-    s: &[u8],
-    names: &[u32],
-    items: &[u32],
-    digests: &[u32],
-    header: bool,
-    doxygen: bool,
-    pool: &mut [u8; Pool::BYTES],
-    out: &mut [u8],
-) -> usize
-    requires { ⌜ Ready (now s) (now names) (now items) (now digests) ⌝ }
-    ensures { λ r. ⌜ Wrote (sink (now (out .entry)) 0)
-        (text (sheetOf header doxygen (itemsAt (now (s .entry)) (now (names .entry)) (now (items .entry)))))
-        (sink (now (out .exit)) r) ⌝ }
-{
-    let mut t = [0u32; Table::PLACES];
-    fill_table(names, items, &mut t);
-    let end = fill_pool(s, &mut t, pool);
-    fill_full_names(s, &mut t, pool, end);
-    write_tabled(s, &t, pool, digests, header, doxygen, out)
+    write_body(s, t, pool, digests, header, doxygen, kept, c, out)
 }

@@ -1,2 +1,3 @@
 pub mod DeliverLaws
 pub mod WrittenLaws
+mod TableLaws

@@ -3,13 +3,20 @@ use check_sheet::judge_in;
 use decode::Decoded;
 use decode::decode;
 use format::Outline;
+use mangle::fill_full_names;
 use marks::Mark;
 use refusal::Refusal;
 use rules::Checked;
 use services::Written;
 use sink::put_bytes;
+use summary::Words;
+use summary::fill_summaries;
 use tables::Pool;
+use tables::Table;
+use tables::fill_pool;
+use tables::fill_table;
 use write::write_text;
+ghost use mathlib.Core.Path.{_≡_};
 ghost use Prim.Native.Nat.{_≤_};
 ghost use lib.ListN.{length, replicate};
 ghost use Rattle.format.specs.Limits.{mostNames, mostItems};
@@ -19,14 +26,99 @@ ghost use Rattle.marks.specs.Marking.{places};
 ghost use Rattle.judge.specs.Marked.{Marked};
 ghost use Rattle.bridge.specs.Write.{text};
 ghost use Rattle.services.specs.Services.{Writes};
+ghost use Rattle.names.specs.Digests.{digestsAt};
 ghost use Rattle.view.specs.Values.{itemsAt, Ready};
+ghost use Rattle.tables.specs.Tables.{namesIn, itemsOf, Lent};
+ghost use Rattle.summary.specs.Summaries.{Summaries};
 ghost use Rattle.sections.specs.Runs.{sheetOf};
 ghost use Rattle.write_sheet.specs.Delivers.{Delivers, Judges};
 
-// A text of at most so many bytes is written once, and copied where it fits.
+// A text of at most so many bytes is written once, and copied where it fits; that of a longer sheet is measured before.
 const SHORT: usize = 6144;
 
-// Writes the text where it fits; one that is not short is measured before.
+// The longest sheet whose text is taken for short.
+const SMALL: usize = 512;
+
+// Writes the text where it fits. It is written beside the buffer first, into bytes that may be too few to hold it.
+fn deliver_text(
+    s: &[u8],
+    t: &[u32; Table::PLACES],
+    pool: &[u8; Pool::BYTES],
+    digests: &[u32],
+    header: bool,
+    doxygen: bool,
+    kept: &[u32],
+    short: &mut [u8],
+    buf: &mut [u8],
+) -> Written
+    requires { ⌜ Lent (now s) (now t) (now pool) × (now digests ≡ digestsAt (now s) (namesIn (now t))) ×
+        Summaries (now s) (now t) (now kept) ⌝ }
+    ensures { λ r. ⌜ Delivers (text (sheetOf header doxygen (itemsOf (now (s .entry)) (now (t .entry)))))
+        (now (buf .entry)) r (now (buf .exit)) ⌝ }
+{
+    let length = write_text(s, t, pool, digests, header, doxygen, kept, short);
+    if buf.len() < length {
+        return Written::Refused(Refusal::Overrun);
+    }
+    if length <= short.len() {
+        put_bytes(buf, 0, &short[..length]);
+        return Written::Length(length);
+    }
+    write_text(
+        s,
+        t,
+        pool,
+        digests,
+        header,
+        doxygen,
+        kept,
+        &mut buf[..length],
+    );
+    Written::Length(length)
+}
+
+// The same by its names and items. The table is made here, so that it takes no stack before a sheet is accepted; what
+// both passes ask of functions is gathered once, where there are two.
+fn deliver_listed(
+    s: &[u8],
+    names: &[u32],
+    items: &[u32],
+    digests: &[u32],
+    header: bool,
+    doxygen: bool,
+    pool: &mut [u8; Pool::BYTES],
+    short: &mut [u8],
+    buf: &mut [u8],
+) -> Written
+    requires { ⌜ Ready (now s) (now names) (now items) (now digests) ⌝ }
+    ensures { λ r. ⌜ Delivers
+        (text (sheetOf header doxygen (itemsAt (now (s .entry)) (now (names .entry)) (now (items .entry)))))
+        (now (buf .entry)) r (now (buf .exit)) ⌝ }
+{
+    let mut t = [0u32; Table::PLACES];
+    fill_table(names, items, &mut t);
+    let end = fill_pool(s, &mut t, pool);
+    fill_full_names(s, &mut t, pool, end);
+    if short.len() == 0 {
+        let mut kept = [0u32; Words::KEPT];
+        fill_summaries(s, &t, &mut kept);
+        return deliver_text(s, &t, pool, digests, header, doxygen, &kept, short, buf);
+    }
+    let none = [0u32; 1];
+    deliver_text(
+        s,
+        &t,
+        pool,
+        digests,
+        header,
+        doxygen,
+        &none[..0],
+        short,
+        buf,
+    )
+}
+
+// The same, by the sheet's length: a short text is likely where the sheet is small.
 fn deliver(
     s: &[u8],
     names: &[u32],
@@ -42,16 +134,22 @@ fn deliver(
         (text (sheetOf header doxygen (itemsAt (now (s .entry)) (now (names .entry)) (now (items .entry)))))
         (now (buf .entry)) r (now (buf .exit)) ⌝ }
 {
-    let mut short = [0u8; SHORT];
-    let length = write_text(s, names, items, digests, header, doxygen, pool, &mut short);
-    if buf.len() < length {
-        return Written::Refused(Refusal::Overrun);
+    if s.len() <= SMALL {
+        let mut short = [0u8; SHORT];
+        return deliver_listed(
+            s,
+            names,
+            items,
+            digests,
+            header,
+            doxygen,
+            pool,
+            &mut short,
+            buf,
+        );
     }
-    if length <= SHORT {
-        put_bytes(buf, 0, &short[..length]);
-        return Written::Length(length);
-    }
-    write_text(
+    let mut none = [0u8; 1];
+    deliver_listed(
         s,
         names,
         items,
@@ -59,9 +157,9 @@ fn deliver(
         header,
         doxygen,
         pool,
-        &mut buf[..length],
-    );
-    Written::Length(length)
+        &mut none[..0],
+        buf,
+    )
 }
 
 // Rules 9 to 12, then the text. The pool is lent to the rules before it holds names.

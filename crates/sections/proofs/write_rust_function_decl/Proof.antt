@@ -1,4 +1,4 @@
--- Written by tools/proofkit from answers/write_rust_function_decl.tpl (0b122609 6f9ad480).
+-- Written by tools/proofkit from answers/write_rust_function_decl.tpl (5751ba80 3732963c).
 use borrow.Author.Needs.{needs}
 use native.Mathlib.Omega.{arith}
 use Rattle.bridge.specs.Write.{writeRustFunctionDecl}
@@ -8,23 +8,26 @@ use Rattle.sections.proofs.StateLaws.{stood-standing, stood-listed, run
 use Rattle.sections.proofs.write_rust_function_decl.Statement.{statement}
 use Rattle.sections.proofs.write_rust_function_decl.Tie as tie
 
+load-summary-requires : tie.Need-load-summary-requires
+load-summary-requires c κs = (c .before .before .before .before .before .before .before .before .before .pre .0 .tabled, c .before .before .function .ensures .1, c .before .before .before .before .before .before .before .before .before .pre .4, c .before .before .before .before .before .before .before .before .before .pre .5)
+
 set-namespace-requires : tie.Need-set-namespace-requires
-set-namespace-requires c κs = (c .before .before .before .before .before .before .before .before .before .before .before .before .pre .0 .tabled, c .before .before .before .before .before .before .before .before .before .before .before .before .pre .1, stood-standing (representing-stood (c .before .before .before .before .before .before .before .before .before .before .before .before .pre .5)), c .before .before .before .before .before .before .before .before .before .before .before .before .pre .2)
+set-namespace-requires c κs = (c .before .before .before .before .before .before .before .before .before .before .before .before .before .pre .0 .tabled, c .before .before .before .before .before .before .before .before .before .before .before .before .before .pre .1, stood-standing (representing-stood (c .before .before .before .before .before .before .before .before .before .before .before .before .before .pre .6)), c .before .before .before .before .before .before .before .before .before .before .before .before .before .pre .2)
 
 begin-extern-c-requires : tie.Need-begin-extern-c-requires
-begin-extern-c-requires c κs = (c .before .before .before .before .before .before .before .before .before .before .before .before .before .before .pre .0 .tabled, c .before .before .before .before .before .before .before .before .before .before .before .before .before .before .pre .1, stood-standing (stood-set (representing-stood (c .before .before .before .before .before .before .before .before .before .before .before .before .before .before .pre .5)) (c .before .set-namespace .ensures)))
+begin-extern-c-requires c κs = (c .before .before .before .before .before .before .before .before .before .before .before .before .before .before .before .pre .0 .tabled, c .before .before .before .before .before .before .before .before .before .before .before .before .before .before .before .pre .1, stood-standing (stood-set (representing-stood (c .before .before .before .before .before .before .before .before .before .before .before .before .before .before .before .pre .6)) (c .before .set-namespace .ensures)))
 
 prepare-requires : tie.Need-prepare-requires
-prepare-requires c κs = (c .before .before .before .before .before .before .before .before .before .before .before .before .before .before .before .before .before .pre .0, stood-listed (stood-asked (stood-turned (stood-set (representing-stood (c .before .before .before .before .before .before .before .before .before .before .before .before .before .before .before .before .before .pre .5)) (c .before .before .before .before .set-namespace .ensures)) (c .before .before .begin-extern-c .ensures)) (c .before .next-section .ensures)))
+prepare-requires c κs = (c .before .before .before .before .before .before .before .before .before .before .before .before .before .before .before .before .before .before .pre .0, stood-listed (stood-asked (stood-turned (stood-set (representing-stood (c .before .before .before .before .before .before .before .before .before .before .before .before .before .before .before .before .before .before .pre .6)) (c .before .before .before .before .set-namespace .ensures)) (c .before .before .begin-extern-c .ensures)) (c .before .next-section .ensures)))
 
 write-function-decl-requires : tie.Need-write-function-decl-requires
-write-function-decl-requires c κs = (c .before .before .before .before .before .before .before .before .before .before .before .before .before .before .before .before .before .before .before .before .before .before .pre .0, c .before .before .before .before .before .before .before .before .before .before .before .before .before .before .before .before .before .before .before .before .before .before .pre .2, c .before .before .before .before .before .before .before .before .before .before .before .before .before .before .before .before .function .ensures .1, c .before .before .before .before .before .before .before .before .before .before .before .before .before .before .before .before .function .ensures .0, c .before .before .before .before .before .before .before .before .before .before .before .before .before .fill-arguments .ensures .0, omega (arith, c .before .before .before .before .before .before .before .before .before .before .before .before .before .before .before .before .function .ensures .1 .view .few, c .before .before .before .before .before .before .before .before .before .before .before .before .before .fill-arguments .kept, c .before .before .before .before .before .before .before .before .before .before .before .before .before .before .before .before .before .before .before .before .before .before .pre .4))
+write-function-decl-requires c κs = (c .before .before .before .before .before .before .before .before .before .before .before .before .before .before .before .before .before .before .before .before .before .before .before .pre .0, c .before .before .before .before .before .before .before .before .before .before .before .before .before .before .before .before .before .before .before .before .before .before .before .pre .2, c .before .before .before .before .before .before .before .before .before .before .before .before .before .before .before .before .function .ensures .1, c .before .before .before .before .before .before .before .before .before .before .before .before .before .before .before .before .function .ensures .0, c .before .before .before .before .before .before .before .before .before .before .before .before .before .load-summary .ensures .0 .arguments, omega (arith, c .before .before .before .before .before .before .before .before .before .before .before .before .before .load-summary .ensures .0 .room))
 
 end-extern-c-requires : tie.Need-end-extern-c-requires
-end-extern-c-requires c κs = (c .before .before .before .before .before .before .before .before .before .before .before .before .before .before .before .before .before .before .before .before .before .before .before .before .before .before .before .pre .0 .tabled, c .before .before .before .before .before .before .before .before .before .before .before .before .before .before .before .before .before .before .before .before .before .before .before .before .before .before .before .pre .1, stood-standing (stood-placed (stood-ready (stood-asked (stood-turned (stood-set (representing-stood (c .before .before .before .before .before .before .before .before .before .before .before .before .before .before .before .before .before .before .before .before .before .before .before .before .before .before .before .pre .5)) (c .before .before .before .before .before .before .before .before .before .before .before .before .before .before .set-namespace .ensures)) (c .before .before .before .before .before .before .before .before .before .before .before .before .begin-extern-c .ensures)) (c .before .before .before .before .before .before .before .before .before .before .before .next-section .ensures)) (c .before .before .before .before .before .before .before .before .before .prepare .ensures)) (c .before .before .before .before .write-function-decl .ensures) (c .before .placed .ensures)))
+end-extern-c-requires c κs = (c .before .before .before .before .before .before .before .before .before .before .before .before .before .before .before .before .before .before .before .before .before .before .before .before .before .before .before .before .pre .0 .tabled, c .before .before .before .before .before .before .before .before .before .before .before .before .before .before .before .before .before .before .before .before .before .before .before .before .before .before .before .before .pre .1, stood-standing (stood-placed (stood-ready (stood-asked (stood-turned (stood-set (representing-stood (c .before .before .before .before .before .before .before .before .before .before .before .before .before .before .before .before .before .before .before .before .before .before .before .before .before .before .before .before .pre .6)) (c .before .before .before .before .before .before .before .before .before .before .before .before .before .before .set-namespace .ensures)) (c .before .before .before .before .before .before .before .before .before .before .before .before .begin-extern-c .ensures)) (c .before .before .before .before .before .before .before .before .before .before .before .next-section .ensures)) (c .before .before .before .before .before .before .before .before .before .prepare .ensures)) (c .before .before .before .before .write-function-decl .ensures) (c .before .placed .ensures)))
 
 same-length : tie.Need-same-length
-same-length c = omega (arith, c .before .before .before .before .before .before .before .before .before .before .before .before .before .before .before .before .before .before .before .fill-arguments .kept)
+same-length c = omega (arith, c .before .before .before .before .before .before .before .before .before .before .before .before .before .before .before .before .before .before .before .load-summary .kept)
 
 returns : tie.Need-returns
 unfolding writeRustFunctionDecl
@@ -35,7 +38,7 @@ write-rust-function-decl-spec =
     tie.close
     (tie.spec
     (λ c κs. search needs)
-    (λ c κs. search needs)
+    load-summary-requires
     set-namespace-requires
     begin-extern-c-requires
     (λ c κs. search needs)

@@ -1,4 +1,4 @@
--- Written by tools/proofkit from answers/fill_summaries.tpl (2af71401 65a8c90a).
+-- Written by tools/proofkit from answers/fill_summaries.tpl (1d9fee73 fdf93d66).
 use borrow.Author.Needs.{needs}
 use mathlib.Core.Path.{_≡_, refl}
 use Prim.Native.Nat.{_≤_, _-_}
@@ -17,7 +17,7 @@ abbrev μ-loop : tie.MeasureT-loop
 μ-loop s t kept₀ n end₀ i₀ kept end i = n - i
 
 loop-holds : tie.Need-loop-holds Inv-loop μ-loop
-loop-holds c = (omega arith, refl, keeping-begins (c .before .before .before .pre .1) (c .before .before .before .pre .2) (c .before .before .before .pre .3))
+loop-holds c = (omega arith, refl, keeping-begins (c .before .before .before .pre .1))
 
 keep-item-requires : tie.Need-keep-item-requires Inv-loop μ-loop
 keep-item-requires c κs = (c .before .before .before .before .before .before .pre .0, omega (arith, items-count (c .before .before .before .before .before .before .pre .0)), c .before .before .loop .inv .2)

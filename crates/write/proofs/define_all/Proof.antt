@@ -1,4 +1,4 @@
--- Written by tools/proofkit from answers/define_all.tpl (830da7db 65e0a64f).
+-- Written by tools/proofkit from answers/define_all.tpl (bc33fa11 bbfbb7b3).
 use borrow.Author.Needs.{needs}
 use native.Mathlib.Omega.{arith}
 use mathlib.Core.Path.{_≡_, refl}
@@ -14,25 +14,25 @@ use Rattle.write.proofs.define_all.Statement.{statement}
 use Rattle.write.proofs.define_all.Tie as tie
 
 abbrev Inv-loop : tie.InvT-loop
-Inv-loop s t pool digests header doxygen offsets₀ c₀ out₀ count i₀ offsets c out i = Passed s (namesIn t) (itemsIn t) (defineItem (sheetOf header doxygen (itemsOf s t))) out₀ out c₀ c i × (length offsets ≡ length offsets₀) × (length out ≡ length out₀)
+Inv-loop s t pool digests header doxygen kept offsets₀ c₀ out₀ count i₀ offsets c out i = Passed s (namesIn t) (itemsIn t) (defineItem (sheetOf header doxygen (itemsOf s t))) out₀ out c₀ c i × (length offsets ≡ length offsets₀) × (length out ≡ length out₀)
 
 abbrev μ-loop : tie.MeasureT-loop
-μ-loop s t pool digests header doxygen offsets₀ c₀ out₀ count i₀ offsets c out i = length (itemsIn t) - i
+μ-loop s t pool digests header doxygen kept offsets₀ c₀ out₀ count i₀ offsets c out i = length (itemsIn t) - i
 
 loop-holds : tie.Need-loop-holds Inv-loop μ-loop
 loop-holds c = (pass-none _ _ _ _ _ _, refl, refl)
 
 define-requires : tie.Need-define-requires Inv-loop μ-loop
-define-requires c κs = (c .before .before .before .before .before .before .before .before .before .pre .0, c .before .before .before .before .before .before .before .before .before .pre .1, omega (arith, items-count (c .before .before .before .before .before .before .before .before .before .pre .0 .tabled), c .before .before .loop-test .taken), omega (arith, c .before .before .before .loop .inv .1, c .before .before .before .before .before .before .before .before .before .pre .2), representing-after (c .before .before .before .before .before .before .before .before .before .pre .3) (c .before .before .before .loop .inv .0 .runs))
+define-requires c κs = (c .before .before .before .before .before .before .before .before .before .before .pre .0, c .before .before .before .before .before .before .before .before .before .before .pre .1, omega (arith, items-count (c .before .before .before .before .before .before .before .before .before .before .pre .0 .tabled), c .before .before .loop-test .taken), c .before .before .before .before .before .before .before .before .before .before .pre .2, omega (arith, c .before .before .before .loop .inv .1, c .before .before .before .before .before .before .before .before .before .before .pre .3), representing-after (c .before .before .before .before .before .before .before .before .before .before .pre .4) (c .before .before .before .loop .inv .0 .runs))
 
 add-i : tie.Need-add-i Inv-loop μ-loop
-add-i c = omega (arith, items-count (c .before .before .before .before .before .before .before .before .before .before .before .before .before .before .pre .0 .tabled), c .before .before .before .before .before .before .before .loop-test .taken, c .before .before .before .before .before .before .before .before .before .before .before .before .before .before .pre .0 .tabled .whole .few)
+add-i c = omega (arith, items-count (c .before .before .before .before .before .before .before .before .before .before .before .before .before .before .before .pre .0 .tabled), c .before .before .before .before .before .before .before .loop-test .taken, c .before .before .before .before .before .before .before .before .before .before .before .before .before .before .before .pre .0 .tabled .whole .few)
 
 loop-less : tie.Need-loop-less Inv-loop μ-loop
-loop-less c = omega (arith, items-count (c .before .before .before .before .before .before .before .before .before .before .before .before .before .before .pre .0 .tabled), c .before .before .before .before .before .before .before .loop-test .taken)
+loop-less c = omega (arith, items-count (c .before .before .before .before .before .before .before .before .before .before .before .before .before .before .before .pre .0 .tabled), c .before .before .before .before .before .before .before .loop-test .taken)
 
 loop-again : tie.Need-loop-again Inv-loop μ-loop
-loop-again c = (pass-next _ _ _ _ (omega (arith, items-count (c .before .before .before .before .before .before .before .before .before .before .before .before .before .before .pre .0 .tabled), c .before .before .before .before .before .before .before .loop-test .taken)) (c .before .before .before .before .before .before .before .before .loop .inv .0) (c .before .before .before .before .define .ensures), omega (arith, c .before .before .before .before .before .before .before .before .loop .inv .1, c .before .before .before .before .define .kept), omega (arith, c .before .before .before .before .before .before .before .before .loop .inv .2, c .before .before .before .before .define .kept))
+loop-again c = (pass-next _ _ _ _ (omega (arith, items-count (c .before .before .before .before .before .before .before .before .before .before .before .before .before .before .before .pre .0 .tabled), c .before .before .before .before .before .before .before .loop-test .taken)) (c .before .before .before .before .before .before .before .before .loop .inv .0) (c .before .before .before .before .define .ensures), omega (arith, c .before .before .before .before .before .before .before .before .loop .inv .1, c .before .before .before .before .define .kept), omega (arith, c .before .before .before .before .before .before .before .before .loop .inv .2, c .before .before .before .before .define .kept))
 
 same-length : tie.Need-same-length Inv-loop μ-loop
 same-length c = c .before .loop .inv .1
@@ -41,7 +41,7 @@ same-length-2 : tie.Need-same-length-2 Inv-loop μ-loop
 same-length-2 c = c .before .loop .inv .2
 
 returns : tie.Need-returns Inv-loop μ-loop
-returns c = pass-all _ _ _ _ (omega (arith, items-count (c .before .before .before .before .before .before .before .pre .0 .tabled), c .loop-test .left)) (c .before .loop .inv .0)
+returns c = pass-all _ _ _ _ (omega (arith, items-count (c .before .before .before .before .before .before .before .before .pre .0 .tabled), c .loop-test .left)) (c .before .loop .inv .0)
 
 pub define-all-spec : {M : Type 1} → statement M
 define-all-spec =

@@ -1,14 +1,16 @@
 -- The text of a table's items is that of the names and items that it was filled from.
-use mathlib.Core.Path.{_≡_, _∙_}
-use mathlib.Core.List.{List}
+use mathlib.Core.Path.{_≡_, refl, _∙_}
+use mathlib.Core.List.{List, []}
 use mathlib.Core.Bool.{Bool}
 use Prim.Native.Nat.{ℕ}
 use Rattle.bridge.specs.Write.{text}
-use Rattle.sink.specs.Sink.{Sink, Wrote}
+use Rattle.services.specs.declared.Written.{Written}
 use Rattle.names.specs.Digests.{digestsAt}
 use Rattle.view.specs.Values.{itemsAt, Ready}
 use Rattle.tables.specs.Tables.{namesIn, itemsIn, itemsOf, Listed, Lent, Filled}
+use Rattle.summary.specs.Summaries.{Summaries}
 use Rattle.sections.specs.Runs.{sheetOf}
+use Rattle.write_sheet.specs.Delivers.{Delivers}
 
 -- the lists of the table that is lent are those that it was filled from
 pub record Lists (names items t : List ℕ) : Type 0 where
@@ -26,7 +28,11 @@ pub digested : {s names items digests t : List ℕ} → Ready s names items dige
     digests ≡ digestsAt s (namesIn t)
 digested r l = rw (l .namesAre) (r .digested)
 
-pub text-of : (s : List ℕ) {names items t : List ℕ} (header doxygen : Bool) {before after : Sink} → Lists names items t →
-    Wrote before (text (sheetOf header doxygen (itemsOf s t))) after →
-    Wrote before (text (sheetOf header doxygen (itemsAt s names items))) after
-text-of s header doxygen l w = rw (l .namesAre, l .itemsAre) at w
+pub text-of : (s : List ℕ) {names items t : List ℕ} (header doxygen : Bool) {buffer after : List ℕ} {r : Written} →
+    Lists names items t → Delivers (text (sheetOf header doxygen (itemsOf s t))) buffer r after →
+    Delivers (text (sheetOf header doxygen (itemsAt s names items))) buffer r after
+text-of s header doxygen l d = rw (l .namesAre, l .itemsAre) at d
+
+-- no summary is kept of any function
+pub summaries-none : {s t : List ℕ} → Summaries s t []
+summaries-none = record { each = λ f x z. absurd (z refl) }

@@ -1,0 +1,54 @@
+-- Written by tools/proofkit from answers/deliver_listed.tpl (64d1e242 87781ea2).
+use borrow.Author.Needs.{needs}
+use mathlib.Core.Path.{refl}
+use Rattle.tables.proofs.TableLaws.{tabled, words-zero}
+use Rattle.write_sheet.proofs.TableLaws.{filled-lists, digested, text-of, summaries-none}
+use Rattle.write_sheet.proofs.deliver_listed.Statement.{statement}
+use Rattle.write_sheet.proofs.deliver_listed.Tie as tie
+
+fill-table-requires : tie.Need-fill-table-requires
+fill-table-requires c κs = (c .before .before .before .before .before .before .before .pre .whole .named .few, c .before .before .before .before .before .before .before .pre .whole .few, search needs)
+
+fill-pool-requires : tie.Need-fill-pool-requires
+fill-pool-requires c κs = (tabled (c .before .before .before .before .before .before .before .before .before .before .before .pre .whole) (c .before .before .before .fill-table .ensures .0), words-zero refl (c .before .before .before .fill-table .ensures .1), search needs)
+
+fill-full-names-requires : tie.Need-fill-full-names-requires
+fill-full-names-requires c κs = (c .before .before .before .fill-pool .ensures .lent, c .before .before .before .fill-pool .ensures .room)
+
+fill-summaries-requires : tie.Need-fill-summaries-requires
+fill-summaries-requires c κs = (c .before .before .before .fill-full-names .ensures .0 .tabled, refl)
+
+deliver-text-requires : tie.Need-deliver-text-requires
+deliver-text-requires c κs = (c .before .before .before .before .before .before .before .before .before .before .fill-full-names .ensures .0, digested (c .before .before .before .before .before .before .before .before .before .before .before .before .before .before .before .before .before .before .before .before .before .before .before .before .before .before .pre) (filled-lists (c .before .before .before .before .before .before .before .before .before .before .before .before .before .before .before .before .before .before .fill-table .ensures .0) (c .before .before .before .before .before .before .before .before .before .before .before .before .before .before .fill-pool .ensures) (c .before .before .before .before .before .before .before .before .before .before .fill-full-names .ensures)), c .before .before .before .before .before .before .fill-summaries .ensures)
+
+returns : tie.Need-returns
+returns c = text-of _ _ _ (filled-lists (c .before .before .before .before .before .before .before .before .before .before .before .before .before .before .before .before .before .before .before .before .before .before .before .fill-table .ensures .0) (c .before .before .before .before .before .before .before .before .before .before .before .before .before .before .before .before .before .before .before .fill-pool .ensures) (c .before .before .before .before .before .before .before .before .before .before .before .before .before .before .before .fill-full-names .ensures)) (c .before .before .before .before .deliver-text .ensures)
+
+deliver-text-requires-2 : tie.Need-deliver-text-requires-2
+deliver-text-requires-2 c κs = (c .before .before .before .before .before .before .fill-full-names .ensures .0, digested (c .before .before .before .before .before .before .before .before .before .before .before .before .before .before .before .before .before .before .before .before .before .before .pre) (filled-lists (c .before .before .before .before .before .before .before .before .before .before .before .before .before .before .fill-table .ensures .0) (c .before .before .before .before .before .before .before .before .before .before .fill-pool .ensures) (c .before .before .before .before .before .before .fill-full-names .ensures)), summaries-none)
+
+returns-2 : tie.Need-returns-2
+returns-2 c = text-of _ _ _ (filled-lists (c .before .before .before .before .before .before .before .before .before .before .before .before .before .before .before .before .before .before .before .fill-table .ensures .0) (c .before .before .before .before .before .before .before .before .before .before .before .before .before .before .before .fill-pool .ensures) (c .before .before .before .before .before .before .before .before .before .before .before .fill-full-names .ensures)) (c .before .before .before .before .deliver-text2 .ensures)
+
+pub deliver-listed-spec : {M : Type 1} → statement M
+deliver-listed-spec =
+    tie.close
+    (tie.spec
+    (λ c. search needs)
+    fill-table-requires
+    (λ c. search needs)
+    fill-pool-requires
+    fill-full-names-requires
+    (λ c. search needs)
+    fill-summaries-requires
+    (λ c. search needs)
+    deliver-text-requires
+    (λ c. search needs)
+    (λ c. search needs)
+    returns
+    (λ c. search needs)
+    (λ c. search needs)
+    deliver-text-requires-2
+    (λ c. search needs)
+    (λ c. search needs)
+    returns-2)
