@@ -138,7 +138,7 @@ atom-few Atom.F64 = omega arith
 atom-few Atom.CxxString = omega arith
 atom-few Atom.RustString = omega arith
 
-space-few : (j : TypeKind) → length (spaceOfKind j) ≤ 1
+pub space-few : (j : TypeKind) → length (spaceOfKind j) ≤ 1
 space-few (Kind.Pointer Ref) = omega arith
 space-few (Kind.Pointer Ptr) = omega arith
 space-few (Kind.Pointer SliceRef) = omega arith
@@ -180,6 +180,10 @@ pointer-few SliceRef true = omega arith
 pointer-few SliceRef false = omega arith
 
 -- as a helper ensures it
+pub end-few : (spaced : Bool) (k : ℕ) {r : ℕ} → r ≡ length (pickText spaced (spaceOfKind (kindOf k)) []) → r ≤ 1
+end-few true k e = omega (arith, space-few (kindOf k))
+end-few false k e = omega arith
+
 pub atom-fits : (n : ℕ) {r : ℕ} → r ≡ length (writeAtom (atomOf n)) → r ≤ 15
 atom-fits n e = omega (arith, atom-few (atomOf n))
 
@@ -295,7 +299,7 @@ pub record Counting (n : ℕ) (s : List ℕ) (items : List Item) (whole : List �
   pub is : typeBody (kindOf (bitsAt s at 4)) n (typeAt n levels) s (at + 4) ≡ got inner next
   pub length-is : length whole ≡ sum + length (writeType items inner)
 
-bit-there : (s : List ℕ) (at : ℕ) {b : Bool} {m : ℕ} → bit s at ≡ got b m →
+pub bit-there : (s : List ℕ) (at : ℕ) {b : Bool} {m : ℕ} → bit s at ≡ got b m →
     (b ≡ eqb (bitsAt s at 1) 1) × (m ≡ at + 1)
 unfolding bit
 bit-there s at e =
@@ -338,16 +342,15 @@ module _ (n : ℕ) (s : List ℕ) (items : List Item) where
           length-is = w;
         })
 
-  space-at : (at levels : ℕ) {t : Ty} {m : ℕ} → typeAt n levels s at ≡ got t m →
-      length (spaceAfterType t) ≡ length (spaceOfKind (kindOf (bitsAt s at 4)))
+  pub space-at : (at levels : ℕ) {t : Ty} {m : ℕ} → typeAt n levels s at ≡ got t m →
+      spaceAfterType t ≡ spaceOfKind (kindOf (bitsAt s at 4))
   unfolding typeAt
   space-at at zero h =
       in-turn (bits 4 s at) _ h (λ k a e g. absurd (let y : _≡_ {A = ℕ} 0 1 = cc in omega arith))
   space-at at (suc i) {t} h =
       in-turn (bits 4 s at) _ h (λ k a e g.
       let q = bits-there 4 s at e in
-      ap length (space-is t) ∙ ap (λ (j : TypeKind). length (spaceOfKind j))
-      (sym (body-type (kindOf k) n (typeAt n i) s a g) ∙ ap kindOf (q .1)))
+      space-is t ∙ ap spaceOfKind (sym (body-type (kindOf k) n (typeAt n i) s a g) ∙ ap kindOf (q .1)))
 
   -- the outermost type
   pub counting-whole : (levels at : ℕ) (spaced : Bool) {t : Ty} → Yields (typeAt n levels s at) t → {k r : ℕ} →
@@ -357,7 +360,7 @@ module _ (n : ℕ) (s : List ℕ) (items : List Item) where
   counting-whole levels at true {t} y {k} e z =
       let f = z ∙ ap (λ (i : ℕ). length (spaceOfKind (kindOf i))) e in
       counting _ at levels (y .is) (omega (arith, space-few (kindOf k)))
-      (omega (arith, length-append (writeType items t) (spaceAfterType t), space-at at levels (y .is), f))
+      (omega (arith, length-append (writeType items t) (spaceAfterType t), ap length (space-at at levels (y .is)), f))
   counting-whole levels at false y e z = counting _ at levels (y .is) (omega arith) (omega arith)
 
   module _ (whole : List ℕ) (at : ℕ) {sum : ℕ} (p : Counting n s items whole at sum) {k : ℕ} (e : k ≡ bitsAt s at 4) where
@@ -385,7 +388,7 @@ module _ (n : ℕ) (s : List ℕ) (items : List Item) where
             in-turn (typeAt n (p .levels) s m) _ g (λ t a f₁ g₁.
             let q = bit-there s (at + 4) f in
             let d : m ≡ at + 5 = omega (arith, q .1) in
-            let i = space-at m (p .levels) f₁ in
+            let i = ap length (space-at m (p .levels) f₁) in
             let w = ap (λ (u : Ty). length (writeType items u)) (sym (got-value g₁)) in
             let v = pointer-length items j b t in
             rw (← d, ← q .0)

@@ -44,7 +44,7 @@ fn atom_length(n: u32) -> usize
 }
 
 // The space behind a type.
-fn space_length(k: u32) -> usize
+pub fn space_length(k: u32) -> usize
     ensures { λ r. ⌜ r ≡ length (spaceOfKind (kindOf k)) ⌝ }
 {
     match k {
@@ -55,7 +55,7 @@ fn space_length(k: u32) -> usize
 }
 
 // The space behind the whole type, where that is counted too.
-fn end_length(spaced: bool, k: u32) -> usize
+pub fn end_length(spaced: bool, k: u32) -> usize
     ensures { λ r. ⌜ r ≡ length (pickText spaced (spaceOfKind (kindOf k)) []) ⌝ }
 {
     if spaced {
@@ -65,7 +65,7 @@ fn end_length(spaced: bool, k: u32) -> usize
 }
 
 // What always stands around an inner type; 0 for a kind that has none, or that is not counted.
-fn around_length(k: u32) -> usize
+pub fn around_length(k: u32) -> usize
     ensures { λ r. ⌜ r ≡ aroundOf (kindOf k) ⌝ }
 {
     match k {
