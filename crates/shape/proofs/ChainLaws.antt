@@ -11,8 +11,8 @@ use Rattle.lexical.specs.Decimal.{pickText}
 use Rattle.sink.specs.Sink.{Sink, emit, Wrote}
 use Rattle.sink.proofs.SinkLaws.{_▷_, wrote-as, wrote-nil, wrote-length}
 use Rattle.format.specs.Decode.{got, pick}
-use Rattle.format.specs.Bits.{bitsAt, bits, bit, widthOf, index}
-use Rattle.format.specs.Types.{Ty, named}
+use Rattle.format.specs.Bits.{bitsAt, bits, bit, widthOf}
+use Rattle.format.specs.Types.{Ty}
 use Rattle.format.specs.Sheet.{Item}
 use Rattle.format.specs.declared.Pointer.{Pointer}
 use Rattle.format.specs.declared.Pointer.the-variants.{Ref, Ptr, SliceRef}
@@ -22,7 +22,6 @@ use Rattle.format.specs.Decoding.{atomOf, kindOf, typeBody, typeAt}
 use Rattle.syntax.specs.Items.{itemAt, fullName}
 use Rattle.bridge.specs.WriteType.{writeAtom, pointerBegin, pointerEnd, writeType, writeTypeSpace}
 use Rattle.cursor.proofs.BitLaws.{bits-split, bits-lt}
-use Rattle.cursor.proofs.WidthLaws.{index-field, index-lt}
 use Rattle.cursor.proofs.YieldLaws.{yields, in-turn, got-value, bits-there}
 use Rattle.view.specs.Values.{nextOf, Yields}
 use Rattle.view.specs.Views.{prefixOf}
@@ -32,7 +31,7 @@ use Rattle.write_type.proofs.TypeLaws.{type-is, type-yields}
 use Rattle.shape.specs.declared.chain.Coded.{Coded}
 use Rattle.shape.specs.Counts.{aroundOf, constOf, writeTypeAs}
 use Rattle.shape.specs.Chains.{beginOf, closeOf, baseOf, endOf, endsBy, endsOf, CodedOf, Remains, Entering}
-use Rattle.shape.proofs.CountLaws.{space-at, space-few, bit-there}
+use Rattle.shape.proofs.CountLaws.{space-at, space-few, bit-there, index-room, index-is}
 
 -- ---- numbers that a match leaves
 
@@ -391,23 +390,18 @@ module _ (n : ℕ) (s : List ℕ) (levels at : ℕ)
   str-text items z = ap (writeType items) (got-value (rw z at body))
 
   module _ {w : ℕ} (f : w ≡ widthOf n) (z : k ≡ 1) where
-    pub named-room : at + 4 + w ≤ 8 * length s
+    named-body : typeBody Kind.Named n (typeAt n (levels - 1)) s (at + 4) ≡
+        got (tyAt n levels s at) (nextOf (typeAt n levels s at))
     unfolding kindOf
-    named-room =
-        in-turn (index n s (at + 4)) _ (rw z at body) (λ i m g h.
-        rw f (bits-there (widthOf n) s (at + 4) (index-field n s (at + 4) g) .0))
+    named-body = rw z at body
 
-    named-is : {i : ℕ} → i ≡ bitsAt s (at + 4) w → (named i ≡ tyAt n levels s at) × (i < n)
-    unfolding kindOf
-    named-is {i} d =
-        in-turn (index n s (at + 4)) _ (rw z at body) (λ j m g h.
-        let q : j ≡ i = bits-there (widthOf n) s (at + 4) (index-field n s (at + 4) g) .1 ∙ sym (rw (← f) d) in
-        (ap named (sym q) ∙ got-value h, rw (← q) (index-lt n s (at + 4) g)))
+    pub named-room : at + 4 + w ≤ 8 * length s
+    named-room = index-room n s (at + 4) named-body f
 
     pub named-low : {i : ℕ} → i ≡ bitsAt s (at + 4) w → i < n
-    named-low d = named-is d .1
+    named-low d = index-is n s (at + 4) named-body f d .1
 
     pub named-text : (items : List Item) {i : ℕ} → i ≡ bitsAt s (at + 4) w →
         fullName (itemAt items i) ≡ writeType items (tyAt n levels s at)
     unfolding writeType
-    named-text items d = ap (writeType items) (named-is d .0)
+    named-text items d = ap (writeType items) (index-is n s (at + 4) named-body f d .0)

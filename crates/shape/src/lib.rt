@@ -149,7 +149,7 @@ pub fn write_outermost(
         (typeOf (now (s .entry)) (now (t .entry)) (c .at))) (sink (now (out .exit)) r) ⌝ }
 {
     if out.len() < at {
-        let n = count_type(s, t, c, Levels::MOST, false);
+        let n = count_type(s, t, pool, c, Levels::MOST, false);
         if 0 < n {
             return advance(at, n);
         }
@@ -175,7 +175,7 @@ fn write_spaced(
         (tyAt (length (itemsIn (now (t .entry)))) levels (now (s .entry)) (c .at))) (sink (now (out .exit)) r) ⌝ }
 {
     if out.len() < at {
-        let n = count_type(s, t, c, levels, true);
+        let n = count_type(s, t, pool, c, levels, true);
         if 0 < n {
             return advance(at, n);
         }

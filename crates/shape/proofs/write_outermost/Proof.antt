@@ -1,4 +1,4 @@
--- Written by tools/proofkit from answers/write_outermost.tpl (e435b321 fcce2baa).
+-- Written by tools/proofkit from answers/write_outermost.tpl (d33ee2c4 cb33f3b8).
 use borrow.Author.Needs.{needs}
 use native.Mathlib.Omega.{arith}
 use Rattle.write_type.proofs.TypeLaws.{outermost-yields}
@@ -8,7 +8,7 @@ use Rattle.shape.proofs.write_outermost.Statement.{statement}
 use Rattle.shape.proofs.write_outermost.Tie as tie
 
 count-type-requires : tie.Need-count-type-requires
-count-type-requires c κs = (c .before .before .before .pre .0 .tabled .whole .named .limited, outermost-yields _ _ _ (c .before .before .before .pre .1))
+count-type-requires c κs = (c .before .before .before .pre .0, outermost-yields _ _ _ (c .before .before .before .pre .1))
 
 returns : tie.Need-returns
 returns c = rw (type-at _ _ _) (wrote-counted (c .before .before .before .if1 .taken) (c .before .before .count-type .ensures) (c .before .if2 .taken) (omega arith) (c .advance .ensures))
