@@ -2,17 +2,18 @@
 use mathlib.Core.Path.{_≡_, refl, sym, ap, _∙_}
 use mathlib.Core.List.{List, [], _++_}
 use mathlib.Core.Bool.{Bool, true, false}
-use Prim.Native.Nat.{ℕ, zero, suc, _+_, _*_, _<_, _≤_, min}
+use Prim.Native.Nat.{ℕ, zero, suc, _+_, _*_, _/_, _%_, _<_, _≤_, min}
 use native.Mathlib.Omega.{arith}
 use lib.Dec.{eqb}
-use lib.ListN.{length, length-append}
+use lib.ListN.{length, getD, length-append}
+use lib.Seq.{length-slice}
 use Rattle.lexical.specs.Bytes.{bytes}
 use Rattle.lexical.specs.Decimal.{pickText}
 use Rattle.sink.specs.Sink.{sink, limit, Wrote}
 use Rattle.sink.proofs.StoreLaws.{wrote-none}
-use Rattle.format.specs.Decode.{got, pick}
-use Rattle.format.specs.Bits.{bitsAt, bits, bit}
-use Rattle.format.specs.Types.{Ty, template, pointer}
+use Rattle.format.specs.Decode.{got, pick, after}
+use Rattle.format.specs.Bits.{bitsAt, bits, bit, widthOf, index}
+use Rattle.format.specs.Types.{Ty, named, template, pointer}
 use Rattle.format.specs.Sheet.{Item}
 use Rattle.format.specs.declared.Atom.{Atom}
 use Rattle.format.specs.declared.Atom.the-variants as Atom
@@ -23,14 +24,17 @@ use Rattle.format.specs.declared.Pointer.the-variants.{Ref, Ptr, SliceRef}
 use Rattle.format.specs.declared.TypeKind.{TypeKind}
 use Rattle.format.specs.declared.TypeKind.the-variants as Kind
 use Rattle.format.specs.Decoding.{atomOf, kindOf, typeBody, typeAt}
+use Rattle.syntax.specs.Items.{itemAt, fullName}
 use Rattle.bridge.specs.WriteType.{writeAtom, templateName, pointerBegin, pointerEnd, spaceAfterType}
 use Rattle.bridge.specs.WriteType.{writeType, writeTypeSpace}
+use Rattle.cursor.proofs.WidthLaws.{index-field, index-lt}
 use Rattle.cursor.proofs.YieldLaws.{in-turn, got-value, got-next, bits-there}
 use Rattle.view.specs.Values.{Yields}
 use Rattle.view.specs.Views.{prefixOf}
 use Rattle.types.proofs.KindLaws.{body-type}
 use Rattle.write_atom.specs.Texts.{spaceOfKind}
 use Rattle.write_type.proofs.TypeLaws.{space-is}
+use Rattle.tables.specs.Tables.{itemsIn, itemsOf, Lent}
 use Rattle.shape.specs.declared.count.Inner.{Inner}
 use Rattle.shape.specs.Counts.{aroundOf, constOf, moreOf, InnerOf, writeTypeAs, Counts}
 
@@ -138,7 +142,7 @@ atom-few Atom.F64 = omega arith
 atom-few Atom.CxxString = omega arith
 atom-few Atom.RustString = omega arith
 
-space-few : (j : TypeKind) → length (spaceOfKind j) ≤ 1
+pub space-few : (j : TypeKind) → length (spaceOfKind j) ≤ 1
 space-few (Kind.Pointer Ref) = omega arith
 space-few (Kind.Pointer Ptr) = omega arith
 space-few (Kind.Pointer SliceRef) = omega arith
@@ -180,6 +184,10 @@ pointer-few SliceRef true = omega arith
 pointer-few SliceRef false = omega arith
 
 -- as a helper ensures it
+pub end-few : (spaced : Bool) (k : ℕ) {r : ℕ} → r ≡ length (pickText spaced (spaceOfKind (kindOf k)) []) → r ≤ 1
+end-few true k e = omega (arith, space-few (kindOf k))
+end-few false k e = omega arith
+
 pub atom-fits : (n : ℕ) {r : ℕ} → r ≡ length (writeAtom (atomOf n)) → r ≤ 15
 atom-fits n e = omega (arith, atom-few (atomOf n))
 
@@ -283,6 +291,32 @@ module _ (s : List ℕ) (at k : ℕ) {c : ℕ} (e : c ≡ constOf (kindOf k)) {i
       let p : prefixOf (kindOf k) ≡ 5 = pointer-prefix (kindOf k) e z in
       record { place = rw p; kind = r; more = w ∙ rw (b, e, q) (pointer-more (kindOf k) _ (kindOf i) p) }
 
+-- ---- named types
+
+-- by what stands behind the kind: an index into the table of items
+module _ (n : ℕ) (s : List ℕ) (at : ℕ) {t : Ty} {m w : ℕ}
+    (h : after (index n s at) (λ i k. got (named i) k) ≡ got t m) (f : w ≡ widthOf n) where
+  pub index-room : at + w ≤ 8 * length s
+  index-room =
+      in-turn (index n s at) _ h (λ i m g h.
+      rw f (bits-there (widthOf n) s at (index-field n s at g) .0))
+
+  pub index-is : {i : ℕ} → i ≡ bitsAt s at w → (named i ≡ t) × (i < n)
+  index-is {i} d =
+      in-turn (index n s at) _ h (λ j m g h.
+      let q : j ≡ i = bits-there (widthOf n) s at (index-field n s at g) .1 ∙ sym (rw (← f) d) in
+      (ap named (sym q) ∙ got-value h, rw (← q) (index-lt n s at g)))
+
+-- the length of a full name, where the table knows it
+pub full-counts : {s t pool : List ℕ} (i : ℕ) → Lent s t pool → i < length (itemsIn t) →
+    Counts (fullName (itemAt (itemsOf s t) i)) (getD t (2303 + i) 0 % 1024)
+full-counts {s} {t} {pool} i p l = record {
+  exact = λ h.
+      let q = p .full i l (λ z. h (rw z refl)) in
+      let a : ℕ = getD t (2303 + i) 0 / 1024 in
+      omega (arith, length-slice a (a + getD t (2303 + i) 0 % 1024) pool (q .near), ap length (q .is));
+}
+
 -- ---- the loop
 
 -- a type stands at a position; with its length, `sum` is the length of the whole text
@@ -295,7 +329,7 @@ pub record Counting (n : ℕ) (s : List ℕ) (items : List Item) (whole : List �
   pub is : typeBody (kindOf (bitsAt s at 4)) n (typeAt n levels) s (at + 4) ≡ got inner next
   pub length-is : length whole ≡ sum + length (writeType items inner)
 
-bit-there : (s : List ℕ) (at : ℕ) {b : Bool} {m : ℕ} → bit s at ≡ got b m →
+pub bit-there : (s : List ℕ) (at : ℕ) {b : Bool} {m : ℕ} → bit s at ≡ got b m →
     (b ≡ eqb (bitsAt s at 1) 1) × (m ≡ at + 1)
 unfolding bit
 bit-there s at e =
@@ -338,16 +372,15 @@ module _ (n : ℕ) (s : List ℕ) (items : List Item) where
           length-is = w;
         })
 
-  space-at : (at levels : ℕ) {t : Ty} {m : ℕ} → typeAt n levels s at ≡ got t m →
-      length (spaceAfterType t) ≡ length (spaceOfKind (kindOf (bitsAt s at 4)))
+  pub space-at : (at levels : ℕ) {t : Ty} {m : ℕ} → typeAt n levels s at ≡ got t m →
+      spaceAfterType t ≡ spaceOfKind (kindOf (bitsAt s at 4))
   unfolding typeAt
   space-at at zero h =
       in-turn (bits 4 s at) _ h (λ k a e g. absurd (let y : _≡_ {A = ℕ} 0 1 = cc in omega arith))
   space-at at (suc i) {t} h =
       in-turn (bits 4 s at) _ h (λ k a e g.
       let q = bits-there 4 s at e in
-      ap length (space-is t) ∙ ap (λ (j : TypeKind). length (spaceOfKind j))
-      (sym (body-type (kindOf k) n (typeAt n i) s a g) ∙ ap kindOf (q .1)))
+      space-is t ∙ ap spaceOfKind (sym (body-type (kindOf k) n (typeAt n i) s a g) ∙ ap kindOf (q .1)))
 
   -- the outermost type
   pub counting-whole : (levels at : ℕ) (spaced : Bool) {t : Ty} → Yields (typeAt n levels s at) t → {k r : ℕ} →
@@ -357,7 +390,7 @@ module _ (n : ℕ) (s : List ℕ) (items : List Item) where
   counting-whole levels at true {t} y {k} e z =
       let f = z ∙ ap (λ (i : ℕ). length (spaceOfKind (kindOf i))) e in
       counting _ at levels (y .is) (omega (arith, space-few (kindOf k)))
-      (omega (arith, length-append (writeType items t) (spaceAfterType t), space-at at levels (y .is), f))
+      (omega (arith, length-append (writeType items t) (spaceAfterType t), ap length (space-at at levels (y .is)), f))
   counting-whole levels at false y e z = counting _ at levels (y .is) (omega arith) (omega arith)
 
   module _ (whole : List ℕ) (at : ℕ) {sum : ℕ} (p : Counting n s items whole at sum) {k : ℕ} (e : k ≡ bitsAt s at 4) where
@@ -385,7 +418,7 @@ module _ (n : ℕ) (s : List ℕ) (items : List Item) where
             in-turn (typeAt n (p .levels) s m) _ g (λ t a f₁ g₁.
             let q = bit-there s (at + 4) f in
             let d : m ≡ at + 5 = omega (arith, q .1) in
-            let i = space-at m (p .levels) f₁ in
+            let i = ap length (space-at m (p .levels) f₁) in
             let w = ap (λ (u : Ty). length (writeType items u)) (sym (got-value g₁)) in
             let v = pointer-length items j b t in
             rw (← d, ← q .0)
@@ -428,6 +461,24 @@ module _ (n : ℕ) (s : List ℕ) (items : List Item) where
     counting-str z =
         let w = ap (λ (u : Ty). length (writeType items u)) (sym (got-value (rw z at body))) in
         record { exact = λ o. omega (arith, p .length-is, w) }
+
+    module _ {w : ℕ} (f : w ≡ widthOf n) (z : k ≡ 1) where
+      named-body : typeBody Kind.Named n (typeAt n (p .levels)) s (at + 4) ≡ got (p .inner) (p .next)
+      unfolding kindOf
+      named-body = rw z at body
+
+      pub named-room : at + 4 + w ≤ 8 * length s
+      named-room = index-room n s (at + 4) named-body f
+
+      pub named-low : {i : ℕ} → i ≡ bitsAt s (at + 4) w → i < n
+      named-low d = index-is n s (at + 4) named-body f d .1
+
+      pub counting-named : {i r : ℕ} → i ≡ bitsAt s (at + 4) w → Counts (fullName (itemAt items i)) r → 0 < r →
+          Counts whole (sum + r)
+      unfolding writeType
+      counting-named d c l =
+          let v = ap (λ (u : Ty). length (writeType items u)) (index-is n s (at + 4) named-body f d .0) in
+          record { exact = λ o. omega (arith, p .length-is, v, c .exact (λ e. omega arith)) }
 
 -- ---- the answer
 

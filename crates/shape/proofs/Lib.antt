@@ -4,3 +4,4 @@ pub mod FunctionLaws
 pub mod CommaLaws
 pub mod ArgumentLaws
 mod CountLaws
+mod ChainLaws

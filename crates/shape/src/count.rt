@@ -2,6 +2,8 @@
 // spelling.
 use cursor::Cursor;
 use cursor::extract;
+use cursor::width;
+use tables::Pool;
 use tables::Table;
 ghost use mathlib.Core.Path.{_≡_};
 ghost use mathlib.Core.List.{[]};
@@ -9,13 +11,14 @@ ghost use Prim.Native.Nat.{_+_, _*_, _<_, _≤_};
 ghost use lib.ListN.{length};
 ghost use Rattle.lexical.specs.Decimal.{pickText};
 ghost use Rattle.format.specs.Decoding.{atomOf, kindOf, typeAt};
+ghost use Rattle.syntax.specs.Items.{itemAt, fullName};
 ghost use Rattle.bridge.specs.WriteType.{writeAtom};
 ghost use Rattle.cursor.specs.Checking.{Limited};
 ghost use Rattle.view.specs.Values.{Yields};
 ghost use Rattle.view.specs.Views.{prefixOf};
 ghost use Rattle.write_atom.specs.Texts.{spaceOfKind};
 ghost use Rattle.write_type.specs.TypeAt.{tyAt};
-ghost use Rattle.tables.specs.Tables.{itemsIn, itemsOf};
+ghost use Rattle.tables.specs.Tables.{itemsIn, itemsOf, Lent};
 ghost use Rattle.shape.specs.Counts.{aroundOf, constOf, InnerOf, writeTypeAs, Counts};
 
 // ---- lengths, by the number of an atom or of a kind
@@ -44,7 +47,7 @@ fn atom_length(n: u32) -> usize
 }
 
 // The space behind a type.
-fn space_length(k: u32) -> usize
+pub fn space_length(k: u32) -> usize
     ensures { λ r. ⌜ r ≡ length (spaceOfKind (kindOf k)) ⌝ }
 {
     match k {
@@ -55,7 +58,7 @@ fn space_length(k: u32) -> usize
 }
 
 // The space behind the whole type, where that is counted too.
-fn end_length(spaced: bool, k: u32) -> usize
+pub fn end_length(spaced: bool, k: u32) -> usize
     ensures { λ r. ⌜ r ≡ length (pickText spaced (spaceOfKind (kindOf k)) []) ⌝ }
 {
     if spaced {
@@ -65,7 +68,7 @@ fn end_length(spaced: bool, k: u32) -> usize
 }
 
 // What always stands around an inner type; 0 for a kind that has none, or that is not counted.
-fn around_length(k: u32) -> usize
+pub fn around_length(k: u32) -> usize
     ensures { λ r. ⌜ r ≡ aroundOf (kindOf k) ⌝ }
 {
     match k {
@@ -140,10 +143,27 @@ fn inner_type(s: &[u8], at: u32, k: u32) -> Inner
 
 // ---- types
 
-// The length of the type at c, with the space behind it or without; 0 where it is not counted, for a named type, Fn or
-// Array in it.
-pub fn count_type(s: &[u8], t: &[u32; Table::PLACES], c: Cursor, levels: u32, spaced: bool) -> usize
-    requires { ⌜ Limited (now s) ×
+// The length of item i's full name; 0 where the table does not know it.
+fn full_length(s: &[u8], t: &[u32; Table::PLACES], pool: &[u8; Pool::BYTES], i: u32) -> usize
+    requires { ⌜ Lent (now s) (now t) (now pool) × (i < length (itemsIn (now t))) ⌝ }
+    ensures { λ r. ⌜ (r < 1024) ×
+        Counts (fullName (itemAt (itemsOf (now (s .entry)) (now (t .entry))) i)) r ⌝ }
+{
+    let e = t[Table::FULL + i as usize];
+    (e % 1024) as usize
+}
+
+// The length of the type at c, with the space behind it or without; 0 where it is not counted, for Fn, Array or a named
+// type of unknown length in it.
+pub fn count_type(
+    s: &[u8],
+    t: &[u32; Table::PLACES],
+    pool: &[u8; Pool::BYTES],
+    c: Cursor,
+    levels: u32,
+    spaced: bool,
+) -> usize
+    requires { ⌜ Lent (now s) (now t) (now pool) ×
         Yields (typeAt (length (itemsIn (now t))) levels (now s) (c .at))
         (tyAt (length (itemsIn (now t))) levels (now s) (c .at)) ⌝ }
     ensures { λ r. ⌜ Counts (writeTypeAs spaced (itemsOf (now (s .entry)) (now (t .entry)))
@@ -166,6 +186,14 @@ pub fn count_type(s: &[u8], t: &[u32; Table::PLACES], c: Cursor, levels: u32, sp
     }
     if k == 9 {
         return sum + 11;
+    }
+    if k == 1 {
+        let w = width(t[Table::ITEMS]);
+        let i = extract(s, at + 4, w);
+        let n = full_length(s, t, pool, i);
+        if 0 < n {
+            return sum + n;
+        }
     }
     0
 }

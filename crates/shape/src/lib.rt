@@ -1,6 +1,8 @@
 // The types that a call treats in a way of their own, and what a declaration and a shim write alike.
+mod chain;
 mod count;
 
+use crate::chain::write_chain;
 use crate::count::count_type;
 use cursor::Cursor;
 use cursor::fields::field;
@@ -16,8 +18,6 @@ use tables::needs_indirect_abi;
 use types::Levels;
 use types::kind_of;
 use view::FunctionView;
-use write_type::write_type;
-use write_type::write_type_space;
 ghost use mathlib.Core.Path.{_≡_};
 ghost use mathlib.Core.Bool.{_||_};
 ghost use lib.Dec.{ltb};
@@ -149,13 +149,12 @@ pub fn write_outermost(
         (typeOf (now (s .entry)) (now (t .entry)) (c .at))) (sink (now (out .exit)) r) ⌝ }
 {
     if out.len() < at {
-        let n = count_type(s, t, c, Levels::MOST, false);
+        let n = count_type(s, t, pool, c, Levels::MOST, false);
         if 0 < n {
             return advance(at, n);
         }
     }
-    let walked = write_type(s, t, pool, c, Levels::MOST, out, at);
-    walked.at
+    write_chain(s, t, pool, c, Levels::MOST, false, out, at)
 }
 
 // The same of any type at c, with so many levels left, and with a space behind it where one belongs.
@@ -176,13 +175,12 @@ fn write_spaced(
         (tyAt (length (itemsIn (now (t .entry)))) levels (now (s .entry)) (c .at))) (sink (now (out .exit)) r) ⌝ }
 {
     if out.len() < at {
-        let n = count_type(s, t, c, levels, true);
+        let n = count_type(s, t, pool, c, levels, true);
         if 0 < n {
             return advance(at, n);
         }
     }
-    let walked = write_type_space(s, t, pool, c, levels, out, at);
-    walked.at
+    write_chain(s, t, pool, c, levels, true, out, at)
 }
 
 // The same of the outermost type at c.

@@ -1,4 +1,4 @@
--- Written by tools/proofkit from answers/count/count_type.tpl (555ad390 31084ccb).
+-- Written by tools/proofkit from answers/count/count_type.tpl (feae7d31 2c218a2a).
 use borrow.Author.Needs.{needs}
 use mathlib.Core.Path.{_≡_}
 use native.Mathlib.Omega.{arith}
@@ -6,34 +6,37 @@ use Prim.Native.Nat.{_-_, _*_}
 use lib.ListN.{length}
 use Rattle.format.specs.Bits.{bitsAt}
 use Rattle.format.specs.Decoding.{kindOf}
+use Rattle.cursor.proofs.WidthLaws.{width-le}
 use Rattle.write_type.specs.TypeAt.{tyAt}
 use Rattle.tables.specs.Tables.{itemsIn, itemsOf}
+use Rattle.tables.proofs.TableLaws.{width-is}
 use Rattle.shape.specs.Counts.{aroundOf, writeTypeAs}
 use Rattle.shape.proofs.CountLaws.{Counting, type-room, counting-whole, counting-inner, counting-turn, inner-later}
 use Rattle.shape.proofs.CountLaws.{atom-room, atom-fits, counting-atom, counting-str, counts-none}
+use Rattle.shape.proofs.CountLaws.{named-room, named-low, counting-named}
 use Rattle.shape.proofs.count.count_type.Statement.{statement}
 use Rattle.shape.proofs.count.count_type.Tie as tie
 
 abbrev Inv-loop : tie.InvT-loop
-Inv-loop s t levels spaced at₀ k₀ sum₀ around₀ at k sum around = Counting (length (itemsIn t)) s (itemsOf s t) (writeTypeAs spaced (itemsOf s t) (tyAt (length (itemsIn t)) levels s at₀)) at sum × (k ≡ bitsAt s at 4) × (around ≡ aroundOf (kindOf k))
+Inv-loop s t pool levels spaced at₀ k₀ sum₀ around₀ at k sum around = Counting (length (itemsIn t)) s (itemsOf s t) (writeTypeAs spaced (itemsOf s t) (tyAt (length (itemsIn t)) levels s at₀)) at sum × (k ≡ bitsAt s at 4) × (around ≡ aroundOf (kindOf k))
 
 abbrev μ-loop : tie.MeasureT-loop
-μ-loop s t levels spaced at₀ k₀ sum₀ around₀ at k sum around = 8 * length s - at
+μ-loop s t pool levels spaced at₀ k₀ sum₀ around₀ at k sum around = 8 * length s - at
 
 extract-requires : tie.Need-extract-requires Inv-loop μ-loop
-extract-requires c κs = (c .before .pre .0, omega arith, type-room _ _ _ _ (c .before .pre .1))
+extract-requires c κs = (c .before .pre .0 .tabled .whole .named .limited, omega arith, type-room _ _ _ _ (c .before .pre .1))
 
 loop-holds : tie.Need-loop-holds Inv-loop μ-loop
 loop-holds c = (counting-whole _ _ _ _ _ (c .before .before .before .before .args .spaced) (c .before .before .before .before .pre .1) (c .before .before .extract .ensures) (c .before .end-length .ensures), c .before .before .extract .ensures, c .around-length .ensures)
 
 inner-type-requires : tie.Need-inner-type-requires Inv-loop μ-loop
-inner-type-requires c κs = (c .before .before .before .before .before .before .pre .0, omega (arith, c .before .loop .inv .2), counting-inner _ _ _ _ _ (c .before .loop .inv .0) (c .before .loop .inv .1) (c .before .loop .inv .2) (c .loop-test .taken) .room)
+inner-type-requires c κs = (c .before .before .before .before .before .before .pre .0 .tabled .whole .named .limited, omega (arith, c .before .loop .inv .2), counting-inner _ _ _ _ _ (c .before .loop .inv .0) (c .before .loop .inv .1) (c .before .loop .inv .2) (c .loop-test .taken) .room)
 
 add-sum : tie.Need-add-sum Inv-loop μ-loop
-add-sum c = omega (arith, c .before .before .before .before .before .before .before .pre .0, (counting-turn _ _ _ _ _ (c .before .before .loop .inv .0) (c .before .before .loop .inv .1) (c .before .before .loop .inv .2) (c .before .loop-test .taken) (c .inner-type .ensures)) .few, (counting-turn _ _ _ _ _ (c .before .before .loop .inv .0) (c .before .before .loop .inv .1) (c .before .before .loop .inv .2) (c .before .loop-test .taken) (c .inner-type .ensures)) .room)
+add-sum c = omega (arith, c .before .before .before .before .before .before .before .pre .0 .tabled .whole .named .limited, (counting-turn _ _ _ _ _ (c .before .before .loop .inv .0) (c .before .before .loop .inv .1) (c .before .before .loop .inv .2) (c .before .loop-test .taken) (c .inner-type .ensures)) .few, (counting-turn _ _ _ _ _ (c .before .before .loop .inv .0) (c .before .before .loop .inv .1) (c .before .before .loop .inv .2) (c .before .loop-test .taken) (c .inner-type .ensures)) .room)
 
 add-sum-2 : tie.Need-add-sum-2 Inv-loop μ-loop
-add-sum-2 c = omega (arith, c .before .before .before .before .before .before .before .before .pre .0, (counting-turn _ _ _ _ _ (c .before .before .before .loop .inv .0) (c .before .before .before .loop .inv .1) (c .before .before .before .loop .inv .2) (c .before .before .loop-test .taken) (c .before .inner-type .ensures)) .few, (counting-turn _ _ _ _ _ (c .before .before .before .loop .inv .0) (c .before .before .before .loop .inv .1) (c .before .before .before .loop .inv .2) (c .before .before .loop-test .taken) (c .before .inner-type .ensures)) .room)
+add-sum-2 c = omega (arith, c .before .before .before .before .before .before .before .before .pre .0 .tabled .whole .named .limited, (counting-turn _ _ _ _ _ (c .before .before .before .loop .inv .0) (c .before .before .before .loop .inv .1) (c .before .before .before .loop .inv .2) (c .before .before .loop-test .taken) (c .before .inner-type .ensures)) .few, (counting-turn _ _ _ _ _ (c .before .before .before .loop .inv .0) (c .before .before .before .loop .inv .1) (c .before .before .before .loop .inv .2) (c .before .before .loop-test .taken) (c .before .inner-type .ensures)) .room)
 
 loop-less : tie.Need-loop-less Inv-loop μ-loop
 loop-less c = omega (arith, c .before .before .before .before .loop .inv .0 .room, inner-later _ _ _ _ _ (c .before .before .before .before .loop .inv .0) (c .before .before .before .before .loop .inv .1) (c .before .before .before .before .loop .inv .2) (c .before .before .before .loop-test .taken) (c .before .before .inner-type .ensures))
@@ -42,25 +45,43 @@ loop-again : tie.Need-loop-again Inv-loop μ-loop
 loop-again c = (counting-turn _ _ _ _ _ (c .before .before .before .before .loop .inv .0) (c .before .before .before .before .loop .inv .1) (c .before .before .before .before .loop .inv .2) (c .before .before .before .loop-test .taken) (c .before .before .inner-type .ensures), c .before .before .inner-type .ensures .kind, c .around-length2 .ensures)
 
 add-extract : tie.Need-add-extract Inv-loop μ-loop
-add-extract c = omega (arith, c .before .before .before .before .before .before .before .pre .0, c .before .before .loop .inv .0 .room)
+add-extract c = omega (arith, c .before .before .before .before .before .before .before .pre .0 .tabled .whole .named .limited, c .before .before .loop .inv .0 .room)
 
 extract-requires-2 : tie.Need-extract-requires-2 Inv-loop μ-loop
-extract-requires-2 c κs = (c .before .before .before .before .before .before .before .pre .0, omega arith, omega (arith, atom-room _ _ _ _ _ (c .before .before .loop .inv .0) (c .before .before .loop .inv .1) (c .if1 .taken)))
+extract-requires-2 c κs = (c .before .before .before .before .before .before .before .pre .0 .tabled .whole .named .limited, omega arith, omega (arith, atom-room _ _ _ _ _ (c .before .before .loop .inv .0) (c .before .before .loop .inv .1) (c .if1 .taken)))
 
 add-result : tie.Need-add-result Inv-loop μ-loop
-add-result c = omega (arith, c .before .before .before .before .before .before .before .before .before .pre .0, c .before .before .before .before .loop .inv .0 .few, c .before .before .before .before .loop .inv .0 .room, atom-fits _ (c .atom-length .ensures))
+add-result c = omega (arith, c .before .before .before .before .before .before .before .before .before .pre .0 .tabled .whole .named .limited, c .before .before .before .before .loop .inv .0 .few, c .before .before .before .before .loop .inv .0 .room, atom-fits _ (c .atom-length .ensures))
 
 returns : tie.Need-returns Inv-loop μ-loop
 returns c = counting-atom _ _ _ _ _ (c .before .before .before .before .loop .inv .0) (c .before .before .before .before .loop .inv .1) (c .before .before .if1 .taken) (c .before .extract2 .ensures) (c .atom-length .ensures)
 
 add-result-2 : tie.Need-add-result-2 Inv-loop μ-loop
-add-result-2 c = omega (arith, c .before .before .before .before .before .before .before .before .pre .0, c .before .before .before .loop .inv .0 .few, c .before .before .before .loop .inv .0 .room)
+add-result-2 c = omega (arith, c .before .before .before .before .before .before .before .before .pre .0 .tabled .whole .named .limited, c .before .before .before .loop .inv .0 .few, c .before .before .before .loop .inv .0 .room)
 
 returns-2 : tie.Need-returns-2 Inv-loop μ-loop
 returns-2 c = counting-str _ _ _ _ _ (c .before .before .before .loop .inv .0) (c .before .before .before .loop .inv .1) (c .if2 .taken)
 
+add-extract-2 : tie.Need-add-extract-2 Inv-loop μ-loop
+add-extract-2 c = omega (arith, c .before .before .before .before .before .before .before .before .before .before .before .pre .0 .tabled .whole .named .limited, c .before .before .before .before .before .before .loop .inv .0 .room)
+
+extract-requires-3 : tie.Need-extract-requires-3 Inv-loop μ-loop
+extract-requires-3 c κs = (c .before .before .before .before .before .before .before .before .before .before .before .pre .0 .tabled .whole .named .limited, width-le _ (c .width .ensures), named-room _ _ _ _ _ (c .before .before .before .before .before .before .loop .inv .0) (c .before .before .before .before .before .before .loop .inv .1) (width-is (c .before .before .before .before .before .before .before .before .before .before .before .pre .0 .tabled) (c .width .ensures)) (c .before .before .if3 .taken))
+
+full-length-requires : tie.Need-full-length-requires Inv-loop μ-loop
+full-length-requires c κs = (c .before .before .before .before .before .before .before .before .before .before .before .before .pre .0, named-low _ _ _ _ _ (c .before .before .before .before .before .before .before .loop .inv .0) (c .before .before .before .before .before .before .before .loop .inv .1) (width-is (c .before .before .before .before .before .before .before .before .before .before .before .before .pre .0 .tabled) (c .before .width .ensures)) (c .before .before .before .if3 .taken) (c .extract3 .ensures))
+
+add-result-3 : tie.Need-add-result-3 Inv-loop μ-loop
+add-result-3 c = omega (arith, c .before .before .before .before .before .before .before .before .before .before .before .before .before .before .pre .0 .tabled .whole .named .limited, c .before .before .before .before .before .before .before .before .before .loop .inv .0 .few, c .before .before .before .before .before .before .before .before .before .loop .inv .0 .room, c .before .full-length .ensures .0)
+
 returns-3 : tie.Need-returns-3 Inv-loop μ-loop
-returns-3 c = counts-none _
+returns-3 c = counting-named _ _ _ _ _ (c .before .before .before .before .before .before .before .before .before .loop .inv .0) (c .before .before .before .before .before .before .before .before .before .loop .inv .1) (width-is (c .before .before .before .before .before .before .before .before .before .before .before .before .before .before .pre .0 .tabled) (c .before .before .before .width .ensures)) (c .before .before .before .before .before .if3 .taken) (c .before .before .extract3 .ensures) (c .before .full-length .ensures .1) (c .if4 .taken)
+
+returns-4 : tie.Need-returns-4 Inv-loop μ-loop
+returns-4 c = counts-none _
+
+returns-5 : tie.Need-returns-5 Inv-loop μ-loop
+returns-5 c = counts-none _
 
 pub count-type-spec : {M : Type 1} → statement M
 count-type-spec =
@@ -85,4 +106,12 @@ count-type-spec =
     returns
     add-result-2
     returns-2
-    returns-3)
+    (λ c. search needs)
+    (λ c κs. search needs)
+    add-extract-2
+    extract-requires-3
+    full-length-requires
+    add-result-3
+    returns-3
+    returns-4
+    returns-5)

@@ -1,0 +1,31 @@
+-- Written by tools/proofkit from answers/chain/base_of.tpl (67561237 7bf7c691).
+use mathlib.Core.Path.{refl}
+use Rattle.format.specs.Decoding.{kindOf}
+use Rattle.shape.proofs.CountLaws.{const-rest}
+use Rattle.shape.proofs.ChainLaws.{base-rest}
+use Rattle.shape.proofs.chain.base_of.Statement.{statement}
+use Rattle.shape.proofs.chain.base_of.Tie as tie
+
+returns : tie.Need-returns
+unfolding kindOf
+returns c = rw (c .match .keys1) refl
+
+returns-2 : tie.Need-returns-2
+unfolding kindOf
+returns-2 c = rw (c .match .keys2) refl
+
+returns-3 : tie.Need-returns-3
+unfolding kindOf
+returns-3 c = rw (c .match .keys3) refl
+
+returns-4 : tie.Need-returns-4
+returns-4 c = base-rest (kindOf _) (const-rest _ (c .match .rest .0 .0 .1) (c .match .rest .0 .1) (c .match .rest .1))
+
+pub base-of-spec : {M : Type 1} → statement M
+base-of-spec =
+    tie.close
+    (tie.spec
+    returns
+    returns-2
+    returns-3
+    returns-4)
