@@ -3,4 +3,5 @@ pub mod ShapeLaws
 pub mod FunctionLaws
 pub mod CommaLaws
 pub mod ArgumentLaws
-mod CountLaws
+pub mod CountLaws
+pub mod ExternLaws

@@ -1,7 +1,7 @@
 // The types that a call treats in a way of their own, and what a declaration and a shim write alike.
 mod count;
 
-use crate::count::count_type;
+pub use count::count_type;
 use cursor::Cursor;
 use cursor::fields::field;
 use format::Pointer;

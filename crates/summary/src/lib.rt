@@ -1,4 +1,7 @@
 // Summaries of functions: what both passes over a sheet ask of a function's arguments, gathered once.
+mod count;
+
+pub use count::count_summary;
 use cursor::Cursor;
 use tables::Table;
 use tables::fill_arguments;

@@ -1,0 +1,2 @@
+pub mod LengthLaws
+mod FillLaws
