@@ -25,6 +25,7 @@ ghost use Rattle.lexical.specs.Decimal.{pickText};
 ghost use Rattle.syntax.specs.Items.{itemAt};
 ghost use Rattle.bridge.specs.Write.{isFree, shimBody, writeDoc, functionShim};
 ghost use Rattle.sink.specs.Sink.{sink, Wrote};
+ghost use Rattle.summary.specs.Summaries.{Summary};
 ghost use Rattle.tables.specs.Tables.{itemsOf, functionOf, Item, Function, Arguments, behindArguments, Lent};
 
 // ---- the body
@@ -125,7 +126,7 @@ pub fn write_function_shim(
 ) -> usize
     requires { ⌜ Lent (now s) (now t) (now pool) × Item (now s) (now t) v ×
         Function (now s) (now t) f × (f .number ≡ v .number) ×
-        Arguments (now s) (now t) f (now offsets) × (f .arguments ≤ length (now offsets)) ×
+        Summary (now s) (now t) f (now offsets) ×
         (comment .at ≡ behindArguments (now s) (now t) f) ⌝ }
     ensures { λ r. ⌜ Wrote (sink (now (out .entry)) at)
         (functionShim (record {

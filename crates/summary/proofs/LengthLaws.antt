@@ -1,22 +1,25 @@
 -- Texts that are counted, and the lengths that a summary keeps.
 use mathlib.Core.Path.{_≡_, refl, sym, _∙_}
 use mathlib.Core.List.{List, [], _++_, map}
-use mathlib.Core.Bool.{true, false}
+use mathlib.Core.Bool.{Bool, true, false}
 use Prim.Native.Nat.{ℕ, _+_, _-_, _<_, _≤_, min}
 use native.Mathlib.Omega.{arith}
 use lib.ListN.{length, set, length-set}
 use lib.Seq.{getD-set-same, getD-set-other}
 use Rattle.lexical.specs.Bytes.{bytes}
+use Rattle.lexical.specs.Decimal.{pickText}
 use Rattle.format.specs.Types.{Ty}
 use Rattle.format.specs.Sheet.{Item}
 use Rattle.bridge.specs.WriteType.{writeTypeSpace}
 use Rattle.bridge.specs.Write.{commas, writePointer, externArg}
 use Rattle.sink.specs.Sink.{Sink, sink, limit, Wrote}
-use Rattle.sink.proofs.SinkLaws.{_▷_, wrote-nil, wrote-place}
+use Rattle.sink.proofs.SinkLaws.{_▷_, wrote-nil, wrote-as, wrote-length, wrote-place}
 use Rattle.sink.proofs.StoreLaws.{wrote-none}
 use Rattle.view.specs.declared.FunctionView.{FunctionView}
 use Rattle.tables.specs.Tables.{itemsOf, functionOf, Arguments}
 use Rattle.shape.specs.Counts.{Counts}
+use Rattle.shape.proofs.CommaLaws.{commas-behind}
+use Rattle.shape.proofs.CountLaws.{wrote-counted}
 use Rattle.summary.specs.declared.count.Places.{Places}
 use Rattle.summary.specs.Summaries.{Summary}
 use Rattle.summary.specs.Places.{Behind, Passed}
@@ -67,6 +70,16 @@ passed-both p q = record { declaredTo = λ h. p; definedTo = λ h. q }
 pub pointer-passed : (items : List Item) (i : Ty) {r t u : Sink} → Wrote r (writeTypeSpace items i) t →
     Wrote t (bytes "*") u → Wrote r (writePointer items true i) u
 pointer-passed items i p q = p ▷ wrote-nil _ ▷ q
+
+-- a list that was counted, behind a comma or none, where the buffer ends before the place
+pub list-counted : {l m : List ℕ} {at next n r : ℕ} (b : Bool) (xs : List (List ℕ)) → length l < at → at ≤ limit →
+    Wrote (sink l at) (pickText b (bytes ", ") []) (sink m next) → Counts (commas false xs) n → 0 < n →
+    r ≡ min limit (next + n) → Wrote (sink l at) (commas b xs) (sink m r)
+list-counted {l} {m} {at} {next} {n} b xs past g p c h e =
+    let place = wrote-place p g in
+    let same : length m ≡ length l = wrote-length p in
+    wrote-as (p ▷ wrote-counted (omega arith) c h (omega arith) e)
+    (commas-behind b xs (λ z. let k = c .exact (λ y. omega arith) in omega arith))
 
 -- ---- the words of a summary
 

@@ -1,5 +1,5 @@
-// The lengths of a function's arguments, in its declaration and in the head of its shim. Both texts are followed by their
-// places in an empty buffer, from place 1 on; place 0 stands for a text that is not counted.
+// The lengths of a function's arguments, in its declaration and in the head of its shim. Both are counted by places in an
+// empty buffer, from place 1 on; place 0 stands for a text that is not counted.
 use cursor::Cursor;
 use shape::count_type;
 use sink::advance;
@@ -22,7 +22,8 @@ ghost use Rattle.sink.specs.Sink.{limit};
 ghost use Rattle.cursor.specs.Checking.{Limited};
 ghost use Rattle.view.specs.Values.{nameAt};
 ghost use Rattle.view.specs.Views.{kindOfType, ownerOf};
-ghost use Rattle.tables.specs.Tables.{namesIn, itemsOf, functionOf, argumentOf, Function, Arguments, Lent, typeOf, Typed};
+ghost use Rattle.tables.specs.Tables.{namesIn, itemsOf, functionOf, argumentOf, typeOf, Typed};
+ghost use Rattle.tables.specs.Tables.{Function, Arguments, Lent};
 ghost use Rattle.shape.specs.Counts.{Counts};
 ghost use Rattle.summary.specs.Summaries.{Summary};
 ghost use Rattle.summary.specs.Places.{Behind, Passed};
@@ -168,6 +169,20 @@ fn count_arguments(
 }
 
 // ---- summaries
+
+fn widened(word: u32) -> usize
+    ensures { λ r. ⌜ r ≡ word ⌝ }
+{
+    word as usize
+}
+
+// The length in word i of a summary.
+pub fn kept_length(words: &[u32], i: u32) -> usize
+    requires { ⌜ i < length (now words) ⌝ }
+    ensures { λ r. ⌜ r ≡ getD (now (words .entry)) i 0 ⌝ }
+{
+    widened(words[i as usize])
+}
 
 // Stores both lengths in the summary, where they were counted.
 pub fn count_summary(

@@ -2,6 +2,7 @@
 mod count;
 
 pub use count::count_summary;
+pub use count::kept_length;
 use cursor::Cursor;
 use tables::Table;
 use tables::fill_arguments;
