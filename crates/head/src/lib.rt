@@ -146,7 +146,7 @@ fn write_parameters(
         (f .number) .arguments))) (sink (now (out .exit)) r) ⌝ }
 {
     if out.len() < at {
-        let n = kept_length(offsets, f.arguments + 1);
+        let n = kept_length(offsets, f.arguments as usize + 1);
         if 0 < n {
             return advance(at, n);
         }

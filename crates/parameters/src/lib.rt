@@ -128,7 +128,7 @@ fn write_extern_args(
         (sink (now (out .exit)) r) ⌝ }
 {
     if out.len() < at {
-        let n = kept_length(offsets, f.arguments);
+        let n = kept_length(offsets, f.arguments as usize);
         if 0 < n {
             let next = put_when(out, at, before, b", ");
             return advance(next, n);

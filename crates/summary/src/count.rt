@@ -177,11 +177,11 @@ fn widened(word: u32) -> usize
 }
 
 // The length in word i of a summary.
-pub fn kept_length(words: &[u32], i: u32) -> usize
+pub fn kept_length(words: &[u32], i: usize) -> usize
     requires { ⌜ i < length (now words) ⌝ }
     ensures { λ r. ⌜ r ≡ getD (now (words .entry)) i 0 ⌝ }
 {
-    widened(words[i as usize])
+    widened(words[i])
 }
 
 // Stores both lengths in the summary, where they were counted.

@@ -1,4 +1,4 @@
--- Written by tools/proofkit from answers/write_extern_args.tpl (affbf077 9165f1a1).
+-- Written by tools/proofkit from answers/write_extern_args.tpl (affbf077 4426dc00).
 use borrow.Author.Needs.{needs}
 use Prim.Native.Nat.{_≤_, _-_}
 use native.Mathlib.Omega.{arith}
@@ -19,10 +19,10 @@ abbrev μ-loop : tie.MeasureT-loop
 μ-loop s t pool f offsets before out₀ at here₀ comma₀ j₀ t16 out here comma j = f .arguments - j
 
 kept-length-requires : tie.Need-kept-length-requires Inv-loop μ-loop
-kept-length-requires c κs = omega (arith, c .before .before .before .before .pre .1 .room)
+kept-length-requires c κs = omega (arith, c .before .before .before .before .before .pre .1 .room)
 
 returns : tie.Need-returns Inv-loop μ-loop
-returns c = list-counted _ _ (c .before .before .before .before .before .before .before .before .if1 .taken) (omega arith) (c .before .before .before .put-when .ensures) (rw (← c .before .before .before .before .before .before .before .kept-length .ensures) at (c .before .before .before .before .before .before .before .before .before .before .before .before .pre .1 .declared)) (c .before .before .before .before .before .before .if2 .taken) (c .advance .ensures)
+returns c = list-counted _ _ (c .before .before .before .before .before .before .before .before .before .if1 .taken) (omega arith) (c .before .before .before .put-when .ensures) (rw (← c .before .before .before .before .before .before .before .kept-length .ensures) at (c .before .before .before .before .before .before .before .before .before .before .before .before .before .pre .1 .declared)) (c .before .before .before .before .before .before .if2 .taken) (c .advance .ensures)
 
 loop-holds : tie.Need-loop-holds Inv-loop μ-loop
 loop-holds c = (omega arith, listed-none _ _ _ _)
@@ -54,6 +54,7 @@ write-extern-args-spec =
     (tie.spec
     Inv-loop
     μ-loop
+    (λ c. search needs)
     kept-length-requires
     (λ c. search needs)
     (λ c κs. search needs)
