@@ -62,7 +62,8 @@ module _ (n : ℕ) (s : List ℕ) (at : ℕ) (items : List Item) where
   owned (fn r ts) h z = absurd (z refl)
   owned (array u k) h z = absurd (z refl)
 
-plain : (items : List Item) (t : Ty) → ownerOf (kindOfType t) ≡ 0 → writeTypeSpace items t ≡ externArgType items t (shape t)
+plain : (items : List Item) (t : Ty) → ownerOf (kindOfType t) ≡ 0 →
+    writeTypeSpace items t ≡ externArgType items t (shape t)
 plain items (template RustBox u) z = absurd (omega arith)
 plain items (template UniquePtr u) z = absurd (omega arith)
 plain items (template RustVec u) z = refl
@@ -113,7 +114,8 @@ argument-written {s} {n} {v} items o h p q z =
     wrote-as (p ▷ q ▷ z) (rw (h, here-is n s (v .of .at) (o .of), o .name))
 
 -- the same as a parameter of a shim
-pub parameter-written : (items : List Item) {s names : List ℕ} {n : ℕ} {x : Argument} {v : ArgumentView} {r t u : Sink} →
+pub parameter-written : (items : List Item) {s names : List ℕ} {n : ℕ} {x : Argument} {v : ArgumentView}
+    {r t u : Sink} →
     ArgumentOf s names n x v → Wrote r (writeTypeSpace items (typeHere n s (v .of .at))) t →
     Wrote t (nameAt s (getD names (v .name) 0)) u → Wrote r (writeTypeSpace items (x .type) ++ x .name) u
 parameter-written items {s} {n = n} {v = v} a p q =

@@ -1,5 +1,5 @@
-// The lengths of a function's arguments, in its declaration and in the head of its shim. Both are counted by places in an
-// empty buffer, from place 1 on; place 0 stands for a text that is not counted.
+// The lengths of a function's arguments, in its declaration and in the head of its shim. Both are counted by places in
+// an empty buffer, from place 1 on; place 0 stands for a text that is not counted.
 use cursor::Cursor;
 use shape::count_type;
 use sink::advance;

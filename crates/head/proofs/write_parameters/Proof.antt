@@ -1,4 +1,4 @@
--- Written by tools/proofkit from answers/write_parameters.tpl (f6497e21 5ddbe4a4).
+-- Written by tools/proofkit from answers/write_parameters.tpl (6aa1f1e6 5ddbe4a4).
 use borrow.Author.Needs.{needs}
 use mathlib.Core.List.{_++_}
 use mathlib.Core.Bool.{false}

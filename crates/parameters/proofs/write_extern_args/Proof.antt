@@ -1,4 +1,4 @@
--- Written by tools/proofkit from answers/write_extern_args.tpl (affbf077 4426dc00).
+-- Written by tools/proofkit from answers/write_extern_args.tpl (2c38a1dd 4426dc00).
 use borrow.Author.Needs.{needs}
 use Prim.Native.Nat.{_≤_, _-_}
 use native.Mathlib.Omega.{arith}

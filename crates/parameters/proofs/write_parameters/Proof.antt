@@ -1,4 +1,4 @@
--- Written by tools/proofkit from answers/write_parameters.tpl (aa2b5c03 15426fd1).
+-- Written by tools/proofkit from answers/write_parameters.tpl (fec1664b 15426fd1).
 use borrow.Author.Needs.{needs}
 use Rattle.parameters.proofs.ParameterLaws.{parameters}
 use Rattle.parameters.proofs.write_parameters.Statement.{statement}

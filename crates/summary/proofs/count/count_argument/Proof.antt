@@ -1,4 +1,4 @@
--- Written by tools/proofkit from answers/count/count_argument.tpl (f56785ea 13510f67).
+-- Written by tools/proofkit from answers/count/count_argument.tpl (4fa1f51e 13510f67).
 use borrow.Author.Needs.{needs}
 use native.Mathlib.Omega.{arith}
 use Rattle.write_type.proofs.TypeLaws.{outermost-yields}
@@ -46,12 +46,13 @@ returns-3 c =
     passed-both
     (argument-written _ (a .0) (a .1 .indirect) (c .before .before .before .before .before .before .before .declared-type .ensures .wrote (c .before .before .before .before .before .before .if2 .left))
     (passed (c .before .before .before .before .before .star-length .ensures) (positive (c .before .before .before .before .before .before .if2 .left)) (omega arith) (c .before .before .before .before .advance .ensures))
-    (passed-near (c .before .before .name-length .ensures) (ahead _ _ (c .before .before .before .before .advance .ensures) (positive (c .before .before .before .before .before .before .if2 .left))) (within _ _ (c .before .before .before .before .advance .ensures))
-    (c .before .advance3 .ensures)))
+    (passed-near (c .before .before .name-length .ensures) (ahead _ _ (c .before .before .before .before .advance .ensures) (positive (c .before .before .before .before .before .before .if2 .left)))
+    (within _ _ (c .before .before .before .before .advance .ensures)) (c .before .advance3 .ensures)))
     (parameter-written _ (a .0)
-    (wrote-counted (c .before .before .before .before .before .before .before .before .before .before .before .before .before .pre .5) (rw (type-at _ _ _) (c .before .before .before .before .before .before .before .before .before .count-type .ensures)) (positive (c .before .before .before .before .before .before .before .before .if1 .left)) (omega arith) (c .before .before .before .advance2 .ensures))
-    (passed-near (c .before .before .name-length .ensures) (ahead _ _ (c .before .before .before .advance2 .ensures) (c .before .before .before .before .before .before .before .before .before .before .before .before .before .pre .5)) (within _ _ (c .before .before .before .advance2 .ensures))
-    (c .advance4 .ensures)))
+    (wrote-counted (c .before .before .before .before .before .before .before .before .before .before .before .before .before .pre .5) (rw (type-at _ _ _) (c .before .before .before .before .before .before .before .before .before .count-type .ensures)) (positive (c .before .before .before .before .before .before .before .before .if1 .left)) (omega arith)
+    (c .before .before .before .advance2 .ensures))
+    (passed-near (c .before .before .name-length .ensures) (ahead _ _ (c .before .before .before .advance2 .ensures) (c .before .before .before .before .before .before .before .before .before .before .before .before .before .pre .5))
+    (within _ _ (c .before .before .before .advance2 .ensures)) (c .advance4 .ensures)))
 
 pub count-argument-spec : {M : Type 1} → statement M
 count-argument-spec =

@@ -1,4 +1,4 @@
--- Written by tools/proofkit from answers/count/count_arguments.tpl (4deb337f 7f817277).
+-- Written by tools/proofkit from answers/count/count_arguments.tpl (fad5390b 7f817277).
 use borrow.Author.Needs.{needs}
 use mathlib.Core.List.{[], _++_}
 use mathlib.Core.Bool.{false}

@@ -1,4 +1,4 @@
--- Written by tools/proofkit from answers/count/declared_type.tpl (7d922f80 e2fae586).
+-- Written by tools/proofkit from answers/count/declared_type.tpl (a04fbe0c e2fae586).
 use borrow.Author.Needs.{needs}
 use mathlib.Core.Path.{refl}
 use native.Mathlib.Omega.{arith}
@@ -26,8 +26,10 @@ returns-3 : tie.Need-returns-3
 returns-3 c =
     behind (arg-owner (c .before .before .before .before .before .before .before .before .args .s .now) (namesIn (c .before .before .before .before .before .before .before .before .args .t .now)) (itemsIn (c .before .before .before .before .before .before .before .before .args .t .now)) (c .before .before .before .before .before .before .before .before .args .c .at)
     (c .before .before .before .before .before .before .before .before .pre .1) (c .before .before .before .before .before .before .before .before .pre .2) (c .before .before .before .before .before .before .if1 .left)
-    (pointer-passed _ _ (wrote-counted (c .before .before .before .before .before .before .before .before .pre .5) (rw (c .before .before .before .before .new .ensures) at (c .before .before .before .count-type .ensures)) (omega arith) (omega arith)
-    (c .before .advance2 .ensures)) (passed refl (ahead _ _ (c .before .advance2 .ensures) (c .before .before .before .before .before .before .before .before .pre .5)) (within _ _ (c .before .advance2 .ensures)) (c .advance3 .ensures))))
+    (pointer-passed _ _
+    (wrote-counted (c .before .before .before .before .before .before .before .before .pre .5) (rw (c .before .before .before .before .new .ensures) at (c .before .before .before .count-type .ensures)) (omega arith) (omega arith)
+    (c .before .advance2 .ensures))
+    (passed refl (ahead _ _ (c .before .advance2 .ensures) (c .before .before .before .before .before .before .before .before .pre .5)) (within _ _ (c .before .advance2 .ensures)) (c .advance3 .ensures))))
 
 pub declared-type-spec : {M : Type 1} → statement M
 declared-type-spec =
