@@ -15,14 +15,13 @@ use tables::Table;
 use view::FunctionView;
 use view::ItemView;
 ghost use mathlib.Core.Path.{_≡_};
-ghost use Prim.Native.Nat.{_≤_};
-ghost use lib.ListN.{length};
 ghost use Rattle.format.specs.Decoding.{type};
 ghost use Rattle.syntax.specs.Items.{itemAt};
 ghost use Rattle.bridge.specs.Write.{shape as shapeOf, directReturn, externReturn};
 ghost use Rattle.bridge.specs.Write.{functionDecl, layoutDecl, layoutDefinition};
 ghost use Rattle.sink.specs.Sink.{sink, Wrote};
-ghost use Rattle.tables.specs.Tables.{itemsOf, functionOf, Item, Function, Arguments, Lent, typeOf, Typed};
+ghost use Rattle.summary.specs.Summaries.{Summary};
+ghost use Rattle.tables.specs.Tables.{itemsOf, functionOf, Item, Function, Lent, typeOf, Typed};
 
 // ---- the return type
 
@@ -97,7 +96,7 @@ pub fn write_function_decl(
 ) -> usize
     requires { ⌜ Lent (now s) (now t) (now pool) × Item (now s) (now t) v ×
         Function (now s) (now t) f × (f .number ≡ v .number) ×
-        Arguments (now s) (now t) f (now offsets) × (f .arguments ≤ length (now offsets)) ⌝ }
+        Summary (now s) (now t) f (now offsets) ⌝ }
     ensures { λ r. ⌜ Wrote (sink (now (out .entry)) at)
         (functionDecl (itemsOf (now (s .entry)) (now (t .entry)))
         (itemAt (itemsOf (now (s .entry)) (now (t .entry))) (v .number))

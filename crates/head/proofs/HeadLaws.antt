@@ -1,5 +1,5 @@
 -- Laws of a shim's head.
-use mathlib.Core.Path.{_≡_, refl, sym, ap, _∙_}
+use mathlib.Core.Path.{_≡_, refl, sym, _∙_}
 use mathlib.Core.List.{List, [], _∷_, _++_, map}
 use mathlib.Core.Bool.{Bool, true, false, not, _&&_}
 use Prim.Native.Nat.{ℕ, zero, suc}
@@ -11,7 +11,7 @@ use Rattle.lexical.specs.Bytes.{bytes, same}
 use Rattle.lexical.specs.Decimal.{pickText}
 use Rattle.sink.specs.Sink.{Sink, Wrote}
 use Rattle.sink.proofs.SinkLaws.{_▷_, wrote-nil, wrote-as}
-use Rattle.format.specs.Sheet.{Name, Argument, Function, Item}
+use Rattle.format.specs.Sheet.{Name, Function, Item}
 use Rattle.format.specs.Decoding.{argument, formOf}
 use Rattle.cursor.proofs.CheckLaws.{many-length}
 use Rattle.syntax.specs.Items.{itemAt, selfType}
@@ -20,10 +20,8 @@ use Rattle.bridge.specs.WriteType.{writeTypeSpace, writeReturnType}
 use Rattle.bridge.specs.Write.{commas, isRoot, isFree, isConst, isNone, isCxxMain, localName, shimDecl}
 use Rattle.view.specs.declared.ItemView.{ItemView}
 use Rattle.view.specs.declared.FunctionView.{FunctionView}
-use Rattle.view.specs.declared.ArgumentView.{ArgumentView}
 use Rattle.view.specs.Values.{nameAt, namesAt, itemsAt, functionAt, typeHere}
-use Rattle.view.specs.Views.{ItemAt, FunctionAt, ArgumentOf}
-use Rattle.shape.proofs.TypeLaws.{here-is}
+use Rattle.view.specs.Views.{ItemAt, FunctionAt}
 use Rattle.shape.proofs.FunctionLaws.{returned, returned-none}
 use Rattle.shape.proofs.CommaLaws.{gather-one, gather-none}
 
@@ -108,15 +106,6 @@ module _ {s names items : List ℕ} {f : FunctionView} (a : FunctionAt s names i
   pub self-one : (g : ℕ → List ℕ) {r t : Sink} → (f .form ≡ 0 → ⊥) → Wrote r (g (f .owner)) t →
       Wrote r (gather g (selfType (this .form))) t
   self-one g h p = wrote-as p (rw (a .view .form, self-there (f .form) (f .owner) h, gather-one g))
-
--- ---- its parameters
-
--- what is written of an argument that was read
-pub parameter-written : (items : List Item) {s names : List ℕ} {n : ℕ} {x : Argument} {v : ArgumentView} {r t u : Sink} →
-    ArgumentOf s names n x v → Wrote r (writeTypeSpace items (typeHere n s (v .of .at))) t →
-    Wrote t (nameAt s (getD names (v .name) 0)) u → Wrote r (writeTypeSpace items (x .type) ++ x .name) u
-parameter-written items {s} {n = n} {v = v} a p q =
-    wrote-as p (ap (writeTypeSpace items) (here-is n s (v .of .at) (a .of))) ▷ wrote-as q (a .name)
 
 -- ---- the head
 

@@ -1,9 +1,11 @@
 // The head of a shim.
 use mangle::write_cxx_name;
 use shape::write_outermost_space;
+use sink::advance;
 use sink::put_bytes;
 use sink::put_unless;
 use sink::put_when;
+use summary::kept_length;
 use tables::Pool;
 use tables::Table;
 use tables::put_name_of;
@@ -22,6 +24,7 @@ ghost use Rattle.syntax.specs.Items.{itemAt};
 ghost use Rattle.bridge.specs.WriteType.{writeTypeSpace, writeReturnType};
 ghost use Rattle.bridge.specs.Write.{commas, isCxxMain, localName, shimDecl};
 ghost use Rattle.sink.specs.Sink.{sink, Wrote};
+ghost use Rattle.summary.specs.Summaries.{Summary};
 ghost use Rattle.tables.specs.Tables.{itemsOf, functionOf, argumentOf, Tabled, Item, Function, Arguments, Lent};
 
 fn both(a: bool, b: bool) -> bool
@@ -126,7 +129,7 @@ fn write_parameter(
     put_name_of(s, t, pool, a.name, out, behind)
 }
 
-// The parameters.
+// The parameters. Where the buffer ends before the place, they are counted if the summary has their length.
 fn write_parameters(
     s: &[u8],
     t: &[u32; Table::PLACES],
@@ -136,13 +139,18 @@ fn write_parameters(
     out: &mut [u8],
     at: usize,
 ) -> usize
-    requires { ⌜ Lent (now s) (now t) (now pool) × Arguments (now s) (now t) f (now offsets) ×
-        (f .arguments ≤ length (now offsets)) ⌝ }
+    requires { ⌜ Lent (now s) (now t) (now pool) × Summary (now s) (now t) f (now offsets) ⌝ }
     ensures { λ r. ⌜ Wrote (sink (now (out .entry)) at)
         (commas false (map (λ a. writeTypeSpace (itemsOf (now (s .entry)) (now (t .entry)))
         (a .type) ++ a .name) (functionOf (now (s .entry)) (now (t .entry))
         (f .number) .arguments))) (sink (now (out .exit)) r) ⌝ }
 {
+    if out.len() < at {
+        let n = kept_length(offsets, f.arguments as usize + 1);
+        if 0 < n {
+            return advance(at, n);
+        }
+    }
     let mut here = at;
     let mut comma = false;
     let mut j: u32 = 0;
@@ -168,7 +176,7 @@ pub fn write_shim_decl(
 ) -> usize
     requires { ⌜ Lent (now s) (now t) (now pool) × Item (now s) (now t) v ×
         Function (now s) (now t) f × (f .number ≡ v .number) ×
-        Arguments (now s) (now t) f (now offsets) × (f .arguments ≤ length (now offsets)) ⌝ }
+        Summary (now s) (now t) f (now offsets) ⌝ }
     ensures { λ r. ⌜ Wrote (sink (now (out .entry)) at)
         (shimDecl (itemsOf (now (s .entry)) (now (t .entry)))
         (itemAt (itemsOf (now (s .entry)) (now (t .entry))) (v .number))

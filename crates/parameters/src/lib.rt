@@ -7,8 +7,10 @@ use shape::needs_comma;
 use shape::write_outermost_space;
 use shape::write_pointer;
 use shape::write_slot_type;
+use sink::advance;
 use sink::put_bytes;
 use sink::put_when;
+use summary::kept_length;
 use tables::Pool;
 use tables::Table;
 use tables::put_name_of;
@@ -27,6 +29,7 @@ ghost use Rattle.bridge.specs.Write.{receiver, slot, externParameters};
 ghost use Rattle.sink.specs.Sink.{sink, Wrote};
 ghost use Rattle.view.specs.Views.{kindOfType, ownerOf};
 ghost use Rattle.parameters.specs.Parts.{slotParameter};
+ghost use Rattle.summary.specs.Summaries.{Summary};
 ghost use Rattle.tables.specs.Tables.{itemsOf, functionOf, argumentOf, Function, Arguments, Lent, typeOf, Typed};
 
 // ---- the receiver
@@ -106,7 +109,8 @@ fn write_extern_arg(
     put_name_of(s, t, pool, a.name, out, marked)
 }
 
-// Every argument; a comma before the first if `before`.
+// Every argument; a comma before the first if `before`. Where the buffer ends before the place, they are counted if the
+// summary has their length.
 fn write_extern_args(
     s: &[u8],
     t: &[u32; Table::PLACES],
@@ -117,13 +121,19 @@ fn write_extern_args(
     out: &mut [u8],
     at: usize,
 ) -> usize
-    requires { ⌜ Lent (now s) (now t) (now pool) × Arguments (now s) (now t) f (now offsets) ×
-        (f .arguments ≤ length (now offsets)) ⌝ }
+    requires { ⌜ Lent (now s) (now t) (now pool) × Summary (now s) (now t) f (now offsets) ⌝ }
     ensures { λ r. ⌜ Wrote (sink (now (out .entry)) at)
         (commas before (map (externArg (itemsOf (now (s .entry)) (now (t .entry))))
         (functionOf (now (s .entry)) (now (t .entry)) (f .number) .arguments)))
         (sink (now (out .exit)) r) ⌝ }
 {
+    if out.len() < at {
+        let n = kept_length(offsets, f.arguments as usize);
+        if 0 < n {
+            let next = put_when(out, at, before, b", ");
+            return advance(next, n);
+        }
+    }
     let mut here = at;
     let mut comma = before;
     let mut j: u32 = 0;
@@ -179,7 +189,7 @@ pub fn write_parameters(
     at: usize,
 ) -> usize
     requires { ⌜ Lent (now s) (now t) (now pool) × Function (now s) (now t) f ×
-        Arguments (now s) (now t) f (now offsets) × (f .arguments ≤ length (now offsets)) ⌝ }
+        Summary (now s) (now t) f (now offsets) ⌝ }
     ensures { λ r. ⌜ Wrote (sink (now (out .entry)) at)
         (commas false (externParameters (itemsOf (now (s .entry)) (now (t .entry)))
         (functionOf (now (s .entry)) (now (t .entry)) (f .number))))

@@ -76,6 +76,13 @@ pub commas-one : (b : Bool) (x : List ℕ) → commas b (x ∷ []) ≡ pickText 
 unfolding commas
 commas-one b x = append-nil _
 
+-- where a list has an element, a comma before it stands before all of it
+pub commas-behind : (b : Bool) (xs : List (List ℕ)) → (length (commas false xs) ≡ 0 → ⊥) →
+    pickText b (bytes ", ") [] ++ commas false xs ≡ commas b xs
+unfolding commas
+commas-behind b [] h = absurd (h refl)
+commas-behind b (x ∷ xs) h = sym (append-assoc (pickText b (bytes ", ") []) x (commas true xs))
+
 -- ---- loops: the texts of the first j elements are written
 
 map-snoc : {A B : Type 0} (g : A → B) (xs : List A) (x : A) → map g (xs ++ (x ∷ [])) ≡ map g xs ++ (g x ∷ [])

@@ -3,5 +3,6 @@ pub mod ShapeLaws
 pub mod FunctionLaws
 pub mod CommaLaws
 pub mod ArgumentLaws
-mod CountLaws
+pub mod CountLaws
 mod ChainLaws
+pub mod ExternLaws

@@ -3,7 +3,7 @@ mod chain;
 mod count;
 
 use crate::chain::write_chain;
-use crate::count::count_type;
+pub use count::count_type;
 use cursor::Cursor;
 use cursor::fields::field;
 use format::Pointer;

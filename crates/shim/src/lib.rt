@@ -27,6 +27,7 @@ ghost use Rattle.bridge.specs.Write.{isFree, shimBody, writeDoc, functionShim};
 ghost use Rattle.sink.specs.Sink.{sink, Wrote};
 ghost use Rattle.view.specs.Values.{Yields};
 ghost use Rattle.view.specs.Views.{commentLines};
+ghost use Rattle.summary.specs.Summaries.{Summary};
 ghost use Rattle.tables.specs.Tables.{itemsOf, functionOf, Item, Function, Arguments, Lent};
 
 // ---- the body
@@ -127,7 +128,7 @@ pub fn write_function_shim(
 ) -> usize
     requires { ⌜ Lent (now s) (now t) (now pool) × Item (now s) (now t) v ×
         Function (now s) (now t) f × (f .number ≡ v .number) ×
-        Arguments (now s) (now t) f (now offsets) × (f .arguments ≤ length (now offsets)) ×
+        Summary (now s) (now t) f (now offsets) ×
         Yields (commentLines (now s) (comment .at)) (functionOf (now s) (now t) (f .number) .comment) ⌝ }
     ensures { λ r. ⌜ Wrote (sink (now (out .entry)) at)
         (functionShim (record {

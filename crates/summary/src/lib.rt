@@ -1,7 +1,12 @@
 // Summaries of functions: what both passes over a sheet ask of a function's arguments, gathered once.
+mod count;
+
+pub use count::count_summary;
+pub use count::kept_length;
 use cursor::Cursor;
 use format::ItemKind;
 use format::Outline;
+use tables::Pool;
 use tables::Table;
 use tables::copy_words;
 use tables::fill_arguments;
@@ -15,7 +20,7 @@ ghost use lib.ListN.{length, replicate};
 ghost use Rattle.format.specs.declared.ItemKind.the-variants.{RustFunction};
 ghost use Rattle.view.specs.Values.{Yields};
 ghost use Rattle.view.specs.Views.{commentLines};
-ghost use Rattle.tables.specs.Tables.{itemsIn, functionOf, Tabled, Item, Function};
+ghost use Rattle.tables.specs.Tables.{itemsIn, functionOf, Tabled, Item, Function, Lent};
 ghost use Rattle.summary.specs.Summaries.{Summary, Summaries, Keeping};
 
 // The summary of one function: a word for each argument and three more.
@@ -45,24 +50,53 @@ pub fn fill_summary(s: &[u8], t: &[u32], f: FunctionView, words: &mut [u32]) -> 
     comment
 }
 
+// The same, counted where that can be.
+fn make_summary(
+    s: &[u8],
+    t: &[u32; Table::PLACES],
+    pool: &[u8; Pool::BYTES],
+    f: FunctionView,
+    words: &mut [u32],
+)
+    requires { ⌜ Lent (now s) (now t) (now pool) × Function (now s) (now t) f × (34 ≤ length (now words)) ⌝ }
+    ensures { λ _. ⌜ Summary (now (s .entry)) (now (t .entry)) f (now (words .exit)) ⌝ }
+{
+    fill_summary(s, t, f, words);
+    count_summary(s, t, pool, f, words);
+}
+
 // ---- all functions
 
 // The summary of function v, behind the first `end` words; the answer is the place behind it.
-fn keep(s: &[u8], t: &[u32; Table::PLACES], v: ItemView, end: usize, kept: &mut [u32]) -> usize
-    requires { ⌜ Tabled (now s) (now t) × Item (now s) (now t) v × (v .kind ≡ RustFunction) ×
+fn keep(
+    s: &[u8],
+    t: &[u32; Table::PLACES],
+    pool: &[u8; Pool::BYTES],
+    v: ItemView,
+    end: usize,
+    kept: &mut [u32],
+) -> usize
+    requires { ⌜ Lent (now s) (now t) (now pool) × Item (now s) (now t) v × (v .kind ≡ RustFunction) ×
         Keeping (now s) (now t) (v .number) end (now kept) × (end + 34 ≤ length (now kept)) ⌝ }
     ensures { λ r. ⌜ Keeping (now (s .entry)) (now (t .entry)) (v .number + 1) r (now (kept .exit)) ⌝ }
 {
     let f = function(s, t, v);
-    fill_summary(s, t, f, &mut kept[end..]);
+    make_summary(s, t, pool, f, &mut kept[end..]);
     let i = v.number as usize;
     kept[i] = end as u32;
     end + (f.arguments as usize + 3)
 }
 
 // The same of item i, where it is a function and its summary has room.
-fn keep_item(s: &[u8], t: &[u32; Table::PLACES], i: u32, end: usize, kept: &mut [u32]) -> usize
-    requires { ⌜ Tabled (now s) (now t) × (i < length (itemsIn (now t))) × Keeping (now s) (now t) i end (now kept) ⌝ }
+fn keep_item(
+    s: &[u8],
+    t: &[u32; Table::PLACES],
+    pool: &[u8; Pool::BYTES],
+    i: u32,
+    end: usize,
+    kept: &mut [u32],
+) -> usize
+    requires { ⌜ Lent (now s) (now t) (now pool) × (i < length (itemsIn (now t))) × Keeping (now s) (now t) i end (now kept) ⌝ }
     ensures { λ r. ⌜ Keeping (now (s .entry)) (now (t .entry)) (i + 1) r (now (kept .exit)) ⌝ }
 {
     if kept.len() - end < Words::MOST {
@@ -71,7 +105,7 @@ fn keep_item(s: &[u8], t: &[u32; Table::PLACES], i: u32, end: usize, kept: &mut 
     let v = item(s, t, i);
     let kind = v.kind;
     match kind {
-        ItemKind::RustFunction => keep(s, t, v, end, kept),
+        ItemKind::RustFunction => keep(s, t, pool, v, end, kept),
         ItemKind::Struct => end,
         ItemKind::Enum => end,
         ItemKind::CxxType => end,
@@ -81,15 +115,20 @@ fn keep_item(s: &[u8], t: &[u32; Table::PLACES], i: u32, end: usize, kept: &mut 
 }
 
 // The summaries of a sheet's functions, as far as they have room.
-pub fn fill_summaries(s: &[u8], t: &[u32; Table::PLACES], kept: &mut [u32])
-    requires { ⌜ Tabled (now s) (now t) × (now kept ≡ replicate 3328 0) ⌝ }
+pub fn fill_summaries(
+    s: &[u8],
+    t: &[u32; Table::PLACES],
+    pool: &[u8; Pool::BYTES],
+    kept: &mut [u32],
+)
+    requires { ⌜ Lent (now s) (now t) (now pool) × (now kept ≡ replicate 3328 0) ⌝ }
     ensures { λ _. ⌜ Summaries (now (s .entry)) (now (t .entry)) (now (kept .exit)) ⌝ }
 {
     let n = t[Table::ITEMS];
     let mut end = Outline::ITEMS;
     let mut i: u32 = 0;
     while i < n {
-        end = keep_item(s, t, i, end, kept);
+        end = keep_item(s, t, pool, i, end, kept);
         i = i + 1;
     }
 }

@@ -101,7 +101,7 @@ fn deliver_listed(
     fill_full_names(s, &mut t, pool, end);
     if short.len() == 0 {
         let mut kept = [0u32; Words::KEPT];
-        fill_summaries(s, &t, &mut kept);
+        fill_summaries(s, &t, pool, &mut kept);
         return deliver_text(s, &t, pool, digests, header, doxygen, &kept, short, buf);
     }
     let none = [0u32; 1];

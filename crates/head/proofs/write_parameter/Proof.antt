@@ -1,9 +1,9 @@
--- Written by tools/proofkit from answers/write_parameter.tpl (9cc90a1c f896c914).
+-- Written by tools/proofkit from answers/write_parameter.tpl (81323fd5 af1ed486).
 use native.Mathlib.Omega.{arith}
 use Rattle.sink.proofs.SinkLaws.{wrote-length}
 use Rattle.shape.proofs.TypeLaws.{here-yields}
 use Rattle.shape.proofs.ArgumentLaws.{argument-at}
-use Rattle.head.proofs.HeadLaws.{parameter-written}
+use Rattle.shape.proofs.ExternLaws.{parameter-written}
 use Rattle.head.proofs.write_parameter.Statement.{statement}
 use Rattle.head.proofs.write_parameter.Tie as tie
 

@@ -1,9 +1,9 @@
--- Written by tools/proofkit from answers/write_extern_arg.tpl (f25c45a4 67f5262b).
+-- Written by tools/proofkit from answers/write_extern_arg.tpl (db8a74d8 f6ec48a9).
 use borrow.Author.Needs.{needs}
 use native.Mathlib.Omega.{arith}
 use Rattle.shape.proofs.TypeLaws.{here-yields}
 use Rattle.shape.proofs.ArgumentLaws.{argument-at}
-use Rattle.parameters.proofs.ParameterLaws.{argument-written}
+use Rattle.shape.proofs.ExternLaws.{argument-written}
 use Rattle.parameters.proofs.write_extern_arg.Statement.{statement}
 use Rattle.parameters.proofs.write_extern_arg.Tie as tie
 

@@ -1,8 +1,8 @@
--- Written by tools/proofkit from answers/write_extern_arg_type.tpl (ea78748e 64815309).
+-- Written by tools/proofkit from answers/write_extern_arg_type.tpl (25c8cb42 2eeba80b).
 use borrow.Author.Needs.{needs}
 use native.Mathlib.Omega.{arith}
 use Rattle.types.proofs.KindLaws.{kind-room}
-use Rattle.parameters.proofs.ParameterLaws.{arg-plain, arg-inner, arg-owner}
+use Rattle.shape.proofs.ExternLaws.{arg-plain, arg-inner, arg-owner}
 use Rattle.tables.specs.Tables.{namesIn, itemsIn}
 use Rattle.parameters.proofs.write_extern_arg_type.Statement.{statement}
 use Rattle.parameters.proofs.write_extern_arg_type.Tie as tie

@@ -1,18 +1,19 @@
--- Written by tools/proofkit from answers/write_function_shim.tpl (ba81b632 bda59e1e).
+-- Written by tools/proofkit from answers/write_function_shim.tpl (e0605dbd 21efada3).
 use borrow.Author.Needs.{needs}
+use native.Mathlib.Omega.{arith}
 use Rattle.sink.proofs.SinkLaws.{wrote-length, first-text, second-text}
 use Rattle.shim.proofs.ShimLaws.{shim-written}
 use Rattle.shim.proofs.write_function_shim.Statement.{statement}
 use Rattle.shim.proofs.write_function_shim.Tie as tie
 
 write-shim-doc-requires : tie.Need-write-shim-doc-requires
-write-shim-doc-requires c κs = (c .before .before .before .before .pre .0, c .before .before .before .before .pre .2, c .before .before .before .before .pre .6)
+write-shim-doc-requires c κs = (c .before .before .before .before .pre .0, c .before .before .before .before .pre .2, c .before .before .before .before .pre .5)
 
 write-shim-decl-requires : tie.Need-write-shim-decl-requires
-write-shim-decl-requires c κs = (c .before .before .before .before .before .before .before .before .pre .0, c .before .before .before .before .before .before .before .before .pre .1, c .before .before .before .before .before .before .before .before .pre .2, c .before .before .before .before .before .before .before .before .pre .3, c .before .before .before .before .before .before .before .before .pre .4, c .before .before .before .before .before .before .before .before .pre .5)
+write-shim-decl-requires c κs = (c .before .before .before .before .before .before .before .before .pre .0, c .before .before .before .before .before .before .before .before .pre .1, c .before .before .before .before .before .before .before .before .pre .2, c .before .before .before .before .before .before .before .before .pre .3, c .before .before .before .before .before .before .before .before .pre .4)
 
 write-shim-body-requires : tie.Need-write-shim-body-requires
-write-shim-body-requires c κs = (c .before .before .before .before .before .before .before .before .before .before .before .before .before .pre .0, c .before .before .before .before .before .before .before .before .before .before .before .before .before .pre .1, c .before .before .before .before .before .before .before .before .before .before .before .before .before .pre .2, c .before .before .before .before .before .before .before .before .before .before .before .before .before .pre .3, c .before .before .before .before .before .before .before .before .before .before .before .before .before .pre .4, c .before .before .before .before .before .before .before .before .before .before .before .before .before .pre .5)
+write-shim-body-requires c κs = (c .before .before .before .before .before .before .before .before .before .before .before .before .before .pre .0, c .before .before .before .before .before .before .before .before .before .before .before .before .before .pre .1, c .before .before .before .before .before .before .before .before .before .before .before .before .before .pre .2, c .before .before .before .before .before .before .before .before .before .before .before .before .before .pre .3, c .before .before .before .before .before .before .before .before .before .before .before .before .before .pre .4 .arguments, omega (arith, c .before .before .before .before .before .before .before .before .before .before .before .before .before .pre .4 .room))
 
 returns : tie.Need-returns
 returns c = shim-written _ _ _ (c .before .before .before .before .before .before .before .before .before .before .before .before .write-shim-doc .ensures) (c .before .before .before .before .before .before .before .before .write-shim-decl .ensures) (first-text _ (c .before .before .before .before .before .if1 .taken) (c .before .before .put-bytes .ensures))

@@ -1,4 +1,4 @@
--- Written by tools/proofkit from answers/fill_summaries.tpl (1d9fee73 fdf93d66).
+-- Written by tools/proofkit from answers/fill_summaries.tpl (fbe0507c 4acc71d7).
 use borrow.Author.Needs.{needs}
 use mathlib.Core.Path.{_≡_, refl}
 use Prim.Native.Nat.{_≤_, _-_}
@@ -11,16 +11,16 @@ use Rattle.summary.proofs.fill_summaries.Statement.{statement}
 use Rattle.summary.proofs.fill_summaries.Tie as tie
 
 abbrev Inv-loop : tie.InvT-loop
-Inv-loop s t kept₀ n end₀ i₀ kept end i = (i ≤ n) × (length kept ≡ length kept₀) × Keeping s t i end kept
+Inv-loop s t pool kept₀ n end₀ i₀ kept end i = (i ≤ n) × (length kept ≡ length kept₀) × Keeping s t i end kept
 
 abbrev μ-loop : tie.MeasureT-loop
-μ-loop s t kept₀ n end₀ i₀ kept end i = n - i
+μ-loop s t pool kept₀ n end₀ i₀ kept end i = n - i
 
 loop-holds : tie.Need-loop-holds Inv-loop μ-loop
 loop-holds c = (omega arith, refl, keeping-begins (c .before .before .before .pre .1))
 
 keep-item-requires : tie.Need-keep-item-requires Inv-loop μ-loop
-keep-item-requires c κs = (c .before .before .before .before .before .before .pre .0, omega (arith, items-count (c .before .before .before .before .before .before .pre .0)), c .before .before .loop .inv .2)
+keep-item-requires c κs = (c .before .before .before .before .before .before .pre .0, omega (arith, items-count (c .before .before .before .before .before .before .pre .0 .tabled)), c .before .before .loop .inv .2)
 
 add-i : tie.Need-add-i Inv-loop μ-loop
 add-i c = omega arith
@@ -35,7 +35,7 @@ same-length : tie.Need-same-length Inv-loop μ-loop
 same-length c = c .before .loop .inv .1
 
 returns : tie.Need-returns Inv-loop μ-loop
-returns c = keeping-ends (c .before .loop .inv .2) (omega (arith, items-count (c .before .before .before .before .before .pre .0)))
+returns c = keeping-ends (c .before .loop .inv .2) (omega (arith, items-count (c .before .before .before .before .before .pre .0 .tabled)))
 
 pub fill-summaries-spec : {M : Type 1} → statement M
 fill-summaries-spec =

@@ -1,0 +1,212 @@
+// The lengths of a function's arguments, in its declaration and in the head of its shim. Both are counted by places in
+// an empty buffer, from place 1 on; place 0 stands for a text that is not counted.
+use cursor::Cursor;
+use shape::count_type;
+use sink::advance;
+use tables::Pool;
+use tables::Table;
+use tables::put_name_of;
+use types::Levels;
+use view::FunctionView;
+use view::argument;
+ghost use mathlib.Core.Path.{_≡_};
+ghost use mathlib.Core.List.{[], _++_, map};
+ghost use mathlib.Core.Bool.{false};
+ghost use Prim.Native.Nat.{_+_, _<_, _≤_, min};
+ghost use lib.ListN.{length, getD};
+ghost use Rattle.lexical.specs.Bytes.{bytes};
+ghost use Rattle.lexical.specs.Decimal.{pickText};
+ghost use Rattle.bridge.specs.WriteType.{writeTypeSpace};
+ghost use Rattle.bridge.specs.Write.{commas, shape as shapeOf, externArgType, externArg};
+ghost use Rattle.sink.specs.Sink.{limit};
+ghost use Rattle.view.specs.Values.{nameAt};
+ghost use Rattle.view.specs.Views.{kindOfType, ownerOf};
+ghost use Rattle.tables.specs.Tables.{namesIn, itemsOf, functionOf, argumentOf, typeOf, Typed};
+ghost use Rattle.tables.specs.Tables.{Function, Arguments, Lent};
+ghost use Rattle.shape.specs.Counts.{Counts};
+ghost use Rattle.summary.specs.Summaries.{Summary};
+ghost use Rattle.summary.specs.Places.{Behind, Passed};
+
+// ---- parts of an argument
+
+// The comma before an argument.
+fn comma_length(comma: bool) -> usize
+    ensures { λ r. ⌜ r ≡ length (pickText comma (bytes ", ") []) ⌝ }
+{
+    if comma {
+        return 2;
+    }
+    0
+}
+
+// The star of an argument that is passed by its address.
+fn star_length(indirect: bool) -> usize
+    ensures { λ r. ⌜ r ≡ length (pickText indirect (bytes "*") []) ⌝ }
+{
+    if indirect {
+        return 1;
+    }
+    0
+}
+
+fn name_length(s: &[u8], t: &[u32; Table::PLACES], pool: &[u8; Pool::BYTES], i: u32) -> usize
+    requires { ⌜ Lent (now s) (now t) (now pool) × (i < length (namesIn (now t))) ⌝ }
+    ensures { λ r. ⌜ r ≡ min limit (length (nameAt (now (s .entry)) (getD (namesIn (now (t .entry))) i 0))) ⌝ }
+{
+    let mut none = [0u8; 1];
+    put_name_of(s, t, pool, i, &mut none[..0], 0)
+}
+
+// The place behind the type at c as a declaration has it; n is its length as it is written.
+fn declared_type(
+    s: &[u8],
+    t: &[u32; Table::PLACES],
+    pool: &[u8; Pool::BYTES],
+    c: Cursor,
+    owner: u32,
+    n: usize,
+    at: usize,
+) -> usize
+    requires { ⌜ Lent (now s) (now t) (now pool) × Typed (now s) (now t) (c .at) ×
+        (owner ≡ ownerOf (kindOfType (typeOf (now s) (now t) (c .at)))) ×
+        Counts (writeTypeSpace (itemsOf (now s) (now t)) (typeOf (now s) (now t) (c .at))) n × (0 < n) × (0 < at) ⌝ }
+    ensures { λ r. ⌜ Behind at (externArgType (itemsOf (now (s .entry)) (now (t .entry)))
+        (typeOf (now (s .entry)) (now (t .entry)) (c .at))
+        (shapeOf (typeOf (now (s .entry)) (now (t .entry)) (c .at)))) r ⌝ }
+{
+    if owner == 0 {
+        return advance(at, n);
+    }
+    let inner = Cursor::new(c.at + 4);
+    let m = count_type(s, t, pool, inner, Levels::MOST - 1, true);
+    if m == 0 {
+        return 0;
+    }
+    let behind = advance(at, m);
+    advance(behind, 1)
+}
+
+// ---- arguments
+
+// The places in both texts.
+struct Places {
+    exts: usize,
+    pars: usize,
+}
+
+// Behind argument j, of which the texts begin at these places.
+fn count_argument(
+    s: &[u8],
+    t: &[u32; Table::PLACES],
+    pool: &[u8; Pool::BYTES],
+    f: FunctionView,
+    words: &[u32],
+    j: u32,
+    exts: usize,
+    pars: usize,
+) -> Places
+    requires { ⌜ Lent (now s) (now t) (now pool) × Arguments (now s) (now t) f (now words) ×
+        (j < f .arguments) × (f .arguments ≤ length (now words)) × (0 < exts) × (0 < pars) ⌝ }
+    ensures { λ r. ⌜ Passed (externArg (itemsOf (now (s .entry)) (now (t .entry)))
+        (argumentOf (now (s .entry)) (now (t .entry)) (f .number) j))
+        (writeTypeSpace (itemsOf (now (s .entry)) (now (t .entry)))
+        (argumentOf (now (s .entry)) (now (t .entry)) (f .number) j .type) ++
+        argumentOf (now (s .entry)) (now (t .entry)) (f .number) j .name) exts pars r ⌝ }
+{
+    let a = argument(words, j);
+    let n = count_type(s, t, pool, a.of, Levels::MOST, true);
+    if n == 0 {
+        return Places { exts: 0, pars: 0 };
+    }
+    let typed = declared_type(s, t, pool, a.of, a.owner, n, exts);
+    if typed == 0 {
+        return Places { exts: 0, pars: 0 };
+    }
+    let star = star_length(a.indirect);
+    let marked = advance(typed, star);
+    let spaced = advance(pars, n);
+    let name = name_length(s, t, pool, a.name);
+    Places {
+        exts: advance(marked, name),
+        pars: advance(spaced, name),
+    }
+}
+
+// Behind all arguments.
+fn count_arguments(
+    s: &[u8],
+    t: &[u32; Table::PLACES],
+    pool: &[u8; Pool::BYTES],
+    f: FunctionView,
+    words: &[u32],
+) -> Places
+    requires { ⌜ Lent (now s) (now t) (now pool) × Arguments (now s) (now t) f (now words) ×
+        (f .arguments ≤ length (now words)) ⌝ }
+    ensures { λ r. ⌜ Passed (commas false (map (externArg (itemsOf (now (s .entry)) (now (t .entry))))
+        (functionOf (now (s .entry)) (now (t .entry)) (f .number) .arguments)))
+        (commas false (map (λ a. writeTypeSpace (itemsOf (now (s .entry)) (now (t .entry)))
+        (a .type) ++ a .name) (functionOf (now (s .entry)) (now (t .entry))
+        (f .number) .arguments))) 1 1 r ⌝ }
+{
+    let mut exts: usize = 1;
+    let mut pars: usize = 1;
+    let mut comma = false;
+    let mut j: u32 = 0;
+    while j < f.arguments {
+        let gap = comma_length(comma);
+        let x = advance(exts, gap);
+        let y = advance(pars, gap);
+        let r = count_argument(s, t, pool, f, words, j, x, y);
+        if r.exts == 0 {
+            return Places { exts: 0, pars: 0 };
+        }
+        exts = r.exts;
+        pars = r.pars;
+        comma = true;
+        j = j + 1;
+    }
+    Places { exts, pars }
+}
+
+// ---- summaries
+
+fn widened(word: u32) -> usize
+    ensures { λ r. ⌜ r ≡ word ⌝ }
+{
+    word as usize
+}
+
+// The length in word i of a summary.
+pub fn kept_length(words: &[u32], i: usize) -> usize
+    requires { ⌜ i < length (now words) ⌝ }
+    ensures { λ r. ⌜ r ≡ getD (now (words .entry)) i 0 ⌝ }
+{
+    widened(words[i])
+}
+
+// Stores both lengths in the summary, where they were counted.
+pub fn count_summary(
+    s: &[u8],
+    t: &[u32; Table::PLACES],
+    pool: &[u8; Pool::BYTES],
+    f: FunctionView,
+    words: &mut [u32],
+)
+    requires { ⌜ Lent (now s) (now t) (now pool) × Function (now s) (now t) f ×
+        Summary (now s) (now t) f (now words) ⌝ }
+    ensures { λ _. ⌜ Summary (now (s .entry)) (now (t .entry)) f (now (words .exit)) ⌝ }
+{
+    let p = count_arguments(s, t, pool, f, words);
+    if p.exts == 0 {
+        return;
+    }
+    if 0xffff_ffff < p.exts {
+        return;
+    }
+    if 0xffff_ffff < p.pars {
+        return;
+    }
+    let n = f.arguments as usize;
+    words[n] = (p.exts - 1) as u32;
+    words[n + 1] = (p.pars - 1) as u32;
+}
