@@ -71,6 +71,10 @@ pub pointer-passed : (items : List Item) (i : Ty) {r t u : Sink} → Wrote r (wr
     Wrote t (bytes "*") u → Wrote r (writePointer items true i) u
 pointer-passed items i p q = p ▷ wrote-nil _ ▷ q
 
+-- the length in a word that was read
+pub kept : {text : List ℕ} {n w : ℕ} → n ≡ w → Counts text w → Counts text n
+kept e c = rw e c
+
 -- a list that was counted, behind a comma or none, where the buffer ends before the place
 pub list-counted : {l m : List ℕ} {at next n r : ℕ} (b : Bool) (xs : List (List ℕ)) → length l < at → at ≤ limit →
     Wrote (sink l at) (pickText b (bytes ", ") []) (sink m next) → Counts (commas false xs) n → 0 < n →

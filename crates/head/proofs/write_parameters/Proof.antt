@@ -1,4 +1,4 @@
--- Written by tools/proofkit from answers/write_parameters.tpl (6aa1f1e6 5ddbe4a4).
+-- Written by tools/proofkit from answers/write_parameters.tpl (5b6a6988 80e9bc61).
 use borrow.Author.Needs.{needs}
 use mathlib.Core.List.{_++_}
 use mathlib.Core.Bool.{false}
@@ -10,6 +10,7 @@ use Rattle.sink.proofs.SinkLaws.{wrote-length}
 use Rattle.shape.proofs.CommaLaws.{Listed, listed-none}
 use Rattle.shape.proofs.CountLaws.{wrote-counted}
 use Rattle.shape.proofs.ArgumentLaws.{listed-argument, listed-arguments}
+use Rattle.summary.proofs.LengthLaws.{kept}
 use Rattle.tables.specs.Tables.{itemsOf, functionOf}
 use Rattle.head.proofs.write_parameters.Statement.{statement}
 use Rattle.head.proofs.write_parameters.Tie as tie
@@ -24,7 +25,7 @@ kept-length-requires : tie.Need-kept-length-requires Inv-loop μ-loop
 kept-length-requires c κs = omega (arith, c .before .before .before .before .before .pre .1 .room)
 
 returns : tie.Need-returns Inv-loop μ-loop
-returns c = wrote-counted (c .before .before .before .before .if1 .taken) (rw (← c .before .before .kept-length .ensures) at (c .before .before .before .before .before .before .before .before .pre .1 .defined)) (c .before .if2 .taken) (omega arith) (c .advance .ensures)
+returns c = wrote-counted (c .before .before .before .before .if1 .taken) (kept (c .before .before .kept-length .ensures) (c .before .before .before .before .before .before .before .before .pre .1 .defined)) (c .before .if2 .taken) (omega arith) (c .advance .ensures)
 
 loop-holds : tie.Need-loop-holds Inv-loop μ-loop
 loop-holds c = (omega arith, listed-none _ _ _ _)

@@ -1,4 +1,4 @@
--- Written by tools/proofkit from answers/write_extern_args.tpl (2c38a1dd 4426dc00).
+-- Written by tools/proofkit from answers/write_extern_args.tpl (06129217 e88f24c0).
 use borrow.Author.Needs.{needs}
 use Prim.Native.Nat.{_≤_, _-_}
 use native.Mathlib.Omega.{arith}
@@ -7,7 +7,7 @@ use Rattle.sink.specs.Sink.{sink}
 use Rattle.sink.proofs.SinkLaws.{wrote-length}
 use Rattle.shape.proofs.CommaLaws.{Listed, listed-none}
 use Rattle.shape.proofs.ArgumentLaws.{listed-argument, listed-arguments}
-use Rattle.summary.proofs.LengthLaws.{list-counted}
+use Rattle.summary.proofs.LengthLaws.{kept, list-counted}
 use Rattle.tables.specs.Tables.{itemsOf, functionOf}
 use Rattle.parameters.proofs.write_extern_args.Statement.{statement}
 use Rattle.parameters.proofs.write_extern_args.Tie as tie
@@ -22,7 +22,7 @@ kept-length-requires : tie.Need-kept-length-requires Inv-loop μ-loop
 kept-length-requires c κs = omega (arith, c .before .before .before .before .before .pre .1 .room)
 
 returns : tie.Need-returns Inv-loop μ-loop
-returns c = list-counted _ _ (c .before .before .before .before .before .before .before .before .before .if1 .taken) (omega arith) (c .before .before .before .put-when .ensures) (rw (← c .before .before .before .before .before .before .before .kept-length .ensures) at (c .before .before .before .before .before .before .before .before .before .before .before .before .before .pre .1 .declared)) (c .before .before .before .before .before .before .if2 .taken) (c .advance .ensures)
+returns c = list-counted _ _ (c .before .before .before .before .before .before .before .before .before .if1 .taken) (omega arith) (c .before .before .before .put-when .ensures) (kept (c .before .before .before .before .before .before .before .kept-length .ensures) (c .before .before .before .before .before .before .before .before .before .before .before .before .before .pre .1 .declared)) (c .before .before .before .before .before .before .if2 .taken) (c .advance .ensures)
 
 loop-holds : tie.Need-loop-holds Inv-loop μ-loop
 loop-holds c = (omega arith, listed-none _ _ _ _)
