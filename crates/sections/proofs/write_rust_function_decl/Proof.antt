@@ -1,4 +1,4 @@
--- Written by tools/proofkit from answers/write_rust_function_decl.tpl (5751ba80 3732963c).
+-- Written by tools/proofkit from answers/write_rust_function_decl.tpl (352e42a6 c1579edc).
 use borrow.Author.Needs.{needs}
 use native.Mathlib.Omega.{arith}
 use Rattle.bridge.specs.Write.{writeRustFunctionDecl}
@@ -21,7 +21,7 @@ prepare-requires : tie.Need-prepare-requires
 prepare-requires c κs = (c .before .before .before .before .before .before .before .before .before .before .before .before .before .before .before .before .before .before .pre .0, stood-listed (stood-asked (stood-turned (stood-set (representing-stood (c .before .before .before .before .before .before .before .before .before .before .before .before .before .before .before .before .before .before .pre .6)) (c .before .before .before .before .set-namespace .ensures)) (c .before .before .begin-extern-c .ensures)) (c .before .next-section .ensures)))
 
 write-function-decl-requires : tie.Need-write-function-decl-requires
-write-function-decl-requires c κs = (c .before .before .before .before .before .before .before .before .before .before .before .before .before .before .before .before .before .before .before .before .before .before .before .pre .0, c .before .before .before .before .before .before .before .before .before .before .before .before .before .before .before .before .before .before .before .before .before .before .before .pre .2, c .before .before .before .before .before .before .before .before .before .before .before .before .before .before .before .before .function .ensures .1, c .before .before .before .before .before .before .before .before .before .before .before .before .before .before .before .before .function .ensures .0, c .before .before .before .before .before .before .before .before .before .before .before .before .before .load-summary .ensures .0 .arguments, omega (arith, c .before .before .before .before .before .before .before .before .before .before .before .before .before .load-summary .ensures .0 .room))
+write-function-decl-requires c κs = (c .before .before .before .before .before .before .before .before .before .before .before .before .before .before .before .before .before .before .before .before .before .before .before .pre .0, c .before .before .before .before .before .before .before .before .before .before .before .before .before .before .before .before .before .before .before .before .before .before .before .pre .2, c .before .before .before .before .before .before .before .before .before .before .before .before .before .before .before .before .function .ensures .1, c .before .before .before .before .before .before .before .before .before .before .before .before .before .before .before .before .function .ensures .0, c .before .before .before .before .before .before .before .before .before .before .before .before .before .load-summary .ensures .0)
 
 end-extern-c-requires : tie.Need-end-extern-c-requires
 end-extern-c-requires c κs = (c .before .before .before .before .before .before .before .before .before .before .before .before .before .before .before .before .before .before .before .before .before .before .before .before .before .before .before .before .pre .0 .tabled, c .before .before .before .before .before .before .before .before .before .before .before .before .before .before .before .before .before .before .before .before .before .before .before .before .before .before .before .before .pre .1, stood-standing (stood-placed (stood-ready (stood-asked (stood-turned (stood-set (representing-stood (c .before .before .before .before .before .before .before .before .before .before .before .before .before .before .before .before .before .before .before .before .before .before .before .before .before .before .before .before .pre .6)) (c .before .before .before .before .before .before .before .before .before .before .before .before .before .before .set-namespace .ensures)) (c .before .before .before .before .before .before .before .before .before .before .before .before .begin-extern-c .ensures)) (c .before .before .before .before .before .before .before .before .before .before .before .next-section .ensures)) (c .before .before .before .before .before .before .before .before .before .prepare .ensures)) (c .before .before .before .before .write-function-decl .ensures) (c .before .placed .ensures)))

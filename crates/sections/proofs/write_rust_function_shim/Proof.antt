@@ -1,4 +1,4 @@
--- Written by tools/proofkit from answers/write_rust_function_shim.tpl (e86c15b6 22b722d2).
+-- Written by tools/proofkit from answers/write_rust_function_shim.tpl (c365da47 edb46954).
 use borrow.Author.Needs.{needs}
 use native.Mathlib.Omega.{arith}
 use mathlib.Core.Path.{sym, _∙_}
@@ -23,7 +23,7 @@ prepare-requires : tie.Need-prepare-requires
 prepare-requires c κs = (c .before .before .before .before .before .before .before .before .before .before .before .before .before .before .before .before .before .before .pre .0, stood-listed (stood-set (stood-asked (representing-stood (c .before .before .before .before .before .before .before .before .before .before .before .before .before .before .before .before .before .before .pre .6)) (c .before .before .before .before .before .next-section .ensures)) (c .before .before .before .set-namespace .ensures)))
 
 write-function-shim-requires : tie.Need-write-function-shim-requires
-write-function-shim-requires c κs = (c .before .before .before .before .before .before .before .before .before .before .before .before .before .before .before .before .before .before .before .before .before .before .before .pre .0, c .before .before .before .before .before .before .before .before .before .before .before .before .before .before .before .before .before .before .before .before .before .before .before .pre .2, c .before .before .before .before .before .before .before .before .before .before .before .before .before .before .before .before .function .ensures .1, c .before .before .before .before .before .before .before .before .before .before .before .before .before .before .before .before .function .ensures .0, c .before .before .before .before .before .before .before .before .before .before .before .before .before .load-summary .ensures .0 .arguments, omega (arith, c .before .before .before .before .before .before .before .before .before .before .before .before .before .load-summary .ensures .0 .room), c .before .before .before .before .before .before .before .before .before .before .before .before .before .load-summary .ensures .1)
+write-function-shim-requires c κs = (c .before .before .before .before .before .before .before .before .before .before .before .before .before .before .before .before .before .before .before .before .before .before .before .pre .0, c .before .before .before .before .before .before .before .before .before .before .before .before .before .before .before .before .before .before .before .before .before .before .before .pre .2, c .before .before .before .before .before .before .before .before .before .before .before .before .before .before .before .before .function .ensures .1, c .before .before .before .before .before .before .before .before .before .before .before .before .before .before .before .before .function .ensures .0, c .before .before .before .before .before .before .before .before .before .before .before .before .before .load-summary .ensures .0, c .before .before .before .before .before .before .before .before .before .before .before .before .before .load-summary .ensures .1)
 
 same-length-2 : tie.Need-same-length-2
 same-length-2 c = omega (arith, c .before .before .before .before .before .before .before .before .before .before .before .before .before .before .before .before .before .load-summary .kept)

@@ -1,4 +1,4 @@
--- Written by tools/proofkit from answers/deliver_listed.tpl (64d1e242 87781ea2).
+-- Written by tools/proofkit from answers/deliver_listed.tpl (85273384 e071935a).
 use borrow.Author.Needs.{needs}
 use mathlib.Core.Path.{refl}
 use Rattle.tables.proofs.TableLaws.{tabled, words-zero}
@@ -16,13 +16,13 @@ fill-full-names-requires : tie.Need-fill-full-names-requires
 fill-full-names-requires c κs = (c .before .before .before .fill-pool .ensures .lent, c .before .before .before .fill-pool .ensures .room)
 
 fill-summaries-requires : tie.Need-fill-summaries-requires
-fill-summaries-requires c κs = (c .before .before .before .fill-full-names .ensures .0 .tabled, refl)
+fill-summaries-requires c κs = (c .before .before .before .before .fill-full-names .ensures .0, refl)
 
 deliver-text-requires : tie.Need-deliver-text-requires
-deliver-text-requires c κs = (c .before .before .before .before .before .before .before .before .before .before .fill-full-names .ensures .0, digested (c .before .before .before .before .before .before .before .before .before .before .before .before .before .before .before .before .before .before .before .before .before .before .before .before .before .before .pre) (filled-lists (c .before .before .before .before .before .before .before .before .before .before .before .before .before .before .before .before .before .before .fill-table .ensures .0) (c .before .before .before .before .before .before .before .before .before .before .before .before .before .before .fill-pool .ensures) (c .before .before .before .before .before .before .before .before .before .before .fill-full-names .ensures)), c .before .before .before .before .before .before .fill-summaries .ensures)
+deliver-text-requires c κs = (c .before .before .before .before .before .before .before .before .before .before .before .fill-full-names .ensures .0, digested (c .before .before .before .before .before .before .before .before .before .before .before .before .before .before .before .before .before .before .before .before .before .before .before .before .before .before .before .pre) (filled-lists (c .before .before .before .before .before .before .before .before .before .before .before .before .before .before .before .before .before .before .before .fill-table .ensures .0) (c .before .before .before .before .before .before .before .before .before .before .before .before .before .before .before .fill-pool .ensures) (c .before .before .before .before .before .before .before .before .before .before .before .fill-full-names .ensures)), c .before .before .before .before .before .before .fill-summaries .ensures)
 
 returns : tie.Need-returns
-returns c = text-of _ _ _ (filled-lists (c .before .before .before .before .before .before .before .before .before .before .before .before .before .before .before .before .before .before .before .before .before .before .before .fill-table .ensures .0) (c .before .before .before .before .before .before .before .before .before .before .before .before .before .before .before .before .before .before .before .fill-pool .ensures) (c .before .before .before .before .before .before .before .before .before .before .before .before .before .before .before .fill-full-names .ensures)) (c .before .before .before .before .deliver-text .ensures)
+returns c = text-of _ _ _ (filled-lists (c .before .before .before .before .before .before .before .before .before .before .before .before .before .before .before .before .before .before .before .before .before .before .before .before .fill-table .ensures .0) (c .before .before .before .before .before .before .before .before .before .before .before .before .before .before .before .before .before .before .before .before .fill-pool .ensures) (c .before .before .before .before .before .before .before .before .before .before .before .before .before .before .before .before .fill-full-names .ensures)) (c .before .before .before .before .deliver-text .ensures)
 
 deliver-text-requires-2 : tie.Need-deliver-text-requires-2
 deliver-text-requires-2 c κs = (c .before .before .before .before .before .before .fill-full-names .ensures .0, digested (c .before .before .before .before .before .before .before .before .before .before .before .before .before .before .before .before .before .before .before .before .before .before .pre) (filled-lists (c .before .before .before .before .before .before .before .before .before .before .before .before .before .before .fill-table .ensures .0) (c .before .before .before .before .before .before .before .before .before .before .fill-pool .ensures) (c .before .before .before .before .before .before .fill-full-names .ensures)), summaries-none)
