@@ -47,20 +47,21 @@ pub fn item(s: &[u8], names: &[u32], items: &[u32], i: u32) -> ItemView
 {
     let k = i as usize;
     let at = items[k];
-    let kind = field(s, Cursor::new(at), 3);
-    let depth = field(s, kind.next, 3);
+    let head = extract(s, at, 6);
+    let depth = head % 8;
     let w = width(names.len() as u32);
-    let spaces = depth.next;
-    let title = spaces.at + depth.value * w;
-    let name = field(s, Cursor::new(title), w);
-    let body = name.next;
-    let of = part_of(kind.value);
+    let from = at + 6;
+    let title = from + depth * w;
+    let name = extract(s, title, w);
+    let spaces = Cursor::new(from);
+    let body = Cursor::new(title + w);
+    let of = part_of(head / 8);
     ItemView {
         number: i,
         kind: of,
-        depth: depth.value,
+        depth,
         spaces,
-        name: name.value,
+        name,
         body,
     }
 }
@@ -73,8 +74,7 @@ pub fn kind_at(s: &[u8], names: &[u32], items: &[u32], i: u32) -> ItemKind
 {
     let k = i as usize;
     let at = items[k];
-    let kind = field(s, Cursor::new(at), 3);
-    part_of(kind.value)
+    part_of(extract(s, at, 3))
 }
 
 // How many namespaces item i lies in.
@@ -85,9 +85,7 @@ pub fn depth_at(s: &[u8], names: &[u32], items: &[u32], i: u32) -> u32
 {
     let k = i as usize;
     let at = items[k];
-    let kind = field(s, Cursor::new(at), 3);
-    let depth = field(s, kind.next, 3);
-    depth.value
+    extract(s, at + 3, 3)
 }
 
 // The index of an item's namespace d, counted from the outermost.
@@ -99,8 +97,7 @@ pub fn namespace(s: &[u8], names: &[u32], items: &[u32], v: ItemView, d: u32) ->
 {
     let w = width(names.len() as u32);
     let at = v.spaces.at + d * w;
-    let name = field(s, Cursor::new(at), w);
-    name.value
+    extract(s, at, w)
 }
 
 pub fn is_function(kind: ItemKind) -> bool
@@ -128,8 +125,8 @@ pub fn pointer_bit(s: &[u8], names: &[u32], items: &[u32], i: u32) -> bool
     if function {
         return false;
     }
-    let b = field(s, v.body, 1);
-    b.value == 1
+    let b = extract(s, v.body.at, 1);
+    b == 1
 }
 
 // ---- functions
