@@ -17,7 +17,7 @@ use Rattle.format.specs.declared.ItemKind.the-variants as Part
 use Rattle.cursor.specs.Checking.{Limited}
 use Rattle.cursor.proofs.BitLaws.{bits-lt}
 use Rattle.cursor.proofs.CodeLaws.{bits-whole}
-use Rattle.cursor.proofs.YieldLaws.{in-turn, passed, got-value, bits-there}
+use Rattle.cursor.proofs.YieldLaws.{in-turn, passed, got-value, got-next, bits-there}
 use Rattle.names.proofs.NameLaws.{indexed}
 use Rattle.view.specs.Values.{namesAt}
 use Rattle.view.specs.Views.{Finds, kindOfBody}
@@ -39,6 +39,10 @@ name-room s names at h z = rw z (bits-there (widthOf (length names)) s at (index
 pub bit-room : (s : List ℕ) (at : ℕ) {b : Bool} {m : ℕ} → bit s at ≡ got b m → at + 1 ≤ 8 * length s
 unfolding bit
 bit-room s at h = in-turn (bits 1 s at) _ h (λ v a e g. bits-there 1 s at e .0)
+
+pub bit-end : (s : List ℕ) (at : ℕ) {b : Bool} {m : ℕ} → bit s at ≡ got b m → m ≡ at + 1
+unfolding bit
+bit-end s at e = in-turn (bits 1 s at) _ e (λ v a f h. sym (got-next h) ∙ bits-there 1 s at f .2)
 
 -- ---- parts
 
