@@ -1,20 +1,50 @@
 -- Laws of items and functions: where the whole is decoded, so are its parts.
-use mathlib.Core.Path.{_≡_, sym, ap}
+use mathlib.Core.Path.{_≡_, refl, sym, ap, _∙_}
 use mathlib.Core.List.{List}
-use mathlib.Core.Bool.{not}
-use Prim.Native.Nat.{ℕ}
+use mathlib.Core.Bool.{Bool, not}
+use Prim.Native.Nat.{ℕ, _+_, _*_, _≤_}
 use native.Mathlib.Omega.{arith}
+use lib.ListN.{length}
 use Rattle.refusal.specs.declared.Refusal.the-variants.{BadKind}
 use Rattle.lexical.specs.Bytes.{within}
 use Rattle.format.specs.Decode.{got, many}
-use Rattle.format.specs.Bits.{bits, bit}
+use Rattle.format.specs.Bits.{bitsAt, bits, bit, widthOf}
 use Rattle.format.specs.Sheet.{Name, Function, Body, function, Item}
 use Rattle.format.specs.Decoding.{nameOf, type, optional, argument, form, line, functionBody, structBody, enumBody}
 use Rattle.format.specs.Decoding.{partOf, isBad, itemBody, namespace, item}
 use Rattle.format.specs.declared.ItemKind.{ItemKind}
 use Rattle.format.specs.declared.ItemKind.the-variants as Part
-use Rattle.view.specs.Views.{kindOfBody}
-use Rattle.cursor.proofs.YieldLaws.{in-turn, passed, got-value}
+use Rattle.cursor.specs.Checking.{Limited}
+use Rattle.cursor.proofs.BitLaws.{bits-lt}
+use Rattle.cursor.proofs.CodeLaws.{bits-whole}
+use Rattle.cursor.proofs.YieldLaws.{in-turn, passed, got-value, got-next, bits-there}
+use Rattle.names.proofs.NameLaws.{indexed}
+use Rattle.view.specs.Values.{namesAt}
+use Rattle.view.specs.Views.{Finds, kindOfBody}
+
+-- ---- fields that are there, read without a test
+
+-- such a field is what a test would have found
+pub finds : (n : ℕ) (s : List ℕ) (at : ℕ) {v : ℕ} → Limited s → at + n ≤ 8 * length s → v ≡ bitsAt s at n →
+    Finds (bits n s at) n (record { value = v; next = record { at = at + n } })
+finds n s at l h e =
+    let b = bits-whole n s at h refl in
+    record { value = rw b e; next = rw b; low = rw e (bits-lt s at n); near = omega arith }
+
+-- all bits of a name's index are there
+pub name-room : (s names : List ℕ) (at : ℕ) {x : Name} {m w : ℕ} → nameOf (namesAt s names) s at ≡ got x m →
+    w ≡ widthOf (length names) → at + w ≤ 8 * length s
+name-room s names at h z = rw z (bits-there (widthOf (length names)) s at (indexed s names at h .1 .field) .0)
+
+pub bit-room : (s : List ℕ) (at : ℕ) {b : Bool} {m : ℕ} → bit s at ≡ got b m → at + 1 ≤ 8 * length s
+unfolding bit
+bit-room s at h = in-turn (bits 1 s at) _ h (λ v a e g. bits-there 1 s at e .0)
+
+pub bit-end : (s : List ℕ) (at : ℕ) {b : Bool} {m : ℕ} → bit s at ≡ got b m → m ≡ at + 1
+unfolding bit
+bit-end s at e = in-turn (bits 1 s at) _ e (λ v a f h. sym (got-next h) ∙ bits-there 1 s at f .2)
+
+-- ---- parts
 
 module _ (ns : List Name) (n : ℕ) (s : List ℕ) where
   pub record ItemParts (at : ℕ) (x : Item) : Type 0 where

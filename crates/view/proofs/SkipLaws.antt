@@ -1,7 +1,6 @@
 -- Laws of the position behind a type that is there.
 use mathlib.Core.Path.{_≡_, refl, sym, ap, _∙_}
 use mathlib.Core.List.{List}
-use mathlib.Core.Bool.{Bool}
 use Prim.Native.Nat.{ℕ, zero, suc, _+_, _*_, _<_, _≤_}
 use native.Mathlib.Omega.{arith}
 use lib.ListN.{length}
@@ -15,6 +14,7 @@ use Rattle.cursor.proofs.WidthLaws.{index-field}
 use Rattle.cursor.proofs.YieldLaws.{in-turn, got-next, bits-there}
 use Rattle.view.specs.Values.{nextOf, Yields}
 use Rattle.view.specs.Views.{prefixOf}
+use Rattle.view.proofs.PartLaws.{bit-end}
 
 -- a number of none of the kinds with a prefix, as a match tells it
 pub prefix-none : (k : ℕ) {u : Type 0} → ((((((((u × (k ≡ 2 → ⊥)) × (k ≡ 3 → ⊥)) × (k ≡ 4 → ⊥)) × (k ≡ 5 → ⊥)) ×
@@ -38,10 +38,6 @@ prefix-none (suc (suc (suc (suc (suc (suc (suc (suc (suc (suc (suc (suc (suc zer
 prefix-none (suc (suc (suc (suc (suc (suc (suc (suc (suc (suc (suc (suc (suc (suc zero)))))))))))))) h = refl
 prefix-none (suc (suc (suc (suc (suc (suc (suc (suc (suc (suc (suc (suc (suc (suc (suc zero))))))))))))))) h = refl
 prefix-none (suc (suc (suc (suc (suc (suc (suc (suc (suc (suc (suc (suc (suc (suc (suc (suc k)))))))))))))))) h = refl
-
-bit-end : (s : List ℕ) (at : ℕ) {b : Bool} {m : ℕ} → bit s at ≡ got b m → m ≡ at + 1
-unfolding bit
-bit-end s at e = in-turn (bits 1 s at) _ e (λ v a f h. sym (got-next h) ∙ bits-there 1 s at f .2)
 
 -- a type stands at a position, and ends where the outermost one at `from` does
 pub record Ending (n : ℕ) (s : List ℕ) (from at : ℕ) : Type 0 where

@@ -32,8 +32,10 @@ use Rattle.view.specs.declared.ItemView.{ItemView}
 use Rattle.view.specs.Values.{nextOf, Yields, namesAt, itemsAt}
 use Rattle.view.specs.Views.{Finds, kindOfBody, ItemAt, isFunctionKind, kindOfType, isNamedKind, isIndirectKind}
 use Rattle.view.specs.Views.{ownerOf}
+use Rattle.cursor.specs.Checking.{Limited}
 use Rattle.cursor.proofs.FieldLaws.{field-lt}
 use Rattle.cursor.proofs.YieldLaws.{in-turn, passed, got-value, bits-there, found-value, found-next, bit-value}
+use Rattle.view.proofs.PartLaws.{finds, bit-room}
 
 module _ (n : ℕ) (s : List ℕ) (at : ℕ) {t : Ty} {k : Found} (y : Yields (type n s at) t) (f : Finds (bits 4 s at) 4 k) where
   pub type-body : typeBody (kindOf (k .value)) n (typeAt n 7) s (k .next .at) ≡ got t (nextOf (type n s at))
@@ -74,15 +76,30 @@ module _ (ns : List Name) (n : ℕ) (s : List ℕ) (at : ℕ) {x : Body} {m : �
   pointer-type Part.RustFunction h z = absurd (let y : _≡_ {A = ℕ} 0 1 = cc in omega arith)
   pointer-type Part.Bad h z = absurd (let y : _≡_ {A = ℕ} 0 1 = cc in omega arith)
 
+-- its bit is there
+pub pointer-room : (ns : List Name) (n : ℕ) (s : List ℕ) (at : ℕ) {x : Body} {m : ℕ} (k : ItemKind) →
+    itemBody k ns n s at ≡ got x m → isFunctionKind k ≡ false → at + 1 ≤ 8 * length s
+unfolding structBody enumBody
+pointer-room ns n s at Part.Struct h z = in-turn (bit s at) _ h (λ p a e g. bit-room s at e)
+pointer-room ns n s at Part.Enum h z = in-turn (bit s at) _ h (λ p a e g. bit-room s at e)
+pointer-room ns n s at Part.CxxType h z = in-turn (bit s at) _ h (λ p a e g. bit-room s at e)
+pointer-room ns n s at Part.RustType h z = in-turn (bit s at) _ h (λ p a e g. bit-room s at e)
+pointer-room ns n s at Part.RustFunction h z = absurd (let y : _≡_ {A = ℕ} 0 1 = cc in omega arith)
+pointer-room ns n s at Part.Bad h z = absurd (let y : _≡_ {A = ℕ} 0 1 = cc in omega arith)
+
 module _ {s names items : List ℕ} {v : ItemView} {i : ℕ} (a : ItemAt s names items v) (e : v .number ≡ i) where
   pub pointer-none : isFunctionKind (v .kind) ≡ true → false ≡ pointerBit (itemAt (itemsAt s names items) i .body)
   pointer-none h = rw (← e) (sym (pointer-function (itemAt (itemsAt s names items) (v .number) .body) (a .view .kind) h))
 
-  pub pointer-at : {r : Found} → isFunctionKind (v .kind) ≡ false → Finds (bits 1 s (v .body .at)) 1 r →
-      eqb (r .value) 1 ≡ pointerBit (itemAt (itemsAt s names items) i .body)
-  pointer-at h f =
-      rw (← e)
-      (sym (pointer-type (namesAt s names) (length items) s (v .body .at) f (v .kind) (a .view .body .is) h))
+  module _ (h : isFunctionKind (v .kind) ≡ false) where
+    pub bit-there : v .body .at + 1 ≤ 8 * length s
+    bit-there = pointer-room (namesAt s names) (length items) s (v .body .at) (v .kind) (a .view .body .is) h
+
+    pub pointer-at : {r : ℕ} → Limited s → r ≡ bitsAt s (v .body .at) 1 →
+        eqb r 1 ≡ pointerBit (itemAt (itemsAt s names items) i .body)
+    pointer-at l f =
+        rw (← e) (sym (pointer-type (namesAt s names) (length items) s (v .body .at)
+        (finds 1 s (v .body .at) l bit-there f) (v .kind) (a .view .body .is) h))
 
 -- ---- atoms, named types and the others
 

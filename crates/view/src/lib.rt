@@ -18,12 +18,13 @@ ghost use lib.ListN.{length, getD};
 ghost use Rattle.format.specs.Limits.{mostNames, mostBits, mostArguments};
 ghost use Rattle.format.specs.Decode.{many};
 ghost use Rattle.format.specs.Bits.{bitsAt};
+ghost use Rattle.format.specs.Sheet.{free};
 ghost use Rattle.format.specs.Decoding.{kindOf, type, argument as argumentOf, form};
 ghost use Rattle.format.specs.declared.ItemKind.the-variants.{RustFunction};
 ghost use Rattle.syntax.specs.Items.{itemAt};
 ghost use Rattle.syntax.specs.Types.{pointerBit, isIndirectTemplate, needsIndirectAbi};
 ghost use Rattle.cursor.specs.Checking.{Limited};
-ghost use Rattle.view.specs.Values.{nextOf, Yields, nameAt, namesAt, itemsAt, typeHere};
+ghost use Rattle.view.specs.Values.{valueOr, nextOf, Yields, nameAt, namesAt, itemsAt, typeHere};
 ghost use Rattle.view.specs.Values.{Named, Whole};
 ghost use Rattle.view.specs.Views.{kindOfBody, ItemAt, Formed, FunctionAt, ArgumentsAt, unpacked};
 ghost use Rattle.view.specs.Views.{returnOf, returnHere, isFunctionKind, kindOfType, isNamedKind};
@@ -47,20 +48,21 @@ pub fn item(s: &[u8], names: &[u32], items: &[u32], i: u32) -> ItemView
 {
     let k = i as usize;
     let at = items[k];
-    let kind = field(s, Cursor::new(at), 3);
-    let depth = field(s, kind.next, 3);
+    let head = extract(s, at, 6);
+    let depth = head % 8;
     let w = width(names.len() as u32);
-    let spaces = depth.next;
-    let title = spaces.at + depth.value * w;
-    let name = field(s, Cursor::new(title), w);
-    let body = name.next;
-    let of = part_of(kind.value);
+    let from = at + 6;
+    let title = from + depth * w;
+    let name = extract(s, title, w);
+    let spaces = Cursor::new(from);
+    let body = Cursor::new(title + w);
+    let of = part_of(head / 8);
     ItemView {
         number: i,
         kind: of,
-        depth: depth.value,
+        depth,
         spaces,
-        name: name.value,
+        name,
         body,
     }
 }
@@ -73,8 +75,7 @@ pub fn kind_at(s: &[u8], names: &[u32], items: &[u32], i: u32) -> ItemKind
 {
     let k = i as usize;
     let at = items[k];
-    let kind = field(s, Cursor::new(at), 3);
-    part_of(kind.value)
+    part_of(extract(s, at, 3))
 }
 
 // How many namespaces item i lies in.
@@ -85,9 +86,7 @@ pub fn depth_at(s: &[u8], names: &[u32], items: &[u32], i: u32) -> u32
 {
     let k = i as usize;
     let at = items[k];
-    let kind = field(s, Cursor::new(at), 3);
-    let depth = field(s, kind.next, 3);
-    depth.value
+    extract(s, at + 3, 3)
 }
 
 // The index of an item's namespace d, counted from the outermost.
@@ -99,8 +98,7 @@ pub fn namespace(s: &[u8], names: &[u32], items: &[u32], v: ItemView, d: u32) ->
 {
     let w = width(names.len() as u32);
     let at = v.spaces.at + d * w;
-    let name = field(s, Cursor::new(at), w);
-    name.value
+    extract(s, at, w)
 }
 
 pub fn is_function(kind: ItemKind) -> bool
@@ -128,8 +126,8 @@ pub fn pointer_bit(s: &[u8], names: &[u32], items: &[u32], i: u32) -> bool
     if function {
         return false;
     }
-    let b = field(s, v.body, 1);
-    b.value == 1
+    let b = extract(s, v.body.at, 1);
+    b == 1
 }
 
 // ---- functions
@@ -141,26 +139,25 @@ pub struct FormView {
     pub next: Cursor,
 }
 
+// The form at c, which is known to be there.
 fn form_at(s: &[u8], c: Cursor, items: u32) -> FormView
-    requires { ⌜ Limited (now s) ⌝ }
+    requires { ⌜ Limited (now s) × Yields (form items (now s) (c .at)) (valueOr free (form items (now s) (c .at))) ⌝ }
     ensures { λ r. ⌜ Formed (form items (now (s .entry)) (c .at)) items r ⌝ }
 {
-    let f = field(s, c, 2);
-    if f.value == 0 {
-        let next = f.next;
+    let form = extract(s, c.at, 2);
+    let at = c.at + 2;
+    if form == 0 {
+        let next = Cursor::new(at);
         return FormView {
             form: 0,
             owner: 0,
             next,
         };
     }
-    let i = field(s, f.next, width(items));
-    let next = i.next;
-    FormView {
-        form: f.value,
-        owner: i.value,
-        next,
-    }
+    let w = width(items);
+    let owner = extract(s, at, w);
+    let next = Cursor::new(at + w);
+    FormView { form, owner, next }
 }
 
 // Past the outermost type at c, in a sheet of so many items.
@@ -257,22 +254,25 @@ pub fn function(s: &[u8], names: &[u32], items: &[u32], v: ItemView) -> Function
         FunctionAt (now (s .entry)) (now (names .entry)) (now (items .entry)) r ⌝ }
 {
     let n = items.len() as u32;
-    let rust = field(s, v.body, width(names.len() as u32));
-    let form = form_at(s, rust.next, n);
-    let throws = field(s, form.next, 1);
-    let returns = field(s, throws.next, 1);
-    let result = returns.next;
-    let count = field(s, past_return(s, result, returns.value == 1, n), 5);
-    let first = count.next;
+    let w = width(names.len() as u32);
+    let rust = extract(s, v.body.at, w);
+    let form = form_at(s, Cursor::new(v.body.at + w), n);
+    let both = extract(s, form.next.at, 2);
+    let throws = both / 2 == 1;
+    let returns = both % 2 == 1;
+    let result = Cursor::new(form.next.at + 2);
+    let end = past_return(s, result, returns, n);
+    let arguments = extract(s, end.at, 5);
+    let first = Cursor::new(end.at + 5);
     FunctionView {
         number: v.number,
-        rust: rust.value,
+        rust,
         form: form.form,
         owner: form.owner,
-        throws: throws.value == 1,
-        returns: returns.value == 1,
+        throws,
+        returns,
         result,
-        arguments: count.value,
+        arguments,
         first,
     }
 }

@@ -1,11 +1,15 @@
--- Written by tools/proofkit from answers/kind_at.tpl (8b7c35fc e79f93dc).
+-- Written by tools/proofkit from answers/kind_at.tpl (55a2b139 eb2fd28f).
 use borrow.Author.Needs.{needs}
-use Rattle.view.proofs.ItemLaws.{kind-there}
+use native.Mathlib.Omega.{arith}
+use Rattle.view.proofs.ItemLaws.{head-room, kind-there}
 use Rattle.view.proofs.kind_at.Statement.{statement}
 use Rattle.view.proofs.kind_at.Tie as tie
 
+extract-requires : tie.Need-extract-requires
+extract-requires c κs = (c .before .before .before .before .pre .0 .named .limited, omega arith, omega (arith, head-room (c .before .before .before .before .pre .0) (c .before .before .before .before .pre .1)))
+
 returns : tie.Need-returns
-returns c = kind-there (c .before .before .before .before .before .before .before .pre .0) (c .before .before .before .before .before .before .before .pre .1) (rw (c .before .before .new .ensures) at (c .before .field .ensures)) (c .part-of .ensures)
+returns c = kind-there (c .before .before .before .before .before .before .pre .0) (c .before .before .before .before .before .before .pre .1) (c .before .extract .ensures) (c .part-of .ensures)
 
 pub kind-at-spec : {M : Type 1} → statement M
 kind-at-spec =
@@ -13,7 +17,6 @@ kind-at-spec =
     (tie.spec
     (λ c. search needs)
     (λ c. search needs)
-    (λ c κs. search needs)
-    (λ c κs. search needs)
+    extract-requires
     (λ c κs. search needs)
     returns)

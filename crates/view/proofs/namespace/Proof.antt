@@ -1,8 +1,8 @@
--- Written by tools/proofkit from answers/namespace.tpl (a9d28a9d 4b930923).
+-- Written by tools/proofkit from answers/namespace.tpl (9d61ad5e 176aea5a).
 use borrow.Author.Needs.{needs}
 use native.Mathlib.Omega.{arith}
 use Rattle.cursor.proofs.WidthLaws.{width-le}
-use Rattle.view.proofs.ItemLaws.{span, space-there}
+use Rattle.view.proofs.ItemLaws.{span, space-room, space-is}
 use Rattle.view.proofs.namespace.Statement.{statement}
 use Rattle.view.proofs.namespace.Tie as tie
 
@@ -12,11 +12,11 @@ mul-at c = omega (arith, span (c .before .before .before .before .args .d) (c .w
 add-at : tie.Need-add-at
 add-at c = omega (arith, span (c .before .before .before .before .before .args .d) (c .before .width .result) (omega (arith, c .before .before .before .before .before .pre .1 .view .shallow)) (width-le _ (c .before .width .ensures)), c .before .before .before .before .before .pre .1 .view .near)
 
-field-requires : tie.Need-field-requires
-field-requires c κs = (search needs, width-le _ (c .before .before .width .ensures))
+extract-requires : tie.Need-extract-requires
+extract-requires c κs = (c .before .before .before .before .before .pre .0 .named .limited, width-le _ (c .before .width .ensures), space-room _ _ (c .before .before .before .before .before .args .v .spaces .at) (c .before .before .before .before .before .args .d) (c .before .before .before .before .before .pre .1 .view .spaces) (c .before .before .before .before .before .pre .2) (c .before .width .ensures))
 
 returns : tie.Need-returns
-returns c = space-there _ _ (c .before .before .before .before .before .before .before .args .v .spaces .at) (c .before .before .before .before .before .before .before .args .d) (c .before .before .before .before .before .before .before .pre .1 .view .spaces) (c .before .before .before .before .before .before .before .pre .2) (c .before .before .before .width .ensures) (rw (c .before .new .ensures) at (c .field .ensures))
+returns c = space-is _ _ (c .before .before .before .before .before .before .args .v .spaces .at) (c .before .before .before .before .before .before .args .d) (c .before .before .before .before .before .before .pre .1 .view .spaces) (c .before .before .before .before .before .before .pre .2) (c .before .before .width .ensures) (c .before .before .before .before .before .before .pre .0 .named .limited) (c .extract .ensures)
 
 pub namespace-spec : {M : Type 1} → statement M
 namespace-spec =
@@ -26,6 +26,5 @@ namespace-spec =
     (λ c κs. search needs)
     mul-at
     add-at
-    (λ c κs. search needs)
-    field-requires
+    extract-requires
     returns)
