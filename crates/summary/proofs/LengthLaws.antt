@@ -1,11 +1,11 @@
 -- Texts that are counted, and the lengths that a summary keeps.
-use mathlib.Core.Path.{_≡_, refl, sym, _∙_}
+use mathlib.Core.Path.{_≡_, refl, sym, ap, _∙_}
 use mathlib.Core.List.{List, [], _++_, map}
 use mathlib.Core.Bool.{Bool, true, false}
-use Prim.Native.Nat.{ℕ, _+_, _-_, _<_, _≤_, min}
+use Prim.Native.Nat.{ℕ, _+_, _-_, _/_, _%_, _<_, _≤_, min}
 use native.Mathlib.Omega.{arith}
-use lib.ListN.{length, set, length-set}
-use lib.Seq.{getD-set-same, getD-set-other}
+use lib.ListN.{length, getD, set, length-set}
+use lib.Seq.{length-slice, getD-set-same, getD-set-other}
 use Rattle.lexical.specs.Bytes.{bytes}
 use Rattle.lexical.specs.Decimal.{pickText}
 use Rattle.format.specs.Types.{Ty}
@@ -16,13 +16,23 @@ use Rattle.sink.specs.Sink.{Sink, sink, limit, Wrote}
 use Rattle.sink.proofs.SinkLaws.{_▷_, wrote-nil, wrote-as, wrote-length, wrote-place}
 use Rattle.sink.proofs.StoreLaws.{wrote-none}
 use Rattle.view.specs.declared.FunctionView.{FunctionView}
-use Rattle.tables.specs.Tables.{itemsOf, functionOf, Arguments}
+use Rattle.view.specs.Values.{nameAt}
+use Rattle.tables.specs.Tables.{namesIn, itemsOf, functionOf, Arguments, Lent}
 use Rattle.shape.specs.Counts.{Counts}
 use Rattle.shape.proofs.CommaLaws.{commas-behind}
 use Rattle.shape.proofs.CountLaws.{wrote-counted}
 use Rattle.summary.specs.declared.count.Places.{Places}
 use Rattle.summary.specs.Summaries.{Summary}
 use Rattle.summary.specs.Places.{Behind, Passed}
+
+-- a name that is in the pool
+pub name-spelled : {s t pool : List ℕ} (i : ℕ) → Lent s t pool → i < length (namesIn t) →
+    (getD t (1280 + i) 0 ≡ 0 → ⊥) →
+    getD t (1280 + i) 0 % 64 ≡ min limit (length (nameAt s (getD (namesIn t) i 0)))
+name-spelled {s} {t} {pool} i p l h =
+    let q = p .names i l h in
+    let a : ℕ = getD t (1280 + i) 0 / 64 in
+    omega (arith, length-slice a (a + getD t (1280 + i) 0 % 64) pool (q .near), ap length (q .is))
 
 -- ---- places in an empty buffer
 

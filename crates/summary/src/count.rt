@@ -1,11 +1,11 @@
 // The lengths of a function's arguments, in its declaration and in the head of its shim. Both are counted by places in
 // an empty buffer, from place 1 on; place 0 stands for a text that is not counted.
 use cursor::Cursor;
+use put_name::put_name;
 use shape::count_type;
 use sink::advance;
 use tables::Pool;
 use tables::Table;
-use tables::put_name_of;
 use types::Levels;
 use view::FunctionView;
 use view::argument;
@@ -53,8 +53,13 @@ fn name_length(s: &[u8], t: &[u32; Table::PLACES], pool: &[u8; Pool::BYTES], i: 
     requires { ⌜ Lent (now s) (now t) (now pool) × (i < length (namesIn (now t))) ⌝ }
     ensures { λ r. ⌜ r ≡ min limit (length (nameAt (now (s .entry)) (getD (namesIn (now (t .entry))) i 0))) ⌝ }
 {
-    let mut none = [0u8; 1];
-    put_name_of(s, t, pool, i, &mut none[..0], 0)
+    let k = i as usize;
+    let e = t[Table::SPELLED + k];
+    if e == 0 {
+        let mut none = [0u8; 1];
+        return put_name(s, t[k], &mut none[..0], 0);
+    }
+    (e % 64) as usize
 }
 
 // The place behind the type at c as a declaration has it; n is its length as it is written.
