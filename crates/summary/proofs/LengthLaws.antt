@@ -1,28 +1,36 @@
 -- Texts that are counted, and the lengths that a summary keeps.
-use mathlib.Core.Path.{_≡_, refl, sym, _∙_}
+use mathlib.Core.Path.{_≡_, refl, sym, ap, _∙_}
 use mathlib.Core.List.{List, [], _++_, map}
-use mathlib.Core.Bool.{Bool, true, false}
-use Prim.Native.Nat.{ℕ, _+_, _-_, _<_, _≤_, min}
+use mathlib.Core.Bool.{Bool, false}
+use Prim.Native.Nat.{ℕ, _+_, _-_, _/_, _%_, _<_, _≤_, min}
 use native.Mathlib.Omega.{arith}
-use lib.ListN.{length, set, length-set}
-use lib.Seq.{getD-set-same, getD-set-other}
+use lib.ListN.{length, getD, set, length-set}
+use lib.Seq.{length-slice, getD-set-same, getD-set-other}
 use Rattle.lexical.specs.Bytes.{bytes}
 use Rattle.lexical.specs.Decimal.{pickText}
-use Rattle.format.specs.Types.{Ty}
-use Rattle.format.specs.Sheet.{Item}
 use Rattle.bridge.specs.WriteType.{writeTypeSpace}
-use Rattle.bridge.specs.Write.{commas, writePointer, externArg}
-use Rattle.sink.specs.Sink.{Sink, sink, limit, Wrote}
-use Rattle.sink.proofs.SinkLaws.{_▷_, wrote-nil, wrote-as, wrote-length, wrote-place}
+use Rattle.bridge.specs.Write.{commas, externArg}
+use Rattle.sink.specs.Sink.{sink, limit, Wrote}
+use Rattle.sink.proofs.SinkLaws.{_▷_, wrote-as, wrote-length, wrote-place}
 use Rattle.sink.proofs.StoreLaws.{wrote-none}
 use Rattle.view.specs.declared.FunctionView.{FunctionView}
-use Rattle.tables.specs.Tables.{itemsOf, functionOf, Arguments}
+use Rattle.view.specs.Values.{nameAt}
+use Rattle.tables.specs.Tables.{namesIn, itemsOf, functionOf, Arguments, Lent}
 use Rattle.shape.specs.Counts.{Counts}
 use Rattle.shape.proofs.CommaLaws.{commas-behind}
 use Rattle.shape.proofs.CountLaws.{wrote-counted}
 use Rattle.summary.specs.declared.count.Places.{Places}
 use Rattle.summary.specs.Summaries.{Summary}
-use Rattle.summary.specs.Places.{Behind, Passed}
+use Rattle.summary.specs.Places.{Passed}
+
+-- a name that is in the pool
+pub name-spelled : {s t pool : List ℕ} (i : ℕ) → Lent s t pool → i < length (namesIn t) →
+    (getD t (1280 + i) 0 ≡ 0 → ⊥) →
+    getD t (1280 + i) 0 % 64 ≡ min limit (length (nameAt s (getD (namesIn t) i 0)))
+name-spelled {s} {t} {pool} i p l h =
+    let q = p .names i l h in
+    let a : ℕ = getD t (1280 + i) 0 / 64 in
+    omega (arith, length-slice a (a + getD t (1280 + i) 0 % 64) pool (q .near), ap length (q .is))
 
 -- ---- places in an empty buffer
 
@@ -53,11 +61,10 @@ later p h g = ahead _ _ (wrote-place p g) h
 pub near : {text : List ℕ} {at r : ℕ} → Wrote (sink [] at) text (sink [] r) → at ≤ limit → r ≤ limit
 near p g = within _ _ (wrote-place p g)
 
-pub behind : {text : List ℕ} {at r : ℕ} → Wrote (sink [] at) text (sink [] r) → Behind at text r
-behind p = record { wrote = λ h. p }
-
-pub behind-none : (text : List ℕ) (at : ℕ) → Behind at text 0
-behind-none text at = record { wrote = λ h. absurd (h refl) }
+-- the places alone
+pub alone : {l m text : List ℕ} {at r : ℕ} → 0 < at → at ≤ limit → Wrote (sink l at) text (sink m r) →
+    Wrote (sink [] at) text (sink [] r)
+alone {text = text} h g p = wrote-none {n = length text} refl (omega arith) g (wrote-place p g)
 
 pub passed-none : (x y : List ℕ) (exts pars n : ℕ) → Passed x y exts pars (record { exts = 0; pars = n })
 passed-none x y exts pars n = record { declaredTo = λ h. absurd (h refl); definedTo = λ h. absurd (h refl) }
@@ -66,10 +73,12 @@ pub passed-both : {x y : List ℕ} {exts pars : ℕ} {r : Places} → Wrote (sin
     Wrote (sink [] pars) y (sink [] (r .pars)) → Passed x y exts pars r
 passed-both p q = record { declaredTo = λ h. p; definedTo = λ h. q }
 
--- a pointer is its inner type and a star
-pub pointer-passed : (items : List Item) (i : Ty) {r t u : Sink} → Wrote r (writeTypeSpace items i) t →
-    Wrote t (bytes "*") u → Wrote r (writePointer items true i) u
-pointer-passed items i p q = p ▷ wrote-nil _ ▷ q
+-- the length of a text from place 1 on
+pub counted : {l m text : List ℕ} {r : ℕ} → Wrote (sink l 1) text (sink m r) → r < limit → Counts text (r - 1)
+counted p h = record { exact = λ z. omega (arith, wrote-place p (omega arith)) }
+
+pub counted-none : (text : List ℕ) → Counts text 0
+counted-none text = record { exact = λ z. absurd (z refl) }
 
 -- the length in a word that was read
 pub kept : {text : List ℕ} {n w : ℕ} → n ≡ w → Counts text w → Counts text n
@@ -86,10 +95,6 @@ list-counted {l} {m} {at} {next} {n} b xs past g p c h e =
     (commas-behind b xs (λ z. let k = c .exact (λ y. omega arith) in omega arith))
 
 -- ---- the words of a summary
-
--- the length of a text from place 1 on
-pub counted : {text : List ℕ} {r : ℕ} → Wrote (sink [] 1) text (sink [] r) → r < limit → Counts text (r - 1)
-counted p h = record { exact = λ z. omega (arith, wrote-place p (omega arith)) }
 
 module _ (s t : List ℕ) {f : FunctionView} where
   -- a word behind the views

@@ -5,10 +5,6 @@ use Prim.Native.Nat.{ℕ}
 use Rattle.sink.specs.Sink.{sink, Wrote}
 use Rattle.summary.specs.declared.count.Places.{Places}
 
--- r is the place behind the text from `at` on, or 0
-pub record Behind (at : ℕ) (text : List ℕ) (r : ℕ) : Type 0 where
-  pub wrote : (r ≡ 0 → ⊥) → Wrote (sink [] at) text (sink [] r)
-
 -- r has the places behind the declaration's text from `exts` on and behind the head's from `pars` on, or 0 in the first
 pub record Passed (declared defined : List ℕ) (exts pars : ℕ) (r : Places) : Type 0 where
   pub declaredTo : (r .exts ≡ 0 → ⊥) → Wrote (sink [] exts) declared (sink [] (r .exts))

@@ -1,11 +1,13 @@
 // The lengths of a function's arguments, in its declaration and in the head of its shim. Both are counted by places in
 // an empty buffer, from place 1 on; place 0 stands for a text that is not counted.
 use cursor::Cursor;
+use put_name::put_name;
 use shape::count_type;
+use shape::write_outermost_space;
+use shape::write_pointer;
 use sink::advance;
 use tables::Pool;
 use tables::Table;
-use tables::put_name_of;
 use types::Levels;
 use view::FunctionView;
 use view::argument;
@@ -18,14 +20,14 @@ ghost use Rattle.lexical.specs.Bytes.{bytes};
 ghost use Rattle.lexical.specs.Decimal.{pickText};
 ghost use Rattle.bridge.specs.WriteType.{writeTypeSpace};
 ghost use Rattle.bridge.specs.Write.{commas, shape as shapeOf, externArgType, externArg};
-ghost use Rattle.sink.specs.Sink.{limit};
+ghost use Rattle.sink.specs.Sink.{sink, limit, Wrote};
 ghost use Rattle.view.specs.Values.{nameAt};
 ghost use Rattle.view.specs.Views.{kindOfType, ownerOf};
 ghost use Rattle.tables.specs.Tables.{namesIn, itemsOf, functionOf, argumentOf, typeOf, Typed};
 ghost use Rattle.tables.specs.Tables.{Function, Arguments, Lent};
 ghost use Rattle.shape.specs.Counts.{Counts};
 ghost use Rattle.summary.specs.Summaries.{Summary};
-ghost use Rattle.summary.specs.Places.{Behind, Passed};
+ghost use Rattle.summary.specs.Places.{Passed};
 
 // ---- parts of an argument
 
@@ -53,8 +55,31 @@ fn name_length(s: &[u8], t: &[u32; Table::PLACES], pool: &[u8; Pool::BYTES], i: 
     requires { ⌜ Lent (now s) (now t) (now pool) × (i < length (namesIn (now t))) ⌝ }
     ensures { λ r. ⌜ r ≡ min limit (length (nameAt (now (s .entry)) (getD (namesIn (now (t .entry))) i 0))) ⌝ }
 {
+    let k = i as usize;
+    let e = t[Table::SPELLED + k];
+    if e == 0 {
+        let mut none = [0u8; 1];
+        return put_name(s, t[k], &mut none[..0], 0);
+    }
+    (e % 64) as usize
+}
+
+// The length of the type at c, with the space behind it; 0 only where it is too long for a word.
+fn type_length(s: &[u8], t: &[u32; Table::PLACES], pool: &[u8; Pool::BYTES], c: Cursor) -> usize
+    requires { ⌜ Lent (now s) (now t) (now pool) × Typed (now s) (now t) (c .at) ⌝ }
+    ensures { λ r. ⌜ Counts (writeTypeSpace (itemsOf (now (s .entry)) (now (t .entry)))
+        (typeOf (now (s .entry)) (now (t .entry)) (c .at))) r ⌝ }
+{
+    let n = count_type(s, t, pool, c, Levels::MOST, true);
+    if 0 < n {
+        return n;
+    }
     let mut none = [0u8; 1];
-    put_name_of(s, t, pool, i, &mut none[..0], 0)
+    let end = write_outermost_space(s, t, pool, c, &mut none[..0], 1);
+    if end < 0xffff_ffff {
+        return end - 1;
+    }
+    0
 }
 
 // The place behind the type at c as a declaration has it; n is its length as it is written.
@@ -70,20 +95,15 @@ fn declared_type(
     requires { ⌜ Lent (now s) (now t) (now pool) × Typed (now s) (now t) (c .at) ×
         (owner ≡ ownerOf (kindOfType (typeOf (now s) (now t) (c .at)))) ×
         Counts (writeTypeSpace (itemsOf (now s) (now t)) (typeOf (now s) (now t) (c .at))) n × (0 < n) × (0 < at) ⌝ }
-    ensures { λ r. ⌜ Behind at (externArgType (itemsOf (now (s .entry)) (now (t .entry)))
+    ensures { λ r. ⌜ Wrote (sink [] at) (externArgType (itemsOf (now (s .entry)) (now (t .entry)))
         (typeOf (now (s .entry)) (now (t .entry)) (c .at))
-        (shapeOf (typeOf (now (s .entry)) (now (t .entry)) (c .at)))) r ⌝ }
+        (shapeOf (typeOf (now (s .entry)) (now (t .entry)) (c .at)))) (sink [] r) ⌝ }
 {
     if owner == 0 {
         return advance(at, n);
     }
-    let inner = Cursor::new(c.at + 4);
-    let m = count_type(s, t, pool, inner, Levels::MOST - 1, true);
-    if m == 0 {
-        return 0;
-    }
-    let behind = advance(at, m);
-    advance(behind, 1)
+    let mut none = [0u8; 1];
+    write_pointer(s, t, pool, Cursor::new(c.at + 4), true, &mut none[..0], at)
 }
 
 // ---- arguments
@@ -114,14 +134,11 @@ fn count_argument(
         argumentOf (now (s .entry)) (now (t .entry)) (f .number) j .name) exts pars r ⌝ }
 {
     let a = argument(words, j);
-    let n = count_type(s, t, pool, a.of, Levels::MOST, true);
+    let n = type_length(s, t, pool, a.of);
     if n == 0 {
         return Places { exts: 0, pars: 0 };
     }
     let typed = declared_type(s, t, pool, a.of, a.owner, n, exts);
-    if typed == 0 {
-        return Places { exts: 0, pars: 0 };
-    }
     let star = star_length(a.indirect);
     let marked = advance(typed, star);
     let spaced = advance(pars, n);
