@@ -28,7 +28,8 @@ pub record Summaries (s t kept : List ℕ) : Type 0 where
   pub each : (f : FunctionView) → Function s t f → (getD kept (f .number) 0 ≡ 0 → ⊥) →
       Summary s t f (drop (getD kept (f .number) 0) kept)
 
--- the summaries of the functions among the first i items that had room, one behind the other, from place 255 on up to `end`
+-- the summaries of the functions among the first i items that had room, one behind the other, from place 255 on up to
+-- `end`
 pub record Keeping (s t : List ℕ) (i end : ℕ) (kept : List ℕ) : Type 0 where
   pub first : 255 ≤ end
   pub near : end ≤ length kept

@@ -96,7 +96,8 @@ fn keep_item(
     end: usize,
     kept: &mut [u32],
 ) -> usize
-    requires { ⌜ Lent (now s) (now t) (now pool) × (i < length (itemsIn (now t))) × Keeping (now s) (now t) i end (now kept) ⌝ }
+    requires { ⌜ Lent (now s) (now t) (now pool) × (i < length (itemsIn (now t))) ×
+        Keeping (now s) (now t) i end (now kept) ⌝ }
     ensures { λ r. ⌜ Keeping (now (s .entry)) (now (t .entry)) (i + 1) r (now (kept .exit)) ⌝ }
 {
     if kept.len() - end < Words::MOST {

@@ -122,7 +122,8 @@ fn declare_all(
     out: &mut [u8],
 ) -> Content
     requires { ⌜ Lent (now s) (now t) (now pool) × (now digests ≡ digestsAt (now s) (namesIn (now t))) ×
-        Summaries (now s) (now t) (now kept) × (34 ≤ length (now offsets)) × Representing (now s) (namesIn (now t)) (now out) c ⌝ }
+        Summaries (now s) (now t) (now kept) × (34 ≤ length (now offsets)) ×
+        Representing (now s) (namesIn (now t)) (now out) c ⌝ }
     ensures { λ r. ⌜ Runs (now (s .entry)) (namesIn (now (t .entry))) (now (out .entry)) (now (out .exit))
         (forEach (declareItem (itemsOf (now (s .entry)) (now (t .entry))))
         (itemsOf (now (s .entry)) (now (t .entry)))) c r ⌝ }
@@ -149,7 +150,8 @@ fn define_all(
     out: &mut [u8],
 ) -> Content
     requires { ⌜ Lent (now s) (now t) (now pool) × (now digests ≡ digestsAt (now s) (namesIn (now t))) ×
-        Summaries (now s) (now t) (now kept) × (34 ≤ length (now offsets)) × Representing (now s) (namesIn (now t)) (now out) c ⌝ }
+        Summaries (now s) (now t) (now kept) × (34 ≤ length (now offsets)) ×
+        Representing (now s) (namesIn (now t)) (now out) c ⌝ }
     ensures { λ r. ⌜ Runs (now (s .entry)) (namesIn (now (t .entry))) (now (out .entry)) (now (out .exit))
         (forEach (defineItem (sheetOf header doxygen
         (itemsOf (now (s .entry)) (now (t .entry)))))
@@ -190,7 +192,8 @@ fn write_functions(
     out: &mut [u8],
 ) -> Content
     requires { ⌜ Lent (now s) (now t) (now pool) × (now digests ≡ digestsAt (now s) (namesIn (now t))) ×
-        Summaries (now s) (now t) (now kept) × (34 ≤ length (now offsets)) × Representing (now s) (namesIn (now t)) (now out) c ⌝ }
+        Summaries (now s) (now t) (now kept) × (34 ≤ length (now offsets)) ×
+        Representing (now s) (namesIn (now t)) (now out) c ⌝ }
     ensures { λ r. ⌜ Runs (now (s .entry)) (namesIn (now (t .entry))) (now (out .entry)) (now (out .exit))
         (writeFunctions (sheetOf header doxygen (itemsOf (now (s .entry)) (now (t .entry)))))
         c r ⌝ }
