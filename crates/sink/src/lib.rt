@@ -87,8 +87,8 @@ fn copy_eight(text: &[u8], i: usize, buf: &mut [u8])
     buf[i + 7] = h;
 }
 
-// A text of fewer than eight bytes into a buffer of its length.
-fn copy_few(text: &[u8], buf: &mut [u8])
+// A text into a buffer of its length, byte by byte.
+fn copy_plain(text: &[u8], buf: &mut [u8])
     requires { ⌜ length (now buf) ≡ length (now text) ⌝ }
     ensures { λ _. ⌜ now (buf .exit) ≡ now (text .entry) ⌝ }
 {
@@ -100,14 +100,21 @@ fn copy_few(text: &[u8], buf: &mut [u8])
     }
 }
 
-// A text into a buffer of its length: eight bytes by eight, and the last eight once more.
+// From so many bytes on the compiler copies more than eight at a time.
+const LONG: usize = 64;
+
+// A text into a buffer of its length: eight bytes by eight, and the last eight once more, unless it is very short or long.
 fn copy(text: &[u8], buf: &mut [u8])
     requires { ⌜ length (now buf) ≡ length (now text) ⌝ }
     ensures { λ _. ⌜ now (buf .exit) ≡ now (text .entry) ⌝ }
 {
     let n = text.len();
     if n < 8 {
-        copy_few(text, buf);
+        copy_plain(text, buf);
+        return;
+    }
+    if LONG <= n {
+        copy_plain(text, buf);
         return;
     }
     let last = n - 8;

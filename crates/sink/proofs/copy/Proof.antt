@@ -1,4 +1,4 @@
--- Written by tools/proofkit from answers/copy.tpl (e1431869 8955d25c).
+-- Written by tools/proofkit from answers/copy.tpl (34739558 6b0b3b6c).
 use borrow.Author.Needs.{needs}
 use native.Mathlib.Omega.{arith}
 use Prim.Native.Nat.{_+_, _≤_, _-_}
@@ -14,7 +14,7 @@ abbrev μ-loop : tie.MeasureT-loop
 μ-loop text buf₀ n last i₀ buf i = last + 8 - i
 
 loop-holds : tie.Need-loop-holds Inv-loop μ-loop
-loop-holds c = (omega arith, copied-none (c .before .before .before .pre))
+loop-holds c = (omega arith, copied-none (c .before .before .before .before .pre))
 
 copy-eight-requires : tie.Need-copy-eight-requires Inv-loop μ-loop
 copy-eight-requires c κs = (omega arith, c .before .before .loop .inv .1)
@@ -25,11 +25,11 @@ loop-again c = (omega arith, c .before .before .copy-eight .ensures)
 copy-eight-requires-2 : tie.Need-copy-eight-requires-2 Inv-loop μ-loop
 copy-eight-requires-2 c κs = (omega arith, copied-less _ (c .before .before .loop .inv .1) (omega arith))
 
-same-length-2 : tie.Need-same-length-2 Inv-loop μ-loop
-same-length-2 c = omega (arith, c .before .before .copy-eight2 .ensures .long)
+same-length-3 : tie.Need-same-length-3 Inv-loop μ-loop
+same-length-3 c = omega (arith, c .before .before .copy-eight2 .ensures .long)
 
-returns-2 : tie.Need-returns-2 Inv-loop μ-loop
-returns-2 c = copied-all (c .before .before .copy-eight2 .ensures) (omega arith)
+returns-3 : tie.Need-returns-3 Inv-loop μ-loop
+returns-3 c = copied-all (c .before .before .copy-eight2 .ensures) (omega arith)
 
 pub copy-spec : {M : Type 1} → statement M
 copy-spec =
@@ -40,11 +40,14 @@ copy-spec =
     (λ c κs. search needs)
     (λ c. search needs)
     (λ c. search needs)
+    (λ c κs. search needs)
+    (λ c. search needs)
+    (λ c. search needs)
     loop-holds
     copy-eight-requires
     (λ c. search needs)
     (λ c. search needs)
     loop-again
     copy-eight-requires-2
-    same-length-2
-    returns-2)
+    same-length-3
+    returns-3)

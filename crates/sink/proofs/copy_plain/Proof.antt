@@ -1,12 +1,12 @@
--- Written by tools/proofkit from answers/copy_few.tpl (f788f22c 7d839d38).
+-- Written by tools/proofkit from answers/copy_plain.tpl (f788f22c fbec64d8).
 use borrow.Author.Needs.{needs}
 use native.Mathlib.Omega.{arith}
 use mathlib.Core.Path.{refl}
 use Prim.Native.Nat.{_≤_, _-_}
 use Rattle.sink.specs.Copying.{Copied}
 use Rattle.sink.proofs.CopyLaws.{copied-none, copied-next, copied-all}
-use Rattle.sink.proofs.copy_few.Statement.{statement}
-use Rattle.sink.proofs.copy_few.Tie as tie
+use Rattle.sink.proofs.copy_plain.Statement.{statement}
+use Rattle.sink.proofs.copy_plain.Tie as tie
 
 abbrev Inv-loop : tie.InvT-loop
 Inv-loop text buf₀ n i₀ buf i = (i ≤ n) × Copied text i buf
@@ -29,8 +29,8 @@ same-length c = omega (arith, c .before .loop .inv .1 .long)
 returns : tie.Need-returns Inv-loop μ-loop
 returns c = copied-all (c .before .loop .inv .1) (omega arith)
 
-pub copy-few-spec : {M : Type 1} → statement M
-copy-few-spec =
+pub copy-plain-spec : {M : Type 1} → statement M
+copy-plain-spec =
     tie.close
     (tie.spec
     Inv-loop
