@@ -2,34 +2,27 @@
 use shape::is_method;
 use shape::needs_comma;
 use shape::write_outermost;
+use sink::advance;
 use sink::put_bytes;
 use sink::put_when;
+use summary::is_held;
+use summary::kept_length;
 use tables::Pool;
 use tables::Table;
 use tables::put_name_of;
-use view::ArgumentView;
 use view::FunctionView;
 use view::argument;
 ghost use mathlib.Core.Path.{_≡_};
 ghost use mathlib.Core.List.{map};
-ghost use mathlib.Core.Bool.{false, not, _&&_};
+ghost use mathlib.Core.Bool.{false};
 ghost use Prim.Native.Nat.{_≤_, _<_};
 ghost use lib.ListN.{length};
 ghost use Rattle.rules.specs.Rules.{gather};
 ghost use Rattle.bridge.specs.Write.{commas, indirectReturn, heldLocal, operand, operands};
 ghost use Rattle.sink.specs.Sink.{sink, Wrote};
 ghost use Rattle.tables.specs.Tables.{itemsOf, functionOf, argumentOf, Function, Arguments, Lent};
-ghost use Rattle.operands.specs.Ends.{ownerEnd};
-
-// Whether an argument is held in a local.
-fn is_held(a: ArgumentView) -> bool
-    ensures { λ r. ⌜ r ≡ (not (a .string) && a .indirect) ⌝ }
-{
-    if a.string {
-        return false;
-    }
-    a.indirect
-}
+ghost use Rattle.summary.specs.Ends.{ownerEnd};
+ghost use Rattle.summary.specs.Summaries.{Summary};
 
 // ---- locals
 
@@ -65,7 +58,8 @@ fn write_held_local(
     at
 }
 
-// The locals that hold arguments.
+// The locals that hold arguments. Where the buffer ends before the place, they are counted if the summary has their
+// length.
 pub fn write_held_locals(
     s: &[u8],
     t: &[u32; Table::PLACES],
@@ -75,13 +69,18 @@ pub fn write_held_locals(
     out: &mut [u8],
     at: usize,
 ) -> usize
-    requires { ⌜ Lent (now s) (now t) (now pool) × Arguments (now s) (now t) f (now offsets) ×
-        (f .arguments ≤ length (now offsets)) ⌝ }
+    requires { ⌜ Lent (now s) (now t) (now pool) × Summary (now s) (now t) f (now offsets) ⌝ }
     ensures { λ r. ⌜ Wrote (sink (now (out .entry)) at)
         (gather (heldLocal (itemsOf (now (s .entry)) (now (t .entry))))
         (functionOf (now (s .entry)) (now (t .entry)) (f .number) .arguments))
         (sink (now (out .exit)) r) ⌝ }
 {
+    if out.len() < at {
+        let n = kept_length(offsets, f.arguments as usize + 2);
+        if 0 < n {
+            return advance(at, n);
+        }
+    }
     let mut here = at;
     let mut j: u32 = 0;
     while j < f.arguments {
@@ -129,7 +128,7 @@ fn write_operand(
     put_operand_end(a.owner, held, out, c)
 }
 
-// The arguments as operands, behind others or not.
+// The arguments as operands, behind others or not; counted as the locals are.
 fn write_arguments(
     s: &[u8],
     t: &[u32; Table::PLACES],
@@ -140,13 +139,19 @@ fn write_arguments(
     out: &mut [u8],
     at: usize,
 ) -> usize
-    requires { ⌜ Lent (now s) (now t) (now pool) × Arguments (now s) (now t) f (now offsets) ×
-        (f .arguments ≤ length (now offsets)) ⌝ }
+    requires { ⌜ Lent (now s) (now t) (now pool) × Summary (now s) (now t) f (now offsets) ⌝ }
     ensures { λ r. ⌜ Wrote (sink (now (out .entry)) at)
         (commas others (map (operand (itemsOf (now (s .entry)) (now (t .entry))))
         (functionOf (now (s .entry)) (now (t .entry)) (f .number) .arguments)))
         (sink (now (out .exit)) r) ⌝ }
 {
+    if out.len() < at {
+        let n = kept_length(offsets, f.arguments as usize + 3);
+        if 0 < n {
+            let next = put_when(out, at, others, b", ");
+            return advance(next, n);
+        }
+    }
     let mut here = at;
     let mut comma = others;
     let mut j: u32 = 0;
@@ -171,7 +176,7 @@ pub fn write_operands(
     at: usize,
 ) -> usize
     requires { ⌜ Lent (now s) (now t) (now pool) × Function (now s) (now t) f ×
-        Arguments (now s) (now t) f (now offsets) × (f .arguments ≤ length (now offsets)) ×
+        Summary (now s) (now t) f (now offsets) ×
         (indirect ≡ indirectReturn (itemsOf (now s) (now t))
         (functionOf (now s) (now t) (f .number))
         (functionOf (now s) (now t) (f .number) .return)) ⌝ }

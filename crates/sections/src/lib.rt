@@ -45,7 +45,7 @@ pub fn write_rust_function_decl(
 ) -> Content
     requires { ⌜ Lent (now s) (now t) (now pool) × (now digests ≡ digestsAt (now s) (namesIn (now t))) ×
         Item (now s) (now t) v × (v .kind ≡ RustFunction) × Summaries (now s) (now t) (now kept) ×
-        (34 ≤ length (now offsets)) × Representing (now s) (namesIn (now t)) (now out) c ⌝ }
+        (36 ≤ length (now offsets)) × Representing (now s) (namesIn (now t)) (now out) c ⌝ }
     ensures { λ r. ⌜ Runs (now (s .entry)) (namesIn (now (t .entry))) (now (out .entry)) (now (out .exit))
         (writeRustFunctionDecl (itemsOf (now (s .entry)) (now (t .entry)))
         (itemAt (itemsOf (now (s .entry)) (now (t .entry))) (v .number))
@@ -157,7 +157,7 @@ pub fn write_rust_function_shim(
 ) -> Content
     requires { ⌜ Lent (now s) (now t) (now pool) × (now digests ≡ digestsAt (now s) (namesIn (now t))) ×
         Item (now s) (now t) v × (v .kind ≡ RustFunction) × Summaries (now s) (now t) (now kept) ×
-        (34 ≤ length (now offsets)) × Representing (now s) (namesIn (now t)) (now out) c ⌝ }
+        (36 ≤ length (now offsets)) × Representing (now s) (namesIn (now t)) (now out) c ⌝ }
     ensures { λ r. ⌜ Runs (now (s .entry)) (namesIn (now (t .entry))) (now (out .entry)) (now (out .exit))
         (shimSection
         (sheetOf header doxygen (itemsOf (now (s .entry)) (now (t .entry))))

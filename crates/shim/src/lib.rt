@@ -19,8 +19,6 @@ use view::ItemView;
 ghost use mathlib.Core.Path.{_≡_};
 ghost use mathlib.Core.List.{[]};
 ghost use mathlib.Core.Bool.{not, _&&_};
-ghost use Prim.Native.Nat.{_≤_};
-ghost use lib.ListN.{length};
 ghost use Rattle.lexical.specs.Decimal.{pickText};
 ghost use Rattle.syntax.specs.Items.{itemAt};
 ghost use Rattle.bridge.specs.Write.{isFree, shimBody, writeDoc, functionShim};
@@ -28,7 +26,7 @@ ghost use Rattle.sink.specs.Sink.{sink, Wrote};
 ghost use Rattle.view.specs.Values.{Yields};
 ghost use Rattle.view.specs.Views.{commentLines};
 ghost use Rattle.summary.specs.Summaries.{Summary};
-ghost use Rattle.tables.specs.Tables.{itemsOf, functionOf, Item, Function, Arguments, Lent};
+ghost use Rattle.tables.specs.Tables.{itemsOf, functionOf, Item, Function, Lent};
 
 // ---- the body
 
@@ -55,7 +53,7 @@ fn write_shim_body(
 ) -> usize
     requires { ⌜ Lent (now s) (now t) (now pool) × Item (now s) (now t) v ×
         Function (now s) (now t) f × (f .number ≡ v .number) ×
-        Arguments (now s) (now t) f (now offsets) × (f .arguments ≤ length (now offsets)) ⌝ }
+        Summary (now s) (now t) f (now offsets) ⌝ }
     ensures { λ r. ⌜ Wrote (sink (now (out .entry)) at)
         (shimBody (itemsOf (now (s .entry)) (now (t .entry)))
         (itemAt (itemsOf (now (s .entry)) (now (t .entry))) (v .number))

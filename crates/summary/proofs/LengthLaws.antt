@@ -1,27 +1,24 @@
 -- Texts that are counted, and the lengths that a summary keeps.
 use mathlib.Core.Path.{_≡_, refl, sym, ap, _∙_}
-use mathlib.Core.List.{List, [], _++_, map}
+use mathlib.Core.List.{List, []}
 use mathlib.Core.Bool.{Bool, false}
 use Prim.Native.Nat.{ℕ, _+_, _-_, _/_, _%_, _<_, _≤_, min}
 use native.Mathlib.Omega.{arith}
-use lib.ListN.{length, getD, set, length-set}
-use lib.Seq.{length-slice, getD-set-same, getD-set-other}
+use lib.ListN.{length, getD}
+use lib.Seq.{length-slice}
 use Rattle.lexical.specs.Bytes.{bytes}
 use Rattle.lexical.specs.Decimal.{pickText}
-use Rattle.bridge.specs.WriteType.{writeTypeSpace}
-use Rattle.bridge.specs.Write.{commas, externArg}
+use Rattle.bridge.specs.Write.{commas}
 use Rattle.sink.specs.Sink.{sink, limit, Wrote}
 use Rattle.sink.proofs.SinkLaws.{_▷_, wrote-as, wrote-length, wrote-place}
 use Rattle.sink.proofs.StoreLaws.{wrote-none}
-use Rattle.view.specs.declared.FunctionView.{FunctionView}
 use Rattle.view.specs.Values.{nameAt}
-use Rattle.tables.specs.Tables.{namesIn, itemsOf, functionOf, Arguments, Lent}
+use Rattle.tables.specs.Tables.{namesIn, Lent}
 use Rattle.shape.specs.Counts.{Counts}
 use Rattle.shape.proofs.CommaLaws.{commas-behind}
 use Rattle.shape.proofs.CountLaws.{wrote-counted}
 use Rattle.summary.specs.declared.count.Places.{Places}
-use Rattle.summary.specs.Summaries.{Summary}
-use Rattle.summary.specs.Places.{Passed}
+use Rattle.summary.specs.Places.{Word, Passed, Placed}
 
 -- a name that is in the pool
 pub name-spelled : {s t pool : List ℕ} (i : ℕ) → Lent s t pool → i < length (namesIn t) →
@@ -66,19 +63,61 @@ pub alone : {l m text : List ℕ} {at r : ℕ} → 0 < at → at ≤ limit → W
     Wrote (sink [] at) text (sink [] r)
 alone {text = text} h g p = wrote-none {n = length text} refl (omega arith) g (wrote-place p g)
 
-pub passed-none : (x y : List ℕ) (exts pars n : ℕ) → Passed x y exts pars (record { exts = 0; pars = n })
-passed-none x y exts pars n = record { declaredTo = λ h. absurd (h refl); definedTo = λ h. absurd (h refl) }
+-- ---- the places of four texts
 
-pub passed-both : {x y : List ℕ} {exts pars : ℕ} {r : Places} → Wrote (sink [] exts) x (sink [] (r .exts)) →
-    Wrote (sink [] pars) y (sink [] (r .pars)) → Passed x y exts pars r
-passed-both p q = record { declaredTo = λ h. p; definedTo = λ h. q }
+pub placed : {a b c d : List ℕ} {p : Places} → Wrote (sink [] 1) a (sink [] (p .exts)) →
+    Wrote (sink [] 1) b (sink [] (p .pars)) → Wrote (sink [] 1) c (sink [] (p .locals)) →
+    Wrote (sink [] 1) d (sink [] (p .operands)) → Placed p
+placed x y u v = record {
+  exts = (later x (omega arith) (omega arith), near x (omega arith));
+  pars = (later y (omega arith) (omega arith), near y (omega arith));
+  locals = (later u (omega arith) (omega arith), near u (omega arith));
+  operands = (later v (omega arith) (omega arith), near v (omega arith));
+}
+
+pub placed-behind : {p q : Places} (gap : ℕ) → Placed p →
+    (q .exts ≡ min limit (p .exts + gap)) × (q .pars ≡ min limit (p .pars + gap)) × (q .locals ≡ p .locals) ×
+    (q .operands ≡ min limit (p .operands + gap)) → Placed q
+placed-behind gap h e = record {
+  exts = (ahead _ gap (e .0) (h .exts .0), within _ gap (e .0));
+  pars = (ahead _ gap (e .1) (h .pars .0), within _ gap (e .1));
+  locals = rw (e .2) (h .locals);
+  operands = (ahead _ gap (e .3) (h .operands .0), within _ gap (e .3));
+}
+
+pub passed-none : {x y u v : List ℕ} {p r : Places} → r .exts ≡ 0 → Passed x y u v p r
+passed-none e = record {
+  declaredTo = λ h. absurd (h e);
+  definedTo = λ h. absurd (h e);
+  heldTo = λ h. absurd (h e);
+  operandsTo = λ h. absurd (h e);
+}
+
+pub passed-all : {x y u v : List ℕ} {p r : Places} → Wrote (sink [] (p .exts)) x (sink [] (r .exts)) →
+    Wrote (sink [] (p .pars)) y (sink [] (r .pars)) → Wrote (sink [] (p .locals)) u (sink [] (r .locals)) →
+    Wrote (sink [] (p .operands)) v (sink [] (r .operands)) → Passed x y u v p r
+passed-all a b c d = record {
+  declaredTo = λ h. a;
+  definedTo = λ h. b;
+  heldTo = λ h. c;
+  operandsTo = λ h. d;
+}
+
+-- ---- lengths
 
 -- the length of a text from place 1 on
 pub counted : {l m text : List ℕ} {r : ℕ} → Wrote (sink l 1) text (sink m r) → r < limit → Counts text (r - 1)
 counted p h = record { exact = λ z. omega (arith, wrote-place p (omega arith)) }
 
-pub counted-none : (text : List ℕ) → Counts text 0
-counted-none text = record { exact = λ z. absurd (z refl) }
+-- the same as a word
+pub counted-word : {text : List ℕ} {place r : ℕ} → Wrote (sink [] 1) text (sink [] place) → Word place r → Counts text r
+counted-word p w = record { exact = λ z. omega (arith, wrote-place p (omega arith), w .exact z) }
+
+pub word-none : (place : ℕ) → Word place 0
+word-none place = record { exact = λ z. absurd (z refl) }
+
+pub word-some : {place : ℕ} → 0 < place → place < limit → Word place (place - 1)
+word-some h g = record { exact = λ z. (omega arith, g) }
 
 -- the length in a word that was read
 pub kept : {text : List ℕ} {n w : ℕ} → n ≡ w → Counts text w → Counts text n
@@ -93,38 +132,3 @@ list-counted {l} {m} {at} {next} {n} b xs past g p c h e =
     let same : length m ≡ length l = wrote-length p in
     wrote-as (p ▷ wrote-counted (omega arith) c h (omega arith) e)
     (commas-behind b xs (λ z. let k = c .exact (λ y. omega arith) in omega arith))
-
--- ---- the words of a summary
-
-module _ (s t : List ℕ) {f : FunctionView} where
-  -- a word behind the views
-  pub arguments-set : {words : List ℕ} → Arguments s t f words → (i w : ℕ) → f .arguments ≤ i →
-      Arguments s t f (set words i w)
-  arguments-set {words} a i w h =
-      record { count = a .count; each = λ j l. rw (getD-set-other words i j w 0 (λ e. omega arith)) (a .each j l) }
-
-  -- both lengths
-  module _ {words : List ℕ} (m : Summary s t f words) {d e : ℕ}
-      (x : Counts (commas false (map (externArg (itemsOf s t)) (functionOf s t (f .number) .arguments))) d)
-      (y : Counts (commas false (map (λ a. writeTypeSpace (itemsOf s t) (a .type) ++ a .name)
-      (functionOf s t (f .number) .arguments))) e) where
-    pub summary-stored : {n : ℕ} → n ≡ f .arguments → Summary s t f (set (set words n d) (n + 1) e)
-    summary-stored {n} q =
-        let one : length (set words n d) ≡ length words = length-set words n d in
-        let two : length (set (set words n d) (n + 1) e) ≡ length words = length-set (set words n d) (n + 1) e ∙ one in
-        let size = m .room in
-        record {
-          room = omega arith;
-          arguments = arguments-set (arguments-set (m .arguments) n d (omega arith)) (n + 1) e (omega arith);
-          declared = rw (
-            ← q,
-            getD-set-other (set words n d) (n + 1) n e 0 (λ z. omega arith),
-            getD-set-same words n d 0 (omega arith),
-          ) x;
-          defined = rw (← q, getD-set-same (set words n d) (n + 1) e 0 (omega arith)) y;
-          comment = rw (
-            ← q,
-            getD-set-other (set words n d) (n + 1) (n + 2) e 0 (λ z. omega arith),
-            getD-set-other words n (n + 2) d 0 (λ z. omega arith),
-          ) (rw q (m .comment));
-        }

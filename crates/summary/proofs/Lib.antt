@@ -1,2 +1,3 @@
 pub mod SummaryLaws
 pub mod LengthLaws
+pub mod HeldLaws

@@ -1,7 +1,8 @@
 -- Summaries of functions: what their words say does not depend on other words.
 use mathlib.Core.Path.{_≡_, refl, sym, _∙_, ap}
 use mathlib.Core.Logic.{by-cases}
-use mathlib.Core.List.{List, _++_}
+use mathlib.Core.List.{List, _++_, map}
+use mathlib.Core.Bool.{false}
 use Prim.Native.Nat.{ℕ, _+_, _-_, _<_, _≤_}
 use native.Mathlib.Omega.{arith}
 use native.Mathlib.Decide.{ℕ-discrete}
@@ -9,18 +10,21 @@ use lib.ListN.{length, getD, take, drop, set, replicate, length-set, length-take
 use lib.ListN.{List·getD-append, getD-replicate}
 use lib.Seq.{getD-take, getD-drop, getD-set-same, getD-set-other, getD-append-add, length-take-le}
 use borrow.Rule.Slice.PartMut.{putMid, postOf, same-len-mid}
+use Rattle.rules.specs.Rules.{gather}
+use Rattle.bridge.specs.WriteType.{writeTypeSpace}
+use Rattle.bridge.specs.Write.{commas, externArg, heldLocal, operand}
 use Rattle.cursor.specs.declared.Cursor.{Cursor}
 use Rattle.cursor.proofs.CheckLaws.{many-length}
 use Rattle.view.specs.declared.FunctionView.{FunctionView}
 use Rattle.view.specs.Values.{Yields}
 use Rattle.view.specs.Views.{commentLines}
-use Rattle.tables.specs.Tables.{itemsIn, functionOf, Function, Arguments, behindArguments}
+use Rattle.tables.specs.Tables.{itemsIn, itemsOf, functionOf, Function, Arguments, behindArguments}
 use Rattle.shape.specs.Counts.{Counts}
 use Rattle.summary.specs.Summaries.{Summary, Summaries, Keeping}
 
 -- words that are the same in front are a summary as well
-pub summary-agrees : {s t a b : List ℕ} {f : FunctionView} → Summary s t f a → f .arguments + 3 ≤ length b →
-    ((j : ℕ) → j < f .arguments + 3 → getD b j 0 ≡ getD a j 0) → Summary s t f b
+pub summary-agrees : {s t a b : List ℕ} {f : FunctionView} → Summary s t f a → f .arguments + 5 ≤ length b →
+    ((j : ℕ) → j < f .arguments + 5 → getD b j 0 ≡ getD a j 0) → Summary s t f b
 summary-agrees {f = f} x h e = record {
   room = h;
   arguments = record {
@@ -29,37 +33,118 @@ summary-agrees {f = f} x h e = record {
   };
   declared = rw (e (f .arguments) (omega arith)) (x .declared);
   defined = rw (e (f .arguments + 1) (omega arith)) (x .defined);
-  comment = rw (e (f .arguments + 2) (omega arith)) (x .comment);
+  held = rw (e (f .arguments + 2) (omega arith)) (x .held);
+  operands = rw (e (f .arguments + 3) (omega arith)) (x .operands);
+  comment = rw (e (f .arguments + 4) (omega arith)) (x .comment);
 }
 
--- views of the arguments, with the three words behind them
+-- ---- four words, one behind the other
+
+module _ (words : List ℕ) (n a b c d : ℕ) where
+  abbrev one : List ℕ
+  one = set words n a
+
+  abbrev two : List ℕ
+  two = set one (n + 1) b
+
+  abbrev three : List ℕ
+  three = set two (n + 2) c
+
+  abbrev pub four : List ℕ
+  four = set three (n + 3) d
+
+  long-one : length one ≡ length words
+  long-one = length-set words n a
+
+  long-two : length two ≡ length words
+  long-two = length-set one (n + 1) b ∙ long-one
+
+  long-three : length three ≡ length words
+  long-three = length-set two (n + 2) c ∙ long-two
+
+  pub four-long : length four ≡ length words
+  four-long = length-set three (n + 3) d ∙ long-three
+
+  pub four-other : (j : ℕ) → (n ≤ j → n + 4 ≤ j) → getD four j 0 ≡ getD words j 0
+  four-other j h =
+      getD-set-other three (n + 3) j d 0 (λ q. omega (arith, q, h (omega (arith, q)))) ∙
+      getD-set-other two (n + 2) j c 0 (λ q. omega (arith, q, h (omega (arith, q)))) ∙
+      getD-set-other one (n + 1) j b 0 (λ q. omega (arith, q, h (omega (arith, q)))) ∙
+      getD-set-other words n j a 0 (λ q. omega (arith, q, h (omega (arith, q))))
+
+  module _ (h : n + 4 ≤ length words) where
+    pub four-first : getD four n 0 ≡ a
+    four-first =
+        getD-set-other three (n + 3) n d 0 (λ q. omega (arith, q)) ∙
+        getD-set-other two (n + 2) n c 0 (λ q. omega (arith, q)) ∙
+        getD-set-other one (n + 1) n b 0 (λ q. omega (arith, q)) ∙ getD-set-same words n a 0 (omega (arith, h))
+
+    pub four-second : getD four (n + 1) 0 ≡ b
+    four-second =
+        getD-set-other three (n + 3) (n + 1) d 0 (λ q. omega (arith, q)) ∙
+        getD-set-other two (n + 2) (n + 1) c 0 (λ q. omega (arith, q)) ∙
+        getD-set-same one (n + 1) b 0 (omega (arith, h, long-one))
+
+    pub four-third : getD four (n + 2) 0 ≡ c
+    four-third =
+        getD-set-other three (n + 3) (n + 2) d 0 (λ q. omega (arith, q)) ∙
+        getD-set-same two (n + 2) c 0 (omega (arith, h, long-two))
+
+    pub four-last : getD four (n + 3) 0 ≡ d
+    four-last = getD-set-same three (n + 3) d 0 (omega (arith, h, long-three))
+
+-- four lengths in a summary
+pub summary-stored : {s t words : List ℕ} {f : FunctionView} {d e h o : ℕ} → Summary s t f words →
+    Counts (commas false (map (externArg (itemsOf s t)) (functionOf s t (f .number) .arguments))) d →
+    Counts (commas false (map (λ a. writeTypeSpace (itemsOf s t) (a .type) ++ a .name)
+    (functionOf s t (f .number) .arguments))) e →
+    Counts (gather (heldLocal (itemsOf s t)) (functionOf s t (f .number) .arguments)) h →
+    Counts (commas false (map (operand (itemsOf s t)) (functionOf s t (f .number) .arguments))) o →
+    Summary s t f (four words (f .arguments) d e h o)
+summary-stored {words = words} {f} {d} {e} {h} {o} m x y u v =
+    let n = f .arguments in
+    let room : n + 4 ≤ length words = omega (arith, m .room) in
+    record {
+      room = rw (four-long words n d e h o) (m .room);
+      arguments = record {
+        count = m .arguments .count;
+        each = λ j l. rw (four-other words n d e h o j (λ q. absurd (omega (arith, l, q)))) (m .arguments .each j l);
+      };
+      declared = rw (four-first words n d e h o room) x;
+      defined = rw (four-second words n d e h o room) y;
+      held = rw (four-third words n d e h o room) u;
+      operands = rw (four-last words n d e h o room) v;
+      comment = rw (four-other words n d e h o (n + 4) (λ q. omega arith)) (m .comment);
+    }
+
+pub counted-none : (text : List ℕ) → Counts text 0
+counted-none text = record { exact = λ z. absurd (z refl) }
+
+-- views of the arguments, with the five words behind them
 pub summary-filled : {s : List ℕ} (t : List ℕ) {a : List ℕ} {f : FunctionView} (c : ℕ) → Arguments s t f a →
-    f .arguments + 3 ≤ length a → Yields (commentLines s c) (functionOf s t (f .number) .comment) →
-    Summary s t f (set (set (set a (f .arguments) 0) (f .arguments + 1) 0) (f .arguments + 2) c)
+    f .arguments + 5 ≤ length a → Yields (commentLines s c) (functionOf s t (f .number) .comment) →
+    Summary s t f (set (four a (f .arguments) 0 0 0 0) (f .arguments + 4) c)
 summary-filled t {a} {f} c x h e =
     let n = f .arguments in
-    let one = set a n 0 in
-    let two = set one (n + 1) 0 in
-    let keep : (j : ℕ) → j < n → getD (set two (n + 2) c) j 0 ≡ getD a j 0 =
-    λ j k. getD-set-other two (n + 2) j c 0 (λ q. absurd (omega (arith, k, q))) ∙
-    getD-set-other one (n + 1) j 0 0 (λ q. absurd (omega (arith, k, q))) ∙
-    getD-set-other a n j 0 0 (λ q. absurd (omega (arith, k, q))) in
-    let first : getD (set two (n + 2) c) n 0 ≡ 0 =
-    getD-set-other two (n + 2) n c 0 (λ q. absurd (omega (arith, q))) ∙
-    getD-set-other one (n + 1) n 0 0 (λ q. absurd (omega (arith, q))) ∙
-    getD-set-same a n 0 0 (omega (arith, h)) in
-    let second : getD (set two (n + 2) c) (n + 1) 0 ≡ 0 =
-    getD-set-other two (n + 2) (n + 1) c 0 (λ q. absurd (omega (arith, q))) ∙
-    getD-set-same one (n + 1) 0 0 (simp length-set (omega (arith, h))) in
+    let l = four a n 0 0 0 0 in
+    let long : length l ≡ length a = four-long a n 0 0 0 0 in
+    let room : n + 4 ≤ length a = omega (arith, h) in
+    let before : (j : ℕ) → j < n + 4 → getD (set l (n + 4) c) j 0 ≡ getD l j 0 =
+    λ j k. getD-set-other l (n + 4) j c 0 (λ q. omega (arith, k, q)) in
     record {
-      room = simp length-set (omega (arith, h));
+      room = omega (arith, length-set l (n + 4) c, long, h);
       arguments = record {
         count = x .count;
-        each = λ j k. rw (keep j k) (x .each j k);
+        each = λ j k. rw (
+          before j (omega (arith, k)),
+          four-other a n 0 0 0 0 j (λ q. absurd (omega (arith, k, q))),
+        ) (x .each j k);
       };
-      declared = rw first record { exact = λ z. absurd (z refl) };
-      defined = rw second record { exact = λ z. absurd (z refl) };
-      comment = rw (getD-set-same two (n + 2) c 0 (simp length-set (omega (arith, h)))) e;
+      declared = rw (before n (omega arith), four-first a n 0 0 0 0 room) (counted-none _);
+      defined = rw (before (n + 1) (omega arith), four-second a n 0 0 0 0 room) (counted-none _);
+      held = rw (before (n + 2) (omega arith), four-third a n 0 0 0 0 room) (counted-none _);
+      operands = rw (before (n + 3) (omega arith), four-last a n 0 0 0 0 room) (counted-none _);
+      comment = rw (getD-set-same l (n + 4) c 0 (omega (arith, long, h))) e;
     }
 
 -- the comment stands behind the arguments
@@ -84,6 +169,8 @@ summary-view x y e w = record {
   };
   declared = rw (e, as-many _ x y e) (w .declared);
   defined = rw (e, as-many _ x y e) (w .defined);
+  held = rw (e, as-many _ x y e) (w .held);
+  operands = rw (e, as-many _ x y e) (w .operands);
   comment = rw (e, as-many _ x y e) (w .comment);
 }
 
@@ -101,7 +188,7 @@ module _ {s t kept : List ℕ} {i end : ℕ} (k : Keeping s t i end kept) where
     later = λ j l m. k .later j (omega (arith, l)) m;
   }
 
-  module _ {f : FunctionView} (x : Function s t f) (n : f .number ≡ i) (small : i < 255) (room : end + 34 ≤ length kept)
+  module _ {f : FunctionView} (x : Function s t f) (n : f .number ≡ i) (small : i < 255) (room : end + 36 ≤ length kept)
       {words : List ℕ} (w : Summary s t f words)
       (long : length words ≡ length (take (length kept - end) (drop end kept))) where
     abbrev both : List ℕ
@@ -145,7 +232,7 @@ module _ {s t kept : List ℕ} {i end : ℕ} (k : Keeping s t i end kept) where
         inside j (omega (arith, back, few, room, l)))
 
     old : (g : FunctionView) → Function s t g → g .number < i → (getD kept (g .number) 0 ≡ 0 → ⊥) →
-        (255 ≤ getD kept (g .number) 0) × (getD kept (g .number) 0 + (g .arguments + 3) ≤ end + (f .arguments + 3)) ×
+        (255 ≤ getD kept (g .number) 0) × (getD kept (g .number) 0 + (g .arguments + 5) ≤ end + (f .arguments + 5)) ×
         Summary s t g (drop (getD kept (g .number) 0) after)
     old g y l z =
         let p = k .each g y l z in
@@ -162,7 +249,7 @@ module _ {s t kept : List ℕ} {i end : ℕ} (k : Keeping s t i end kept) where
 
     same : (g : FunctionView) → Function s t g → g .number ≡ i →
         (255 ≤ getD after (g .number) 0) ×
-        (getD after (g .number) 0 + (g .arguments + 3) ≤ end + (f .arguments + 3)) ×
+        (getD after (g .number) 0 + (g .arguments + 5) ≤ end + (f .arguments + 5)) ×
         Summary s t g (drop (getD after (g .number) 0) after)
     same g y e =
         let q : g .number ≡ f .number = e ∙ sym n in
@@ -171,14 +258,14 @@ module _ {s t kept : List ℕ} {i end : ℕ} (k : Keeping s t i end kept) where
 
     other-one : (g : FunctionView) → Function s t g → g .number < i → (getD after (g .number) 0 ≡ 0 → ⊥) →
         (255 ≤ getD after (g .number) 0) ×
-        (getD after (g .number) 0 + (g .arguments + 3) ≤ end + (f .arguments + 3)) ×
+        (getD after (g .number) 0 + (g .arguments + 5) ≤ end + (f .arguments + 5)) ×
         Summary s t g (drop (getD after (g .number) 0) after)
     other-one g y l z =
         let p : getD after (g .number) 0 ≡ getD kept (g .number) 0 =
         other (g .number) (λ q. omega (arith, q, l)) ∙ before (g .number) (omega (arith, k .first, small, l)) in
         rw p (old g y l (rw p at z))
 
-    pub keeping-turn : Keeping s t (i + 1) (end + (f .arguments + 3)) after
+    pub keeping-turn : Keeping s t (i + 1) (end + (f .arguments + 5)) after
     keeping-turn = record {
       first = omega (arith, k .first);
       near = omega (arith, after-long, few, room);
@@ -188,15 +275,15 @@ module _ {s t kept : List ℕ} {i end : ℕ} (k : Keeping s t i end kept) where
           k .later j (omega (arith, l)) m;
     }
 
-pub keeping-begins : {s t kept : List ℕ} → kept ≡ replicate 3328 0 → Keeping s t 0 255 kept
+pub keeping-begins : {s t kept : List ℕ} → kept ≡ replicate 3840 0 → Keeping s t 0 255 kept
 keeping-begins {kept = kept} e =
-    let long : length kept ≡ 3328 = ap length e ∙ length-replicate {A = ℕ} 3328 0 in
+    let long : length kept ≡ 3840 = ap length e ∙ length-replicate {A = ℕ} 3840 0 in
     record {
       first = omega arith;
       near = omega (arith, long);
       small = omega (arith, long);
       each = λ f x m z. absurd (omega (arith, m));
-      later = λ j m n. rw e (getD-replicate 3328 j 0 0 (omega (arith, n)));
+      later = λ j m n. rw e (getD-replicate 3840 j 0 0 (omega (arith, n)));
     }
 
 pub keeping-ends : {s t kept : List ℕ} {i end : ℕ} → Keeping s t i end kept → length (itemsIn t) ≤ i → Summaries s t kept
@@ -205,12 +292,12 @@ keeping-ends k h = record { each = λ f x z. k .each f x (omega (arith, h, x .th
 -- ---- one of them
 
 module _ {s t kept : List ℕ} (words : List ℕ) {f : FunctionView} (x : Function s t f) (k : Summaries s t kept) {from : ℕ}
-    (is : from ≡ getD kept (f .number) 0) (z : from ≡ 0 → ⊥) (h : 34 ≤ length words) where
+    (is : from ≡ getD kept (f .number) 0) (z : from ≡ 0 → ⊥) (h : 36 ≤ length words) where
   own-kept : Summary s t f (drop from kept)
   own-kept = rw is (k .each f x (rw is at z))
 
   abbrev m : ℕ
-  m = f .arguments + 3
+  m = f .arguments + 5
 
   abbrev part : List ℕ
   part = take (from + m - from) (drop from kept)
@@ -244,5 +331,5 @@ module _ {s t kept : List ℕ} (words : List ℕ) {f : FunctionView} (x : Functi
     pub comment-loaded : {c : Cursor} → c ≡ record { at = getD (a ++ drop m words) (m - 1) 0 } →
         Yields (commentLines s (c .at)) (functionOf s t (f .number) .comment)
     comment-loaded d =
-        let q : m - 1 ≡ f .arguments + 2 = omega arith in
+        let q : m - 1 ≡ f .arguments + 4 = omega arith in
         rw (d, q) (summary-loaded .comment)

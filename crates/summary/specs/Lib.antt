@@ -1,2 +1,3 @@
 pub mod Summaries
 pub mod Places
+pub mod Ends

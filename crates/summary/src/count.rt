@@ -1,5 +1,5 @@
-// The lengths of a function's arguments, in its declaration and in the head of its shim. Both are counted by places in
-// an empty buffer, from place 1 on; place 0 stands for a text that is not counted.
+// The lengths of a function's arguments in its declaration, in the head of its shim, as locals and as operands. All are
+// counted by places in an empty buffer, from place 1 on; place 0 stands for texts that are not counted.
 use cursor::Cursor;
 use put_name::put_name;
 use shape::count_type;
@@ -9,17 +9,20 @@ use sink::advance;
 use tables::Pool;
 use tables::Table;
 use types::Levels;
+use view::ArgumentView;
 use view::FunctionView;
 use view::argument;
 ghost use mathlib.Core.Path.{_≡_};
 ghost use mathlib.Core.List.{[], _++_, map};
-ghost use mathlib.Core.Bool.{false};
+ghost use mathlib.Core.Bool.{false, not, _&&_};
 ghost use Prim.Native.Nat.{_+_, _<_, _≤_, min};
 ghost use lib.ListN.{length, getD};
 ghost use Rattle.lexical.specs.Bytes.{bytes};
 ghost use Rattle.lexical.specs.Decimal.{pickText};
+ghost use Rattle.format.specs.Decode.{pick};
+ghost use Rattle.rules.specs.Rules.{gather};
 ghost use Rattle.bridge.specs.WriteType.{writeTypeSpace};
-ghost use Rattle.bridge.specs.Write.{commas, shape as shapeOf, externArgType, externArg};
+ghost use Rattle.bridge.specs.Write.{commas, shape as shapeOf, externArgType, externArg, heldLocal, operand};
 ghost use Rattle.sink.specs.Sink.{sink, limit, Wrote};
 ghost use Rattle.view.specs.Values.{nameAt};
 ghost use Rattle.view.specs.Views.{kindOfType, ownerOf};
@@ -27,7 +30,8 @@ ghost use Rattle.tables.specs.Tables.{namesIn, itemsOf, functionOf, argumentOf,
 ghost use Rattle.tables.specs.Tables.{Function, Arguments, Lent};
 ghost use Rattle.shape.specs.Counts.{Counts};
 ghost use Rattle.summary.specs.Summaries.{Summary};
-ghost use Rattle.summary.specs.Places.{Passed};
+ghost use Rattle.summary.specs.Places.{Word, Passed, Placed};
+ghost use Rattle.summary.specs.Ends.{ownerEnd};
 
 // ---- parts of an argument
 
@@ -41,9 +45,10 @@ fn comma_length(comma: bool) -> usize
     0
 }
 
-// The star of an argument that is passed by its address.
+// The star of an argument that is passed by its address, and the sign before its operand.
 fn star_length(indirect: bool) -> usize
-    ensures { λ r. ⌜ r ≡ length (pickText indirect (bytes "*") []) ⌝ }
+    ensures { λ r. ⌜ (r ≡ length (pickText indirect (bytes "*") [])) ×
+        (r ≡ length (pickText indirect (bytes "&") [])) ⌝ }
 {
     if indirect {
         return 1;
@@ -106,12 +111,70 @@ fn declared_type(
     write_pointer(s, t, pool, Cursor::new(c.at + 4), true, &mut none[..0], at)
 }
 
+// Whether an argument is held in a local.
+pub fn is_held(a: ArgumentView) -> bool
+    ensures { λ r. ⌜ r ≡ (not (a .string) && a .indirect) ⌝ }
+{
+    if a.string {
+        return false;
+    }
+    a.indirect
+}
+
+// The place behind the local of an argument, where it has one; n and name are the lengths of its type and of its name.
+fn behind_local(held: bool, n: usize, name: usize, at: usize) -> usize
+    ensures { λ r. ⌜ r ≡ pick held (min limit (at + 42 + n + name + name)) at ⌝ }
+{
+    if held {
+        let fixed = advance(at, 42);
+        let typed = advance(fixed, n);
+        let named = advance(typed, name);
+        return advance(named, name);
+    }
+    at
+}
+
+fn value_length(held: bool) -> usize
+    ensures { λ r. ⌜ r ≡ length (pickText held (bytes "$.value") []) ⌝ }
+{
+    if held {
+        return 7;
+    }
+    0
+}
+
+// What stands behind an operand's name.
+fn end_length(owner: u32, held: bool) -> usize
+    ensures { λ r. ⌜ r ≡ length (ownerEnd owner held) ⌝ }
+{
+    match owner {
+        1 => 11,
+        2 => 10,
+        _ => value_length(held),
+    }
+}
+
 // ---- arguments
 
-// The places in both texts.
+// The places in all texts.
 struct Places {
     exts: usize,
     pars: usize,
+    locals: usize,
+    operands: usize,
+}
+
+// Behind a gap, which locals do not have.
+fn behind_gap(p: Places, gap: usize) -> Places
+    ensures { λ r. ⌜ (r .exts ≡ min limit (p .exts + gap)) × (r .pars ≡ min limit (p .pars + gap)) ×
+        (r .locals ≡ p .locals) × (r .operands ≡ min limit (p .operands + gap)) ⌝ }
+{
+    Places {
+        exts: advance(p.exts, gap),
+        pars: advance(p.pars, gap),
+        locals: p.locals,
+        operands: advance(p.operands, gap),
+    }
 }
 
 // Behind argument j, of which the texts begin at these places.
@@ -122,30 +185,44 @@ fn count_argument(
     f: FunctionView,
     words: &[u32],
     j: u32,
-    exts: usize,
-    pars: usize,
+    p: Places,
 ) -> Places
     requires { ⌜ Lent (now s) (now t) (now pool) × Arguments (now s) (now t) f (now words) ×
-        (j < f .arguments) × (f .arguments ≤ length (now words)) × (0 < exts) × (0 < pars) ⌝ }
+        (j < f .arguments) × (f .arguments ≤ length (now words)) × Placed p ⌝ }
     ensures { λ r. ⌜ Passed (externArg (itemsOf (now (s .entry)) (now (t .entry)))
         (argumentOf (now (s .entry)) (now (t .entry)) (f .number) j))
         (writeTypeSpace (itemsOf (now (s .entry)) (now (t .entry)))
         (argumentOf (now (s .entry)) (now (t .entry)) (f .number) j .type) ++
-        argumentOf (now (s .entry)) (now (t .entry)) (f .number) j .name) exts pars r ⌝ }
+        argumentOf (now (s .entry)) (now (t .entry)) (f .number) j .name)
+        (heldLocal (itemsOf (now (s .entry)) (now (t .entry)))
+        (argumentOf (now (s .entry)) (now (t .entry)) (f .number) j))
+        (operand (itemsOf (now (s .entry)) (now (t .entry)))
+        (argumentOf (now (s .entry)) (now (t .entry)) (f .number) j)) p r ⌝ }
 {
     let a = argument(words, j);
     let n = type_length(s, t, pool, a.of);
     if n == 0 {
-        return Places { exts: 0, pars: 0 };
+        return Places {
+            exts: 0,
+            pars: 0,
+            locals: 0,
+            operands: 0,
+        };
     }
-    let typed = declared_type(s, t, pool, a.of, a.owner, n, exts);
-    let star = star_length(a.indirect);
-    let marked = advance(typed, star);
-    let spaced = advance(pars, n);
     let name = name_length(s, t, pool, a.name);
+    let held = is_held(a);
+    let star = star_length(a.indirect);
+    let end = end_length(a.owner, held);
+    let typed = declared_type(s, t, pool, a.of, a.owner, n, p.exts);
+    let marked = advance(typed, star);
+    let spaced = advance(p.pars, n);
+    let begun = advance(p.operands, star);
+    let named = advance(begun, name);
     Places {
         exts: advance(marked, name),
         pars: advance(spaced, name),
+        locals: behind_local(held, n, name, p.locals),
+        operands: advance(named, end),
     }
 }
 
@@ -162,27 +239,32 @@ fn count_arguments(
     ensures { λ r. ⌜ Passed (commas false (map (externArg (itemsOf (now (s .entry)) (now (t .entry))))
         (functionOf (now (s .entry)) (now (t .entry)) (f .number) .arguments)))
         (commas false (map (λ a. writeTypeSpace (itemsOf (now (s .entry)) (now (t .entry)))
-        (a .type) ++ a .name) (functionOf (now (s .entry)) (now (t .entry))
-        (f .number) .arguments))) 1 1 r ⌝ }
+        (a .type) ++ a .name) (functionOf (now (s .entry)) (now (t .entry)) (f .number) .arguments)))
+        (gather (heldLocal (itemsOf (now (s .entry)) (now (t .entry))))
+        (functionOf (now (s .entry)) (now (t .entry)) (f .number) .arguments))
+        (commas false (map (operand (itemsOf (now (s .entry)) (now (t .entry))))
+        (functionOf (now (s .entry)) (now (t .entry)) (f .number) .arguments)))
+        (record { exts = 1; pars = 1; locals = 1; operands = 1 }) r ⌝ }
 {
-    let mut exts: usize = 1;
-    let mut pars: usize = 1;
+    let mut p = Places {
+        exts: 1,
+        pars: 1,
+        locals: 1,
+        operands: 1,
+    };
     let mut comma = false;
     let mut j: u32 = 0;
     while j < f.arguments {
         let gap = comma_length(comma);
-        let x = advance(exts, gap);
-        let y = advance(pars, gap);
-        let r = count_argument(s, t, pool, f, words, j, x, y);
-        if r.exts == 0 {
-            return Places { exts: 0, pars: 0 };
+        let q = behind_gap(p, gap);
+        p = count_argument(s, t, pool, f, words, j, q);
+        if p.exts == 0 {
+            return p;
         }
-        exts = r.exts;
-        pars = r.pars;
         comma = true;
         j = j + 1;
     }
-    Places { exts, pars }
+    p
 }
 
 // ---- summaries
@@ -201,7 +283,18 @@ pub fn kept_length(words: &[u32], i: usize) -> usize
     widened(words[i])
 }
 
-// Stores both lengths in the summary, where they were counted.
+// The length of a text from place 1 on up to a place, as a word; 0 where it is too long.
+fn length_word(place: usize) -> u32
+    requires { ⌜ 0 < place ⌝ }
+    ensures { λ r. ⌜ Word place r ⌝ }
+{
+    if 0xffff_ffff < place {
+        return 0;
+    }
+    (place - 1) as u32
+}
+
+// Stores the lengths in the summary, where they were counted.
 pub fn count_summary(
     s: &[u8],
     t: &[u32; Table::PLACES],
@@ -217,13 +310,9 @@ pub fn count_summary(
     if p.exts == 0 {
         return;
     }
-    if 0xffff_ffff < p.exts {
-        return;
-    }
-    if 0xffff_ffff < p.pars {
-        return;
-    }
     let n = f.arguments as usize;
-    words[n] = (p.exts - 1) as u32;
-    words[n + 1] = (p.pars - 1) as u32;
+    words[n] = length_word(p.exts);
+    words[n + 1] = length_word(p.pars);
+    words[n + 2] = length_word(p.locals);
+    words[n + 3] = length_word(p.operands);
 }

@@ -2,6 +2,7 @@
 mod count;
 
 pub use count::count_summary;
+pub use count::is_held;
 pub use count::kept_length;
 use cursor::Cursor;
 use format::ItemKind;
@@ -23,21 +24,21 @@ ghost use Rattle.view.specs.Views.{commentLines};
 ghost use Rattle.tables.specs.Tables.{itemsIn, functionOf, Tabled, Item, Function, Lent};
 ghost use Rattle.summary.specs.Summaries.{Summary, Summaries, Keeping};
 
-// The summary of one function: a word for each argument and three more.
+// The summary of one function: a word for each argument and five more.
 pub struct Words {
     pub place: usize,
 }
 
 impl Words {
     // The most words of a summary.
-    pub const MOST: usize = FunctionView::ARGUMENTS + 3;
+    pub const MOST: usize = FunctionView::ARGUMENTS + 5;
     // The words that are kept: where the summary of each item begins, or 0, and the summaries.
-    pub const KEPT: usize = 3328;
+    pub const KEPT: usize = 3840;
 }
 
 // The summary of a function, whose texts are not counted; the answer is the position of its comment.
 pub fn fill_summary(s: &[u8], t: &[u32], f: FunctionView, words: &mut [u32]) -> Cursor
-    requires { ⌜ Tabled (now s) (now t) × Function (now s) (now t) f × (34 ≤ length (now words)) ⌝ }
+    requires { ⌜ Tabled (now s) (now t) × Function (now s) (now t) f × (36 ≤ length (now words)) ⌝ }
     ensures { λ r. ⌜ Summary (now (s .entry)) (now (t .entry)) f (now (words .exit)) ×
         Yields (commentLines (now (s .entry)) (r .at))
         (functionOf (now (s .entry)) (now (t .entry)) (f .number) .comment) ⌝ }
@@ -46,7 +47,9 @@ pub fn fill_summary(s: &[u8], t: &[u32], f: FunctionView, words: &mut [u32]) -> 
     let n = f.arguments as usize;
     words[n] = 0;
     words[n + 1] = 0;
-    words[n + 2] = comment.at;
+    words[n + 2] = 0;
+    words[n + 3] = 0;
+    words[n + 4] = comment.at;
     comment
 }
 
@@ -58,7 +61,7 @@ fn make_summary(
     f: FunctionView,
     words: &mut [u32],
 )
-    requires { ⌜ Lent (now s) (now t) (now pool) × Function (now s) (now t) f × (34 ≤ length (now words)) ⌝ }
+    requires { ⌜ Lent (now s) (now t) (now pool) × Function (now s) (now t) f × (36 ≤ length (now words)) ⌝ }
     ensures { λ _. ⌜ Summary (now (s .entry)) (now (t .entry)) f (now (words .exit)) ⌝ }
 {
     fill_summary(s, t, f, words);
@@ -77,14 +80,14 @@ fn keep(
     kept: &mut [u32],
 ) -> usize
     requires { ⌜ Lent (now s) (now t) (now pool) × Item (now s) (now t) v × (v .kind ≡ RustFunction) ×
-        Keeping (now s) (now t) (v .number) end (now kept) × (end + 34 ≤ length (now kept)) ⌝ }
+        Keeping (now s) (now t) (v .number) end (now kept) × (end + 36 ≤ length (now kept)) ⌝ }
     ensures { λ r. ⌜ Keeping (now (s .entry)) (now (t .entry)) (v .number + 1) r (now (kept .exit)) ⌝ }
 {
     let f = function(s, t, v);
     make_summary(s, t, pool, f, &mut kept[end..]);
     let i = v.number as usize;
     kept[i] = end as u32;
-    end + (f.arguments as usize + 3)
+    end + (f.arguments as usize + 5)
 }
 
 // The same of item i, where it is a function and its summary has room.
@@ -122,7 +125,7 @@ pub fn fill_summaries(
     pool: &[u8; Pool::BYTES],
     kept: &mut [u32],
 )
-    requires { ⌜ Lent (now s) (now t) (now pool) × (now kept ≡ replicate 3328 0) ⌝ }
+    requires { ⌜ Lent (now s) (now t) (now pool) × (now kept ≡ replicate 3840 0) ⌝ }
     ensures { λ _. ⌜ Summaries (now (s .entry)) (now (t .entry)) (now (kept .exit)) ⌝ }
 {
     let n = t[Table::ITEMS];
@@ -144,7 +147,7 @@ fn to_usize(word: u32) -> usize
 // position of its comment.
 pub fn load_summary(s: &[u8], t: &[u32], f: FunctionView, kept: &[u32], words: &mut [u32]) -> Cursor
     requires { ⌜ Tabled (now s) (now t) × Function (now s) (now t) f × Summaries (now s) (now t) (now kept) ×
-        (34 ≤ length (now words)) ⌝ }
+        (36 ≤ length (now words)) ⌝ }
     ensures { λ r. ⌜ Summary (now (s .entry)) (now (t .entry)) f (now (words .exit)) ×
         Yields (commentLines (now (s .entry)) (r .at))
         (functionOf (now (s .entry)) (now (t .entry)) (f .number) .comment) ⌝ }
@@ -157,7 +160,7 @@ pub fn load_summary(s: &[u8], t: &[u32], f: FunctionView, kept: &[u32], words: &
     if start == 0 {
         return fill_summary(s, t, f, words);
     }
-    let n = f.arguments as usize + 3;
+    let n = f.arguments as usize + 5;
     let end = start + n;
     copy_words(&kept[start..end], &mut words[..n]);
     Cursor::new(words[n - 1])

@@ -41,7 +41,7 @@ fn declare(
     out: &mut [u8],
 ) -> Content
     requires { ⌜ Lent (now s) (now t) (now pool) × (now digests ≡ digestsAt (now s) (namesIn (now t))) ×
-        (i < length (itemsIn (now t))) × Summaries (now s) (now t) (now kept) × (34 ≤ length (now offsets)) ×
+        (i < length (itemsIn (now t))) × Summaries (now s) (now t) (now kept) × (36 ≤ length (now offsets)) ×
         Representing (now s) (namesIn (now t)) (now out) c ⌝ }
     ensures { λ r. ⌜ Runs (now (s .entry)) (namesIn (now (t .entry))) (now (out .entry)) (now (out .exit))
         (declareItem (itemsOf (now (s .entry)) (now (t .entry)))
@@ -76,7 +76,7 @@ fn define(
     out: &mut [u8],
 ) -> Content
     requires { ⌜ Lent (now s) (now t) (now pool) × (now digests ≡ digestsAt (now s) (namesIn (now t))) ×
-        (i < length (itemsIn (now t))) × Summaries (now s) (now t) (now kept) × (34 ≤ length (now offsets)) ×
+        (i < length (itemsIn (now t))) × Summaries (now s) (now t) (now kept) × (36 ≤ length (now offsets)) ×
         Representing (now s) (namesIn (now t)) (now out) c ⌝ }
     ensures { λ r. ⌜ Runs (now (s .entry)) (namesIn (now (t .entry))) (now (out .entry)) (now (out .exit))
         (defineItem (sheetOf header doxygen (itemsOf (now (s .entry)) (now (t .entry))))
@@ -122,7 +122,7 @@ fn declare_all(
     out: &mut [u8],
 ) -> Content
     requires { ⌜ Lent (now s) (now t) (now pool) × (now digests ≡ digestsAt (now s) (namesIn (now t))) ×
-        Summaries (now s) (now t) (now kept) × (34 ≤ length (now offsets)) ×
+        Summaries (now s) (now t) (now kept) × (36 ≤ length (now offsets)) ×
         Representing (now s) (namesIn (now t)) (now out) c ⌝ }
     ensures { λ r. ⌜ Runs (now (s .entry)) (namesIn (now (t .entry))) (now (out .entry)) (now (out .exit))
         (forEach (declareItem (itemsOf (now (s .entry)) (now (t .entry))))
@@ -150,7 +150,7 @@ fn define_all(
     out: &mut [u8],
 ) -> Content
     requires { ⌜ Lent (now s) (now t) (now pool) × (now digests ≡ digestsAt (now s) (namesIn (now t))) ×
-        Summaries (now s) (now t) (now kept) × (34 ≤ length (now offsets)) ×
+        Summaries (now s) (now t) (now kept) × (36 ≤ length (now offsets)) ×
         Representing (now s) (namesIn (now t)) (now out) c ⌝ }
     ensures { λ r. ⌜ Runs (now (s .entry)) (namesIn (now (t .entry))) (now (out .entry)) (now (out .exit))
         (forEach (defineItem (sheetOf header doxygen
@@ -192,7 +192,7 @@ fn write_functions(
     out: &mut [u8],
 ) -> Content
     requires { ⌜ Lent (now s) (now t) (now pool) × (now digests ≡ digestsAt (now s) (namesIn (now t))) ×
-        Summaries (now s) (now t) (now kept) × (34 ≤ length (now offsets)) ×
+        Summaries (now s) (now t) (now kept) × (36 ≤ length (now offsets)) ×
         Representing (now s) (namesIn (now t)) (now out) c ⌝ }
     ensures { λ r. ⌜ Runs (now (s .entry)) (namesIn (now (t .entry))) (now (out .entry)) (now (out .exit))
         (writeFunctions (sheetOf header doxygen (itemsOf (now (s .entry)) (now (t .entry)))))

@@ -1,10 +1,10 @@
--- Written by tools/proofkit from answers/write_held_local.tpl (5e0e3c24 9d909991).
+-- Written by tools/proofkit from answers/write_held_local.tpl (3eb0f140 dd4438b1).
 use borrow.Author.Needs.{needs}
 use native.Mathlib.Omega.{arith}
 use Rattle.sink.proofs.SinkLaws.{_▷_, wrote-length}
 use Rattle.shape.proofs.TypeLaws.{here-yields}
 use Rattle.shape.proofs.ArgumentLaws.{argument-at}
-use Rattle.operands.proofs.OperandLaws.{held-is, local-none, local-written}
+use Rattle.summary.proofs.HeldLaws.{held-is, local-none, local-written}
 use Rattle.operands.proofs.write_held_local.Statement.{statement}
 use Rattle.operands.proofs.write_held_local.Tie as tie
 

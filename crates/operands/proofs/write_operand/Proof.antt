@@ -1,9 +1,9 @@
--- Written by tools/proofkit from answers/write_operand.tpl (a600a2aa ecc3b009).
+-- Written by tools/proofkit from answers/write_operand.tpl (5af7151e 514edecc).
 use borrow.Author.Needs.{needs}
 use native.Mathlib.Omega.{arith}
 use Rattle.sink.proofs.SinkLaws.{wrote-length}
 use Rattle.shape.proofs.ArgumentLaws.{argument-at}
-use Rattle.operands.proofs.OperandLaws.{held-is, operand-written}
+use Rattle.summary.proofs.HeldLaws.{held-is, operand-written}
 use Rattle.operands.proofs.write_operand.Statement.{statement}
 use Rattle.operands.proofs.write_operand.Tie as tie
 

@@ -1,6 +1,5 @@
--- Written by tools/proofkit from answers/write_function_shim.tpl (e0605dbd 21efada3).
+-- Written by tools/proofkit from answers/write_function_shim.tpl (d92d9247 620b877b).
 use borrow.Author.Needs.{needs}
-use native.Mathlib.Omega.{arith}
 use Rattle.sink.proofs.SinkLaws.{wrote-length, first-text, second-text}
 use Rattle.shim.proofs.ShimLaws.{shim-written}
 use Rattle.shim.proofs.write_function_shim.Statement.{statement}
@@ -13,7 +12,7 @@ write-shim-decl-requires : tie.Need-write-shim-decl-requires
 write-shim-decl-requires c κs = (c .before .before .before .before .before .before .before .before .pre .0, c .before .before .before .before .before .before .before .before .pre .1, c .before .before .before .before .before .before .before .before .pre .2, c .before .before .before .before .before .before .before .before .pre .3, c .before .before .before .before .before .before .before .before .pre .4)
 
 write-shim-body-requires : tie.Need-write-shim-body-requires
-write-shim-body-requires c κs = (c .before .before .before .before .before .before .before .before .before .before .before .before .before .pre .0, c .before .before .before .before .before .before .before .before .before .before .before .before .before .pre .1, c .before .before .before .before .before .before .before .before .before .before .before .before .before .pre .2, c .before .before .before .before .before .before .before .before .before .before .before .before .before .pre .3, c .before .before .before .before .before .before .before .before .before .before .before .before .before .pre .4 .arguments, omega (arith, c .before .before .before .before .before .before .before .before .before .before .before .before .before .pre .4 .room))
+write-shim-body-requires c κs = (c .before .before .before .before .before .before .before .before .before .before .before .before .before .pre .0, c .before .before .before .before .before .before .before .before .before .before .before .before .before .pre .1, c .before .before .before .before .before .before .before .before .before .before .before .before .before .pre .2, c .before .before .before .before .before .before .before .before .before .before .before .before .before .pre .3, c .before .before .before .before .before .before .before .before .before .before .before .before .before .pre .4)
 
 returns : tie.Need-returns
 returns c = shim-written _ _ _ (c .before .before .before .before .before .before .before .before .before .before .before .before .write-shim-doc .ensures) (c .before .before .before .before .before .before .before .before .write-shim-decl .ensures) (first-text _ (c .before .before .before .before .before .if1 .taken) (c .before .before .put-bytes .ensures))

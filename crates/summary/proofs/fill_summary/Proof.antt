@@ -1,4 +1,4 @@
--- Written by tools/proofkit from answers/fill_summary.tpl (543920f9 0e4bd08f).
+-- Written by tools/proofkit from answers/fill_summary.tpl (c9467b48 fe121fc0).
 use borrow.Author.Needs.{needs}
 use native.Mathlib.Omega.{arith}
 use lib.ListN.{length-set}
@@ -17,6 +17,12 @@ slice-write-words-2 c = simp length-set (omega (arith, c .before .before .before
 
 slice-write-words-3 : tie.Need-slice-write-words-3
 slice-write-words-3 c = simp length-set (omega (arith, c .before .before .before .before .before .before .before .before .pre .1 .view .few, c .before .before .before .before .before .before .before .before .pre .2, c .before .before .before .fill-arguments .kept))
+
+slice-write-words-4 : tie.Need-slice-write-words-4
+slice-write-words-4 c = simp length-set (omega (arith, c .before .before .before .before .before .before .before .before .pre .1 .view .few, c .before .before .before .before .before .before .before .before .pre .2, c .before .before .before .fill-arguments .kept))
+
+slice-write-words-5 : tie.Need-slice-write-words-5
+slice-write-words-5 c = simp length-set (omega (arith, c .before .before .before .before .before .before .before .before .pre .1 .view .few, c .before .before .before .before .before .before .before .before .pre .2, c .before .before .before .fill-arguments .kept))
 
 same-length : tie.Need-same-length
 same-length c = simp length-set (omega (arith, c .before .before .before .fill-arguments .kept))
@@ -38,5 +44,11 @@ fill-summary-spec =
     (λ c. search needs)
     (λ c. search needs)
     slice-write-words-3
+    (λ c. search needs)
+    (λ c. search needs)
+    slice-write-words-4
+    (λ c. search needs)
+    (λ c. search needs)
+    slice-write-words-5
     same-length
     returns)

@@ -1,9 +1,10 @@
--- Written by tools/proofkit from answers/count/type_length.tpl (9cd54788 d69f0b85).
+-- Written by tools/proofkit from answers/count/type_length.tpl (ed93e316 88007651).
 use borrow.Author.Needs.{needs}
 use native.Mathlib.Omega.{arith}
 use Rattle.write_type.proofs.TypeLaws.{outermost-yields}
 use Rattle.shape.proofs.TypeLaws.{type-at}
-use Rattle.summary.proofs.LengthLaws.{counted, counted-none}
+use Rattle.summary.proofs.LengthLaws.{counted}
+use Rattle.summary.proofs.SummaryLaws.{counted-none}
 use Rattle.sink.proofs.SinkLaws.{wrote-place}
 use Rattle.summary.proofs.count.type_length.Statement.{statement}
 use Rattle.summary.proofs.count.type_length.Tie as tie

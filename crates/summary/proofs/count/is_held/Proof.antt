@@ -1,6 +1,6 @@
--- Written by tools/proofkit from answers/is_held.tpl (7f56e752 b8787d84).
-use Rattle.operands.proofs.is_held.Statement.{statement}
-use Rattle.operands.proofs.is_held.Tie as tie
+-- Written by tools/proofkit from answers/count/is_held.tpl (7f56e752 3499e18c).
+use Rattle.summary.proofs.count.is_held.Statement.{statement}
+use Rattle.summary.proofs.count.is_held.Tie as tie
 
 returns : tie.Need-returns
 returns c = rw (c .if1 .taken)
