@@ -103,7 +103,8 @@ fn copy_plain(text: &[u8], buf: &mut [u8])
 // From so many bytes on the compiler copies more than eight at a time.
 const LONG: usize = 64;
 
-// A text into a buffer of its length: eight bytes by eight, and the last eight once more, unless it is very short or long.
+// A text into a buffer of its length: eight bytes by eight, and the last eight once more, unless it is very short or
+// long.
 fn copy(text: &[u8], buf: &mut [u8])
     requires { ⌜ length (now buf) ≡ length (now text) ⌝ }
     ensures { λ _. ⌜ now (buf .exit) ≡ now (text .entry) ⌝ }

@@ -9,8 +9,8 @@ use Rattle.summary.specs.declared.count.Places.{Places}
 pub record Word (place r : ℕ) : Type 0 where
   pub exact : (r ≡ 0 → ⊥) → (r + 1 ≡ place) × (place < limit)
 
--- r has the places behind the texts of the declaration, the head, the locals and the operands, each from that of `before`
--- on, or 0 in the first
+-- r has the places behind the texts of the declaration, the head, the locals and the operands, each from that of
+-- `before` on, or 0 in the first
 pub record Passed (declared defined held operands : List ℕ) (before r : Places) : Type 0 where
   pub declaredTo : (r .exts ≡ 0 → ⊥) → Wrote (sink [] (before .exts)) declared (sink [] (r .exts))
   pub definedTo : (r .exts ≡ 0 → ⊥) → Wrote (sink [] (before .pars)) defined (sink [] (r .pars))
