@@ -275,7 +275,7 @@ fn widened(word: u32) -> usize
     word as usize
 }
 
-// The length in word i of a summary.
+// Word i, which may be a length or a place.
 pub fn kept_length(words: &[u32], i: usize) -> usize
     requires { ⌜ i < length (now words) ⌝ }
     ensures { λ r. ⌜ r ≡ getD (now (words .entry)) i 0 ⌝ }

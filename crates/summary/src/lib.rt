@@ -1,7 +1,7 @@
 // Summaries of functions: what both passes over a sheet ask of a function's arguments, gathered once.
 mod count;
 
-pub use count::count_summary;
+use crate::count::count_summary;
 pub use count::is_held;
 pub use count::kept_length;
 use cursor::Cursor;
@@ -37,7 +37,7 @@ impl Words {
 }
 
 // The summary of a function, whose texts are not counted; the answer is the position of its comment.
-pub fn fill_summary(s: &[u8], t: &[u32], f: FunctionView, words: &mut [u32]) -> Cursor
+fn fill_summary(s: &[u8], t: &[u32], f: FunctionView, words: &mut [u32]) -> Cursor
     requires { ⌜ Tabled (now s) (now t) × Function (now s) (now t) f × (36 ≤ length (now words)) ⌝ }
     ensures { λ r. ⌜ Summary (now (s .entry)) (now (t .entry)) f (now (words .exit)) ×
         Yields (commentLines (now (s .entry)) (r .at))
@@ -137,12 +137,6 @@ pub fn fill_summaries(
     }
 }
 
-fn to_usize(word: u32) -> usize
-    ensures { λ r. ⌜ r ≡ word ⌝ }
-{
-    word as usize
-}
-
 // The summary of a function, into the front of words, from those that are kept if it is among them; the answer is the
 // position of its comment.
 pub fn load_summary(s: &[u8], t: &[u32], f: FunctionView, kept: &[u32], words: &mut [u32]) -> Cursor
@@ -156,7 +150,7 @@ pub fn load_summary(s: &[u8], t: &[u32], f: FunctionView, kept: &[u32], words: &
     if kept.len() <= i {
         return fill_summary(s, t, f, words);
     }
-    let start = to_usize(kept[i]);
+    let start = kept_length(kept, i);
     if start == 0 {
         return fill_summary(s, t, f, words);
     }
