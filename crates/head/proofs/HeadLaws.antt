@@ -94,7 +94,8 @@ module _ {s names items : List ℕ} {f : FunctionView} (a : FunctionAt s names i
           none-is,
           ← a .view .throws,
         )
-        (name-last named (eqb (v .depth) 0) (eqb (f .form) 0) (eqb (f .arguments) 0) (not (f .returns)) (not (f .throws)))
+        (name-last named (eqb (v .depth) 0) (eqb (f .form) 0) (eqb (f .arguments) 0) (not (f .returns))
+        (not (f .throws)))
 
     pub main-named : {r : Bool} → b₄ ≡ true → r ≡ named →
         r ≡ isCxxMain (itemAt (itemsAt s names items) (v .number)) this
