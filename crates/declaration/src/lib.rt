@@ -17,7 +17,7 @@ use view::ItemView;
 ghost use mathlib.Core.Path.{_≡_};
 ghost use Rattle.format.specs.Decoding.{type};
 ghost use Rattle.syntax.specs.Items.{itemAt};
-ghost use Rattle.bridge.specs.Write.{shape as shapeOf, directReturn, externReturn};
+ghost use Rattle.bridge.specs.Write.{indirectReturn, shape as shapeOf, directReturn, externReturn};
 ghost use Rattle.bridge.specs.Write.{functionDecl, layoutDecl, layoutDefinition};
 ghost use Rattle.sink.specs.Sink.{sink, Wrote};
 ghost use Rattle.summary.specs.Summaries.{Summary};
@@ -59,10 +59,14 @@ fn write_extern_return(
     t: &[u32; Table::PLACES],
     pool: &[u8; Pool::BYTES],
     f: FunctionView,
+    indirect: bool,
     out: &mut [u8],
     at: usize,
 ) -> usize
-    requires { ⌜ Lent (now s) (now t) (now pool) × Function (now s) (now t) f ⌝ }
+    requires { ⌜ Lent (now s) (now t) (now pool) × Function (now s) (now t) f ×
+        (indirect ≡ indirectReturn (itemsOf (now s) (now t))
+        (functionOf (now s) (now t) (f .number))
+        (functionOf (now s) (now t) (f .number) .return)) ⌝ }
     ensures { λ r. ⌜ Wrote (sink (now (out .entry)) at)
         (externReturn (itemsOf (now (s .entry)) (now (t .entry)))
         (functionOf (now (s .entry)) (now (t .entry)) (f .number)))
@@ -71,7 +75,6 @@ fn write_extern_return(
     if f.throws {
         return put_bytes(out, at, b"::rust::repr::PtrLen ");
     }
-    let indirect = indirect_return(s, t, f);
     if indirect {
         return put_bytes(out, at, b"void ");
     }
@@ -103,10 +106,11 @@ pub fn write_function_decl(
         (functionOf (now (s .entry)) (now (t .entry)) (v .number)))
         (sink (now (out .exit)) r) ⌝ }
 {
-    let returned = write_extern_return(s, t, pool, f, out, at);
+    let indirect = indirect_return(s, t, f);
+    let returned = write_extern_return(s, t, pool, f, indirect, out, at);
     let named = write_extern_fn(s, t, pool, v, f, out, returned);
     let opened = put_bytes(out, named, b"(");
-    let listed = write_parameters(s, t, pool, f, offsets, out, opened);
+    let listed = write_parameters(s, t, pool, f, offsets, indirect, out, opened);
     put_bytes(out, listed, b") noexcept;\n")
 }
 

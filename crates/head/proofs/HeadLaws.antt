@@ -1,7 +1,7 @@
 -- Laws of a shim's head.
 use mathlib.Core.Path.{_≡_, refl, sym, _∙_}
 use mathlib.Core.List.{List, [], _∷_, _++_, map}
-use mathlib.Core.Bool.{Bool, true, false, not, _&&_}
+use mathlib.Core.Bool.{Bool, true, false, not, _&&_, and-false}
 use Prim.Native.Nat.{ℕ, zero, suc}
 use native.Mathlib.Omega.{arith}
 use lib.Dec.{eqb}
@@ -43,11 +43,23 @@ const-is (suc zero) i = refl
 const-is (suc (suc zero)) i = refl
 const-is (suc (suc (suc k))) i = sym (ne-eqb (suc (suc (suc k))) 1 (omega arith))
 
+-- the first of six asked last, and the fourth first
+name-last : (n d g a r t : Bool) → (n && d && g && a && r && t) ≡ (a && d && g && r && t && n)
+name-last false d g a r t = sym (and-false (a && d && g && r && t))
+name-last true false g true r t = refl
+name-last true false g false r t = refl
+name-last true true false true r t = refl
+name-last true true false false r t = refl
+name-last true true true false r t = refl
+name-last true true true true false t = refl
+name-last true true true true true false = refl
+name-last true true true true true true = refl
+
 module _ {s names items : List ℕ} {f : FunctionView} (a : FunctionAt s names items f) where
   abbrev this : Function
   this = functionAt s names items (f .number)
 
-  pub count-is : length (this .arguments) ≡ f .arguments
+  count-is : length (this .arguments) ≡ f .arguments
   count-is =
       many-length (argument (namesAt s names) (length items)) s (f .arguments) (f .first .at) (a .view .arguments .is)
 
@@ -58,28 +70,39 @@ module _ {s names items : List ℕ} {f : FunctionView} (a : FunctionAt s names i
       by-bit true e = rw (returned a e .0)
       by-bit false e = rw (returned-none a e)
 
-  pub main-is : {v : ItemView} {b₁ b₂ b₃ b₄ b₅ b₆ : Bool} → ItemAt s names items v →
-      length (this .arguments) ≡ f .arguments → b₁ ≡ same (nameAt s (getD names (v .name) 0)) (bytes "main") →
-      b₂ ≡ b₁ && eqb (v .depth) 0 → b₃ ≡ b₂ && eqb (f .form) 0 → b₄ ≡ b₃ && eqb (f .arguments) 0 →
-      b₅ ≡ b₄ && not (f .returns) → b₆ ≡ b₅ && not (f .throws) →
-      b₆ ≡ isCxxMain (itemAt (itemsAt s names items) (v .number)) this
-  unfolding isCxxMain
-  main-is {v} x n e₁ e₂ e₃ e₄ e₅ e₆ =
-      e₆ ∙ rw (
-        e₅,
-        e₄,
-        e₃,
-        e₂,
-        e₁,
-        x .view .cxx,
-        root-is (itemAt (itemsAt s names items) (v .number) .namespace),
-        ← x .view .depth,
-        a .view .form,
-        free-is (f .form) (f .owner),
-        n,
-        none-is,
-        a .view .throws,
-      )
+  -- what is asked before the name, in the order of the code
+  module _ {v : ItemView} {b₁ b₂ b₃ b₄ : Bool} (x : ItemAt s names items v)
+      (e₁ : b₁ ≡ eqb (f .arguments) 0 && eqb (v .depth) 0) (e₂ : b₂ ≡ b₁ && eqb (f .form) 0)
+      (e₃ : b₃ ≡ b₂ && not (f .returns)) (e₄ : b₄ ≡ b₃ && not (f .throws)) where
+    abbrev named : Bool
+    named = same (nameAt s (getD names (v .name) 0)) (bytes "main")
+
+    main-is : isCxxMain (itemAt (itemsAt s names items) (v .number)) this ≡ b₄ && named
+    unfolding isCxxMain
+    main-is =
+        rw (
+          e₄,
+          e₃,
+          e₂,
+          e₁,
+          ← x .view .cxx,
+          root-is (itemAt (itemsAt s names items) (v .number) .namespace),
+          ← x .view .depth,
+          a .view .form,
+          free-is (f .form) (f .owner),
+          count-is,
+          none-is,
+          ← a .view .throws,
+        )
+        (name-last named (eqb (v .depth) 0) (eqb (f .form) 0) (eqb (f .arguments) 0) (not (f .returns))
+        (not (f .throws)))
+
+    pub main-named : {r : Bool} → b₄ ≡ true → r ≡ named →
+        r ≡ isCxxMain (itemAt (itemsAt s names items) (v .number)) this
+    main-named h q = q ∙ sym (main-is ∙ rw h)
+
+    pub main-other : b₄ ≡ false → false ≡ isCxxMain (itemAt (itemsAt s names items) (v .number)) this
+    main-other h = sym (main-is ∙ rw h)
 
   -- ---- the type that it returns
 

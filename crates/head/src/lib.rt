@@ -36,19 +36,22 @@ fn both(a: bool, b: bool) -> bool
     false
 }
 
-// Whether the function is the program's `main`.
+// Whether the function is the program's `main`. Its name is read last, and only if the rest holds.
 fn is_main(s: &[u8], t: &[u32; Table::PLACES], v: ItemView, f: FunctionView) -> bool
     requires { ⌜ Tabled (now s) (now t) × Item (now s) (now t) v ×
         Function (now s) (now t) f ⌝ }
     ensures { λ r. ⌜ r ≡ isCxxMain (itemAt (itemsOf (now (s .entry)) (now (t .entry)))
         (v .number)) (functionOf (now (s .entry)) (now (t .entry)) (f .number)) ⌝ }
 {
-    let named = reads(s, t, v.name, b"main");
-    let root = both(named, v.depth == 0);
+    let bare = f.arguments == 0;
+    let root = both(bare, v.depth == 0);
     let free = both(root, f.form == 0);
-    let bare = both(free, f.arguments == 0);
-    let void = both(bare, !f.returns);
-    both(void, !f.throws)
+    let void = both(free, !f.returns);
+    let calm = both(void, !f.throws);
+    if calm {
+        return reads(s, t, v.name, b"main");
+    }
+    false
 }
 
 // The type that the shim returns: that of the function, but for `main`.

@@ -1,7 +1,6 @@
 // The parameters of a Rust function's declaration in C++ (bridge/write.rs `write_rust_function_decl_impl`).
 use cursor::Cursor;
 use mangle::write_full_name;
-use shape::indirect_return;
 use shape::is_method;
 use shape::needs_comma;
 use shape::write_outermost_space;
@@ -24,7 +23,7 @@ ghost use mathlib.Core.List.{map};
 ghost use Prim.Native.Nat.{_<_, _≤_};
 ghost use lib.ListN.{length};
 ghost use Rattle.format.specs.Decoding.{type};
-ghost use Rattle.bridge.specs.Write.{commas, shape as shapeOf, externArgType, externArg};
+ghost use Rattle.bridge.specs.Write.{commas, indirectReturn, shape as shapeOf, externArgType, externArg};
 ghost use Rattle.bridge.specs.Write.{receiver, slot, externParameters};
 ghost use Rattle.sink.specs.Sink.{sink, Wrote};
 ghost use Rattle.view.specs.Views.{kindOfType, ownerOf};
@@ -148,24 +147,27 @@ fn write_extern_args(
 
 // ---- the return slot
 
-// The slot's parameter, where there is one; a comma before it if `before`.
+// The slot's parameter, where the return is indirect; a comma before it if `before`.
 fn write_slot(
     s: &[u8],
     t: &[u32; Table::PLACES],
     pool: &[u8; Pool::BYTES],
     f: FunctionView,
+    indirect: bool,
     before: bool,
     out: &mut [u8],
     at: usize,
 ) -> usize
-    requires { ⌜ Lent (now s) (now t) (now pool) × Function (now s) (now t) f ⌝ }
+    requires { ⌜ Lent (now s) (now t) (now pool) × Function (now s) (now t) f ×
+        (indirect ≡ indirectReturn (itemsOf (now s) (now t))
+        (functionOf (now s) (now t) (f .number))
+        (functionOf (now s) (now t) (f .number) .return)) ⌝ }
     ensures { λ r. ⌜ Wrote (sink (now (out .entry)) at)
         (commas before (map (slotParameter (itemsOf (now (s .entry)) (now (t .entry))))
         (slot (itemsOf (now (s .entry)) (now (t .entry)))
         (functionOf (now (s .entry)) (now (t .entry)) (f .number)))))
         (sink (now (out .exit)) r) ⌝ }
 {
-    let indirect = indirect_return(s, t, f);
     if indirect {
         let next = put_when(out, at, before, b", ");
         let typed = write_slot_type(s, t, pool, f.result, out, next);
@@ -185,11 +187,15 @@ pub fn write_parameters(
     pool: &[u8; Pool::BYTES],
     f: FunctionView,
     offsets: &[u32],
+    indirect: bool,
     out: &mut [u8],
     at: usize,
 ) -> usize
     requires { ⌜ Lent (now s) (now t) (now pool) × Function (now s) (now t) f ×
-        Summary (now s) (now t) f (now offsets) ⌝ }
+        Summary (now s) (now t) f (now offsets) ×
+        (indirect ≡ indirectReturn (itemsOf (now s) (now t))
+        (functionOf (now s) (now t) (f .number))
+        (functionOf (now s) (now t) (f .number) .return)) ⌝ }
     ensures { λ r. ⌜ Wrote (sink (now (out .entry)) at)
         (commas false (externParameters (itemsOf (now (s .entry)) (now (t .entry)))
         (functionOf (now (s .entry)) (now (t .entry)) (f .number))))
@@ -199,5 +205,5 @@ pub fn write_parameters(
     let received = write_receiver(s, t, pool, f, out, at);
     let listed = write_extern_args(s, t, pool, f, offsets, method, out, received);
     let comma = needs_comma(method, f.arguments);
-    write_slot(s, t, pool, f, comma, out, listed)
+    write_slot(s, t, pool, f, indirect, comma, out, listed)
 }

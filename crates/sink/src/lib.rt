@@ -104,7 +104,7 @@ fn copy_plain(text: &[u8], buf: &mut [u8])
 const LONG: usize = 64;
 
 // A text into a buffer of its length: eight bytes by eight, and the last eight once more, unless it is very short or
-// long.
+// long. From eight to sixteen bytes there is no loop.
 fn copy(text: &[u8], buf: &mut [u8])
     requires { ⌜ length (now buf) ≡ length (now text) ⌝ }
     ensures { λ _. ⌜ now (buf .exit) ≡ now (text .entry) ⌝ }
@@ -119,7 +119,12 @@ fn copy(text: &[u8], buf: &mut [u8])
         return;
     }
     let last = n - 8;
-    let mut i = 0;
+    copy_eight(text, 0, buf);
+    if last <= 8 {
+        copy_eight(text, last, buf);
+        return;
+    }
+    let mut i = 8;
     while i < last {
         copy_eight(text, i, buf);
         i += 8;
