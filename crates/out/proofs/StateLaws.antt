@@ -1,5 +1,5 @@
 -- Laws of states: what a boundary more makes of one.
-use mathlib.Core.Path.{_≡_, refl, ap, _∙_}
+use mathlib.Core.Path.{_≡_, refl, sym, ap, _∙_}
 use mathlib.Core.List.{List, [], _∷_, _++_, map-append}
 use mathlib.Core.Bool.{Bool, true, false}
 use Prim.Native.Nat.{ℕ, zero, suc, _+_, _-_, _*_, _<_, _≤_}
@@ -170,6 +170,10 @@ spaces-length : {s names : List ℕ} {c : Cursor} {depth : ℕ} {ns : List Name}
     length ns ≡ depth
 spaces-length {s} {names} {c} {depth} p = many-length (nameOf (namesAt s names)) s depth (c .at) (p .are .is)
 
+no-names : (ns : List Name) → length ns ≡ 0 → ns ≡ []
+no-names [] z = refl
+no-names (n ∷ ns) z = absurd (omega arith)
+
 named-few : {s names : List ℕ} {c : Cursor} {depth : ℕ} {ns : List Name} → Spaces s names c depth ns →
     length (named ns) ≤ 7
 named-few {ns = ns} p = omega (arith, length-map ns userDefinedNamespace, spaces-length p, p .shallow)
@@ -326,6 +330,15 @@ module _ (s names : List ℕ) where
           few-open = u .few-open;
           few-set = u .few-set;
         };
+  }
+
+  -- no namespace before, and none behind
+  pub sets-outermost : {ms : List Name} {at : Cursor} {depth : ℕ} {c : Content} → Spaces s names at depth ms →
+      c .depth ≡ 0 → depth ≡ 0 → Sets s names ms c c
+  sets-outermost {ms} p d e = record {
+    each = λ {ns = ns} st.
+        let z : ms ≡ ns = no-names ms (spaces-length p ∙ e) ∙ sym (no-names ns (spaces-length (st .spaces) ∙ d)) in
+        rw z st;
   }
 
   -- the namespace of an item, and that of none

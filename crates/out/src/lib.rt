@@ -368,6 +368,11 @@ fn set_spaces(
     ensures { λ r. ⌜ Sets (now (s .entry)) (now (names .entry))
         (namespaceAt (now (s .entry)) (now (names .entry)) spaces depth) c r ⌝ }
 {
+    if c.depth == 0 {
+        if depth == 0 {
+            return c;
+        }
+    }
     let ended = end_namespaces(s, names, digests, c);
     let mut begun = begin_namespaces(s, names, digests, ended, spaces, depth);
     begun.spaces = spaces;
