@@ -5,7 +5,7 @@ use mathlib.Core.Bool.{Bool, true, false}
 use Prim.Native.Nat.{ℕ, zero, suc, _+_, _-_, _*_, _<_, _≤_}
 use native.Mathlib.Omega.{arith}
 use native.Mathlib.Numerals.{add-one}
-use lib.ListN.{length, getD, take, replicate, length-append, length-map, length-take}
+use lib.ListN.{length, getD, take, length-append, length-map, length-take}
 use lib.Seq.{take-suc, take-all}
 use Rattle.lexical.proofs.BoolLaws.{by-cases}
 use Rattle.format.specs.Bits.{bits, widthOf}
@@ -30,8 +30,9 @@ use Rattle.pieces.proofs.Boundaries.{push-begin, push-end}
 use Rattle.out.specs.declared.Block.the-variants.{UserDefinedNamespace, ExternC}
 use Rattle.out.specs.declared.Boundary.{Boundary}
 use Rattle.out.specs.declared.Boundary.the-variants.{Begin, End}
+use Rattle.out.specs.declared.Pending.{Pending}
 use Rattle.out.specs.declared.Content.{Content}
-use Rattle.out.specs.State.{boundaryOf, packed, latest, pendingOf, Listed, namespaceAt, Spaces, Stands, Standing}
+use Rattle.out.specs.State.{boundaryOf, latest, pendingOf, Listed, namespaceAt, Spaces, Stands, Standing}
 use Rattle.out.specs.State.{maxPending, inside}
 use Rattle.out.specs.Steps.{Starts, asking, behind, Pushes, Turns, Sets, Indexes}
 
@@ -52,20 +53,20 @@ starts-spaces : (s names : List ℕ) → Spaces s names (record { at = 0 }) 0 []
 unfolding many
 starts-spaces s names = record { are = record { is = refl }; shallow = omega arith; near = omega arith }
 
-pub starts : Starts (record {
+pub starts : (pending : List Pending) → length pending ≡ maxPending → Starts (record {
   at = 0;
   spaces = record { at = 0 };
   depth = 0;
-  pending = replicate maxPending (packed (Begin ExternC));
+  pending = pending;
   count = 0;
   «section_pending» = false;
 })
 unfolding latest between beginning
-starts = record {
+starts pending room = record {
   each = λ {s} {names} {first}. record {
     wrote = wrote-nil (sink first 0);
     spaces = starts-spaces s names;
-    listed = record { room = refl; few = omega arith; known = λ i l. absurd (omega arith) };
+    listed = record { room = room; few = omega arith; known = λ i l. absurd (omega arith) };
     pending = refl;
     section = refl;
     few-open = omega arith;
