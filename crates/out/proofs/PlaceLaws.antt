@@ -8,6 +8,7 @@ use lib.ListN.{length, getD, drop, set, length-map, length-drop, List·getD-map}
 use lib.Seq.{getD-drop}
 use Rattle.format.specs.Limits.{mostNames}
 use Rattle.cursor.specs.declared.Cursor.{Cursor}
+use Rattle.sink.specs.Sink.{Sink, sink, Wrote}
 use Rattle.out.specs.declared.Block.{Block}
 use Rattle.out.specs.declared.Boundary.{Boundary}
 use Rattle.out.specs.declared.Pending.{Pending}
@@ -49,6 +50,12 @@ unfolding contentOf
 listed-places l h = omega (arith, h .room, length-map (drop 5 l) entry, length-drop 5 l)
 
 -- ---- reads
+
+-- a text from the place on
+pub from-place : (l : List ℕ) {buf t : List ℕ} {r : Sink} → Wrote (sink buf (getD l 0 0)) t r →
+    Wrote (sink buf (contentOf l .at)) t r
+unfolding contentOf
+from-place l w = w
 
 pub entry-read : (l : List ℕ) (i : ℕ) {b : Boundary} → b ≡ unpacked (entry (getD l (5 + i) 0)) →
     b ≡ boundaryAt (contentOf l .pending) i
