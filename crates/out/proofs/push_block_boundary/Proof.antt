@@ -1,4 +1,4 @@
--- Written by tools/proofkit from answers/push_block_boundary.tpl (b6314ec5 56c21686).
+-- Written by tools/proofkit from answers/push_block_boundary.tpl (bd6acaa8 00f150e8).
 use borrow.Author.Needs.{needs}
 use mathlib.Core.Path.{sym, _∙_}
 use native.Mathlib.Omega.{arith}
@@ -40,7 +40,7 @@ cancels-requires c κs = (c .before .before .before .before .before .before .bef
 
 returns-2 : tie.Need-returns-2
 unfolding contentOf
-returns-2 c = rw (place-fewer (c .before .before .before .before .before .before .before .before .before .args .c .now) (listed-places (c .before .before .before .before .before .before .before .before .before .args .c .now) (c .before .before .before .before .before .before .before .before .before .pre .2))) (pushes-reverse _ _ _ _ (c .before .before .before .before .before .before .before .before .before .pre .2) (c .before .before .before .before .before .before .before .before .before .pre .3) (c .before .before .before .before .if1 .left) (entry-read (c .before .before .before .before .before .before .before .before .before .args .c .now) _ (c .before .before .unpack .ensures)) (sym (c .before .cancels .ensures) ∙ c .if2 .taken))
+returns-2 c = pushes-reverse _ _ _ _ (c .before .before .before .before .before .before .before .before .before .pre .2) (c .before .before .before .before .before .before .before .before .before .pre .3) (c .before .before .before .before .if1 .left) (entry-read (c .before .before .before .before .before .before .before .before .before .args .c .now) _ (c .before .before .unpack .ensures)) (sym (c .before .cancels .ensures) ∙ c .if2 .taken) (place-fewer (c .before .before .before .before .before .before .before .before .before .args .c .now) (listed-places (c .before .before .before .before .before .before .before .before .before .args .c .now) (c .before .before .before .before .before .before .before .before .before .pre .2)))
 
 append-requires-2 : tie.Need-append-requires-2
 unfolding contentOf
