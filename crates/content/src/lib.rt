@@ -11,39 +11,48 @@ ghost use Rattle.syntax.specs.Items.{itemAt};
 ghost use Rattle.names.specs.Digests.{digestsAt};
 ghost use Rattle.nested.specs.Groups.{EnumOf, isDirect, Next};
 ghost use Rattle.pieces.specs.Between.{named};
-ghost use Rattle.out.specs.State.{Standing, inside};
+ghost use Rattle.out.specs.State.{Standing, inside, contentOf};
 ghost use Rattle.out.specs.Steps.{Turns, Sets};
 ghost use Rattle.tables.specs.Tables.{namesIn, itemsIn, itemsOf, itemOf, Tabled, Item};
 
 // The namespace of an item.
-pub fn set_namespace(s: &[u8], t: &[u32], digests: &[u32], c: Content, v: ItemView) -> Content
+pub fn set_namespace(
+    s: &[u8],
+    t: &[u32],
+    digests: &[u32],
+    c: &mut [usize; Content::PLACES],
+    v: ItemView,
+)
     requires { ⌜ Tabled (now s) (now t) × (now digests ≡ digestsAt (now s) (namesIn (now t))) ×
-        Standing (now s) (namesIn (now t)) named c × Item (now s) (now t) v ⌝ }
-    ensures { λ r. ⌜ Sets (now (s .entry)) (namesIn (now (t .entry)))
-        (itemAt (itemsOf (now (s .entry)) (now (t .entry))) (v .number) .namespace) c r ⌝ }
+        Standing (now s) (namesIn (now t)) named (contentOf (now c)) × Item (now s) (now t) v ⌝ }
+    ensures { λ _. ⌜ Sets (now (s .entry)) (namesIn (now (t .entry)))
+        (itemAt (itemsOf (now (s .entry)) (now (t .entry))) (v .number) .namespace) (contentOf (now (c .entry)))
+        (contentOf (now (c .exit))) ⌝ }
 {
     let n = t[Table::NAMES] as usize;
     let first = Table::FIRST;
     let end = first + t[Table::ITEMS] as usize;
-    out::set_namespace(s, &t[..n], &t[first..end], digests, c, v)
+    out::set_namespace(s, &t[..n], &t[first..end], digests, c, v);
 }
 
-pub fn begin_extern_c(s: &[u8], t: &[u32], digests: &[u32], c: Content) -> Content
+pub fn begin_extern_c(s: &[u8], t: &[u32], digests: &[u32], c: &mut [usize; Content::PLACES])
     requires { ⌜ Tabled (now s) (now t) × (now digests ≡ digestsAt (now s) (namesIn (now t))) ×
-        Standing (now s) (namesIn (now t)) named c ⌝ }
-    ensures { λ r. ⌜ Turns (now (s .entry)) (namesIn (now (t .entry))) named inside c r ⌝ }
+        Standing (now s) (namesIn (now t)) named (contentOf (now c)) ⌝ }
+    ensures { λ _. ⌜ Turns (now (s .entry)) (namesIn (now (t .entry))) named inside (contentOf (now (c .entry)))
+        (contentOf (now (c .exit))) ⌝ }
 {
     let n = t[Table::NAMES] as usize;
-    out::begin_extern_c(s, &t[..n], digests, c)
+    out::begin_extern_c(s, &t[..n], digests, c);
 }
 
-pub fn end_extern_c(s: &[u8], t: &[u32], digests: &[u32], c: Content) -> Content
+pub fn end_extern_c(s: &[u8], t: &[u32], digests: &[u32], c: &mut [usize; Content::PLACES])
     requires { ⌜ Tabled (now s) (now t) × (now digests ≡ digestsAt (now s) (namesIn (now t))) ×
-        Standing (now s) (namesIn (now t)) inside c ⌝ }
-    ensures { λ r. ⌜ Turns (now (s .entry)) (namesIn (now (t .entry))) inside named c r ⌝ }
+        Standing (now s) (namesIn (now t)) inside (contentOf (now c)) ⌝ }
+    ensures { λ _. ⌜ Turns (now (s .entry)) (namesIn (now (t .entry))) inside named (contentOf (now (c .entry)))
+        (contentOf (now (c .exit))) ⌝ }
 {
     let n = t[Table::NAMES] as usize;
-    out::end_extern_c(s, &t[..n], digests, c)
+    out::end_extern_c(s, &t[..n], digests, c);
 }
 
 // ---- nested.rs

@@ -59,6 +59,17 @@ some-flushed : (m : machine.Content) → isPending (m .pending) ≡ true → flu
 unfolding flushBlocks
 some-flushed m e = rw e
 
+-- c with nothing pending behind more text
+abbrev pub settled : Content → ℕ → Content
+settled c at = record {
+  at = at;
+  spaces = c .spaces;
+  depth = c .depth;
+  pending = c .pending;
+  count = 0;
+  «section_pending» = false;
+}
+
 module _ (s names : List ℕ) where
   pub record Turned (out₀ : List ℕ) (c : Content) (out : List ℕ) (at : ℕ) (section : Bool) (i : ℕ) : Type 0 where
     pub few : i ≤ c .count
@@ -125,17 +136,6 @@ module _ (s names : List ℕ) where
   }
 
   -- ---- before a text
-
-  -- c with nothing pending behind more text
-  abbrev pub settled : Content → ℕ → Content
-  settled c at = record {
-    at = at;
-    spaces = c .spaces;
-    depth = c .depth;
-    pending = c .pending;
-    count = 0;
-    «section_pending» = false;
-  }
 
   flushed : {out after first : List ℕ} {c : Content} {r : Flushed} {t : List ℕ} {ns : List Name} {P Q : List Block}
       {asks : Bool} → Flushing s names out after (λ _ m. flushBlocks m) c r →

@@ -3,3 +3,4 @@ pub mod EntryLaws
 pub mod PendingLaws
 pub mod StateLaws
 pub mod FlushLaws
+pub mod PlaceLaws

@@ -135,9 +135,8 @@ module _ (s names : List ℕ) where
             {r : Content} → r ≡ appendedTo c b → Pushes s names c b r
         pushes-other h f = rw f (pushed-more pushed-other (room-other h))
 
-      pub pushes-reverse : cancels (boundaryOf s names b) (boundaryOf s names last) ≡ true →
-          Pushes s names c b (fewer c)
-      pushes-reverse e = record {
+      pushed-reverse : cancels (boundaryOf s names b) (boundaryOf s names last) ≡ true → Pushes s names c b (fewer c)
+      pushed-reverse e = record {
         at = refl;
         spaces = refl;
         depth = refl;
@@ -145,3 +144,7 @@ module _ (s names : List ℕ) where
         listed = record { room = listed .room; few = omega (arith, listed .few); known = λ i l. listed .known i (omega arith) };
         pending = sym (push-reverse b (c .pending) (c .count) n (rw is at e));
       }
+
+      pub pushes-reverse : cancels (boundaryOf s names b) (boundaryOf s names last) ≡ true →
+          {r : Content} → r ≡ fewer c → Pushes s names c b r
+      pushes-reverse e f = rw f (pushed-reverse e)

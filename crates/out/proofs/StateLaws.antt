@@ -1,11 +1,11 @@
 -- Laws of states: what a boundary more makes of one.
-use mathlib.Core.Path.{_≡_, refl, ap, _∙_}
+use mathlib.Core.Path.{_≡_, refl, sym, ap, _∙_}
 use mathlib.Core.List.{List, [], _∷_, _++_, map-append}
 use mathlib.Core.Bool.{Bool, true, false}
 use Prim.Native.Nat.{ℕ, zero, suc, _+_, _-_, _*_, _<_, _≤_}
 use native.Mathlib.Omega.{arith}
 use native.Mathlib.Numerals.{add-one}
-use lib.ListN.{length, getD, take, replicate, length-append, length-map, length-take}
+use lib.ListN.{length, getD, take, length-append, length-map, length-take}
 use lib.Seq.{take-suc, take-all}
 use Rattle.lexical.proofs.BoolLaws.{by-cases}
 use Rattle.format.specs.Bits.{bits, widthOf}
@@ -30,8 +30,9 @@ use Rattle.pieces.proofs.Boundaries.{push-begin, push-end}
 use Rattle.out.specs.declared.Block.the-variants.{UserDefinedNamespace, ExternC}
 use Rattle.out.specs.declared.Boundary.{Boundary}
 use Rattle.out.specs.declared.Boundary.the-variants.{Begin, End}
+use Rattle.out.specs.declared.Pending.{Pending}
 use Rattle.out.specs.declared.Content.{Content}
-use Rattle.out.specs.State.{boundaryOf, packed, latest, pendingOf, Listed, namespaceAt, Spaces, Stands, Standing}
+use Rattle.out.specs.State.{boundaryOf, latest, pendingOf, Listed, namespaceAt, Spaces, Stands, Standing}
 use Rattle.out.specs.State.{maxPending, inside}
 use Rattle.out.specs.Steps.{Starts, asking, behind, Pushes, Turns, Sets, Indexes}
 
@@ -52,20 +53,20 @@ starts-spaces : (s names : List ℕ) → Spaces s names (record { at = 0 }) 0 []
 unfolding many
 starts-spaces s names = record { are = record { is = refl }; shallow = omega arith; near = omega arith }
 
-pub starts : Starts (record {
+pub starts : (pending : List Pending) → length pending ≡ maxPending → Starts (record {
   at = 0;
   spaces = record { at = 0 };
   depth = 0;
-  pending = replicate maxPending (packed (Begin ExternC));
+  pending = pending;
   count = 0;
   «section_pending» = false;
 })
 unfolding latest between beginning
-starts = record {
+starts pending room = record {
   each = λ {s} {names} {first}. record {
     wrote = wrote-nil (sink first 0);
     spaces = starts-spaces s names;
-    listed = record { room = refl; few = omega arith; known = λ i l. absurd (omega arith) };
+    listed = record { room = room; few = omega arith; known = λ i l. absurd (omega arith) };
     pending = refl;
     section = refl;
     few-open = omega arith;
@@ -169,6 +170,10 @@ module _ {s names first buf : List ℕ} {c : Content} {t : List ℕ} {ns : List 
 spaces-length : {s names : List ℕ} {c : Cursor} {depth : ℕ} {ns : List Name} → Spaces s names c depth ns →
     length ns ≡ depth
 spaces-length {s} {names} {c} {depth} p = many-length (nameOf (namesAt s names)) s depth (c .at) (p .are .is)
+
+no-names : (ns : List Name) → length ns ≡ 0 → ns ≡ []
+no-names [] z = refl
+no-names (n ∷ ns) z = absurd (omega arith)
 
 named-few : {s names : List ℕ} {c : Cursor} {depth : ℕ} {ns : List Name} → Spaces s names c depth ns →
     length (named ns) ≤ 7
@@ -326,6 +331,15 @@ module _ (s names : List ℕ) where
           few-open = u .few-open;
           few-set = u .few-set;
         };
+  }
+
+  -- no namespace before, and none behind
+  pub sets-outermost : {ms : List Name} {at : Cursor} {depth : ℕ} {c : Content} → Spaces s names at depth ms →
+      c .depth ≡ 0 → depth ≡ 0 → Sets s names ms c c
+  sets-outermost {ms} p d e = record {
+    each = λ {ns = ns} st.
+        let z : ms ≡ ns = no-names ms (spaces-length p ∙ e) ∙ sym (no-names ns (spaces-length (st .spaces) ∙ d)) in
+        rw z st;
   }
 
   -- the namespace of an item, and that of none

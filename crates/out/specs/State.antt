@@ -1,9 +1,10 @@
 -- How a Content of the code stands for a state of out.rs' machine.
 use mathlib.Core.Path.{_≡_}
-use mathlib.Core.List.{List, [], _∷_, _++_}
+use mathlib.Core.List.{List, [], _∷_, _++_, map}
 use mathlib.Core.Bool.{Bool}
 use Prim.Native.Nat.{ℕ, zero, suc, _+_, _*_, _/_, _%_, _<_, _≤_}
-use lib.ListN.{length, getD}
+use lib.Dec.{ltb}
+use lib.ListN.{length, getD, drop}
 use Rattle.format.specs.Limits.{mostNames, mostBits, mostNamespaces}
 use Rattle.format.specs.Decode.{many}
 use Rattle.format.specs.Sheet.{Name}
@@ -89,6 +90,21 @@ pendingOf s names c = latest s names (c .pending) (c .count)
 -- the most pending boundaries: eight ends and eight begins
 abbrev pub maxPending : ℕ
 maxPending = 16
+
+-- ---- the places of a Content in the code's array: five numbers, and those of the pending boundaries behind them
+
+abbrev pub entry : ℕ → Pending
+entry n = record { code = n }
+
+unfoldable pub contentOf : List ℕ → Content
+contentOf l = record {
+  at = getD l 0 0;
+  spaces = record { at = getD l 1 0 };
+  depth = getD l 2 0;
+  pending = map entry (drop 5 l);
+  count = getD l 3 0;
+  «section_pending» = ltb 0 (getD l 4 0);
+}
 
 -- each pending boundary is known
 pub record Listed (names : List ℕ) (c : Content) : Type 0 where

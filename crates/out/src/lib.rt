@@ -14,7 +14,7 @@ ghost use mathlib.Core.Path.{_≡_};
 ghost use mathlib.Core.List.{[]};
 ghost use mathlib.Core.Bool.{_&&_};
 ghost use Prim.Native.Nat.{_<_, _≤_};
-ghost use lib.ListN.{length};
+ghost use lib.ListN.{length, set};
 ghost use lib.Dec.{ltb};
 ghost use Rattle.sink.specs.Sink.{sink, Wrote};
 ghost use Rattle.format.specs.Limits.{mostBits, mostNamespaces};
@@ -28,7 +28,7 @@ ghost use Rattle.pieces.specs.Between.{named};
 ghost use Rattle.tables.specs.Tables.{namesIn, Tabled, Lent};
 ghost use Rattle.out.specs.State.{blockOf, boundaryOf, KnownBlock, Known, pendingOf, Listed, namespaceAt, Spaces};
 ghost use Rattle.out.specs.State.{SmallBlock, Small, packedBlock, packed, unpackedBlock, unpacked};
-ghost use Rattle.out.specs.State.{maxPending, Standing, inside};
+ghost use Rattle.out.specs.State.{maxPending, Standing, inside, contentOf};
 ghost use Rattle.out.specs.Steps.{Starts, asking, behind, appendedTo, Pushes, Turns, Sets, Indexes, boundaryText};
 ghost use Rattle.out.specs.Steps.{isEnd, Flushing, Prepares, Flushes};
 
@@ -172,7 +172,8 @@ fn unpack(p: Pending) -> Boundary
 }
 
 // The place behind the text; where the indexes of the names of the namespace that is set stand, and how many there
-// are; the pending boundaries, the oldest first; and whether a section is pending.
+// are; the pending boundaries, the oldest first; and whether a section is pending. The code has them in an array of
+// numbers, which it lends: a Content by value is copied at each call.
 pub struct Content {
     pub at: usize,
     pub spaces: Cursor,
@@ -182,41 +183,55 @@ pub struct Content {
     pub section_pending: bool,
 }
 
+// A number into a place. As a slice an array tells how many places it has.
+fn put_place(c: &mut [usize], place: usize, n: usize)
+    requires { ⌜ place < length (now c) ⌝ }
+    ensures { λ _. ⌜ now (c .exit) ≡ set (now (c .entry)) place n ⌝ }
+{
+    c[place] = n;
+}
+
 impl Content {
     // The most pending boundaries: eight ends and eight begins.
     pub const PENDING: usize = 16;
 
-    pub fn new() -> Content
-        ensures { λ r. ⌜ Starts r ⌝ }
+    // The places of the fields; the numbers of the pending boundaries are the last.
+    pub const AT: usize = 0;
+
+    pub const SPACES: usize = 1;
+
+    pub const DEPTH: usize = 2;
+
+    pub const COUNT: usize = 3;
+
+    pub const SECTION: usize = 4;
+
+    pub const FIRST: usize = 5;
+
+    pub const PLACES: usize = Content::FIRST + Content::PENDING;
+
+    pub fn new(c: &mut [usize; Content::PLACES])
+        ensures { λ _. ⌜ Starts (contentOf (now (c .exit))) ⌝ }
     {
-        let boundary = Boundary::Begin(Block::ExternC);
-        let none = pack(boundary);
-        let spaces = Cursor::new(0);
-        let pending = [none; Content::PENDING];
-        Content {
-            at: 0,
-            spaces,
-            depth: 0,
-            pending,
-            count: 0,
-            section_pending: false,
-        }
+        put_place(c, Content::AT, 0);
+        c[Content::SPACES] = 0;
+        c[Content::DEPTH] = 0;
+        c[Content::COUNT] = 0;
+        c[Content::SECTION] = 0;
     }
 }
 
 // The same state behind more text.
-pub fn placed(mut c: Content, at: usize) -> Content
-    ensures { λ r. ⌜ r ≡ behind c at ⌝ }
+pub fn placed(c: &mut [usize; Content::PLACES], at: usize)
+    ensures { λ _. ⌜ contentOf (now (c .exit)) ≡ behind (contentOf (now (c .entry))) at ⌝ }
 {
-    c.at = at;
-    c
+    put_place(c, Content::AT, at);
 }
 
-pub fn next_section(mut c: Content) -> Content
-    ensures { λ r. ⌜ r ≡ asking c ⌝ }
+pub fn next_section(c: &mut [usize; Content::PLACES])
+    ensures { λ _. ⌜ contentOf (now (c .exit)) ≡ asking (contentOf (now (c .entry))) ⌝ }
 {
-    c.section_pending = true;
-    c
+    put_place(c, Content::SECTION, 1);
 }
 
 // Whether a boundary is the reverse of the last one.
@@ -239,15 +254,15 @@ fn cancels(s: &[u8], names: &[u32], digests: &[u32], boundary: Boundary, last: B
 }
 
 // One boundary more.
-fn appended(mut c: Content, boundary: Boundary) -> Content
-    requires { ⌜ (c .count < maxPending) × Small boundary ⌝ }
-    ensures { λ r. ⌜ r ≡ appendedTo c boundary ⌝ }
+fn append(c: &mut [usize; Content::PLACES], boundary: Boundary)
+    requires { ⌜ (contentOf (now c) .count < maxPending) × Small boundary ⌝ }
+    ensures { λ _. ⌜ contentOf (now (c .exit)) ≡ appendedTo (contentOf (now (c .entry))) boundary ⌝ }
 {
     let p = pack(boundary);
-    let n = c.count;
-    c.pending[n] = p;
-    c.count = n + 1;
-    c
+    let n = c[Content::COUNT];
+    let last = Content::FIRST + n;
+    put_place(c, last, p.code as usize);
+    c[Content::COUNT] = n + 1;
 }
 
 // A boundary cancels only a pending last boundary that is its reverse.
@@ -255,45 +270,50 @@ fn push_block_boundary(
     s: &[u8],
     names: &[u32],
     digests: &[u32],
-    mut c: Content,
+    c: &mut [usize; Content::PLACES],
     boundary: Boundary,
-) -> Content
-    requires { ⌜ Named (now s) (now names) × (now digests ≡ digestsAt (now s) (now names)) × Listed (now names) c ×
-        Known (now names) boundary × (length (machine.push (boundaryOf (now s) (now names) boundary)
-        (pendingOf (now s) (now names) c)) ≤ maxPending) ⌝ }
-    ensures { λ r. ⌜ Pushes (now (s .entry)) (now (names .entry)) c boundary r ⌝ }
+)
+    requires { ⌜ Named (now s) (now names) × (now digests ≡ digestsAt (now s) (now names)) ×
+        Listed (now names) (contentOf (now c)) × Known (now names) boundary × (length (machine.push
+        (boundaryOf (now s) (now names) boundary) (pendingOf (now s) (now names) (contentOf (now c)))) ≤ maxPending) ⌝ }
+    ensures { λ _. ⌜ Pushes (now (s .entry)) (now (names .entry)) (contentOf (now (c .entry))) boundary
+        (contentOf (now (c .exit))) ⌝ }
 {
-    let n = c.count;
+    let n = c[Content::COUNT];
     if n == 0 {
-        return appended(c, boundary);
+        append(c, boundary);
+        return;
     }
     let i = n - 1;
-    let p = c.pending[i];
-    let last = unpack(p);
+    let place = Content::FIRST + i;
+    let code = c[place] as u16;
+    let last = unpack(Pending { code });
     let reverse = cancels(s, names, digests, boundary, last);
     if reverse {
-        c.count = i;
-        return c;
+        c[Content::COUNT] = i;
+        return;
     }
-    appended(c, boundary)
+    append(c, boundary);
 }
 
-pub fn begin_extern_c(s: &[u8], names: &[u32], digests: &[u32], c: Content) -> Content
+pub fn begin_extern_c(s: &[u8], names: &[u32], digests: &[u32], c: &mut [usize; Content::PLACES])
     requires { ⌜ Named (now s) (now names) × (now digests ≡ digestsAt (now s) (now names)) ×
-        Standing (now s) (now names) named c ⌝ }
-    ensures { λ r. ⌜ Turns (now (s .entry)) (now (names .entry)) named inside c r ⌝ }
+        Standing (now s) (now names) named (contentOf (now c)) ⌝ }
+    ensures { λ _. ⌜ Turns (now (s .entry)) (now (names .entry)) named inside (contentOf (now (c .entry)))
+        (contentOf (now (c .exit))) ⌝ }
 {
     let boundary = Boundary::Begin(Block::ExternC);
-    push_block_boundary(s, names, digests, c, boundary)
+    push_block_boundary(s, names, digests, c, boundary);
 }
 
-pub fn end_extern_c(s: &[u8], names: &[u32], digests: &[u32], c: Content) -> Content
+pub fn end_extern_c(s: &[u8], names: &[u32], digests: &[u32], c: &mut [usize; Content::PLACES])
     requires { ⌜ Named (now s) (now names) × (now digests ≡ digestsAt (now s) (now names)) ×
-        Standing (now s) (now names) inside c ⌝ }
-    ensures { λ r. ⌜ Turns (now (s .entry)) (now (names .entry)) inside named c r ⌝ }
+        Standing (now s) (now names) inside (contentOf (now c)) ⌝ }
+    ensures { λ _. ⌜ Turns (now (s .entry)) (now (names .entry)) inside named (contentOf (now (c .entry)))
+        (contentOf (now (c .exit))) ⌝ }
 {
     let boundary = Boundary::End(Block::ExternC);
-    push_block_boundary(s, names, digests, c, boundary)
+    push_block_boundary(s, names, digests, c, boundary);
 }
 
 // ---- set_namespace
@@ -310,21 +330,22 @@ fn name_index(s: &[u8], names: &[u32], spaces: Cursor, d: u32) -> u32
 }
 
 // The blocks of the namespace end, innermost first.
-fn end_namespaces(s: &[u8], names: &[u32], digests: &[u32], mut c: Content) -> Content
+fn end_namespaces(s: &[u8], names: &[u32], digests: &[u32], c: &mut [usize; Content::PLACES])
     requires { ⌜ Named (now s) (now names) × (now digests ≡ digestsAt (now s) (now names)) ×
-        Standing (now s) (now names) named c ⌝ }
-    ensures { λ r. ⌜ Turns (now (s .entry)) (now (names .entry)) named (λ _. []) c r ⌝ }
+        Standing (now s) (now names) named (contentOf (now c)) ⌝ }
+    ensures { λ _. ⌜ Turns (now (s .entry)) (now (names .entry)) named (λ _. []) (contentOf (now (c .entry)))
+        (contentOf (now (c .exit))) ⌝ }
 {
-    let spaces = c.spaces;
-    let mut d = c.depth;
+    let at = c[Content::SPACES] as u32;
+    let spaces = Cursor::new(at);
+    let mut d = c[Content::DEPTH] as u32;
     while 0 < d {
         d = d - 1;
         let name = name_index(s, names, spaces, d);
         let block = Block::UserDefinedNamespace(name);
         let boundary = Boundary::End(block);
-        c = push_block_boundary(s, names, digests, c, boundary);
+        push_block_boundary(s, names, digests, c, boundary);
     }
-    c
 }
 
 // The blocks of another begin, outermost first.
@@ -332,25 +353,25 @@ fn begin_namespaces(
     s: &[u8],
     names: &[u32],
     digests: &[u32],
-    mut c: Content,
+    c: &mut [usize; Content::PLACES],
     spaces: Cursor,
     depth: u32,
-) -> Content
+)
     requires { ⌜ Named (now s) (now names) × (now digests ≡ digestsAt (now s) (now names)) ×
-        Standing (now s) (now names) (λ _. []) c ×
+        Standing (now s) (now names) (λ _. []) (contentOf (now c)) ×
         Spaces (now s) (now names) spaces depth (namespaceAt (now s) (now names) spaces depth) ⌝ }
-    ensures { λ r. ⌜ Turns (now (s .entry)) (now (names .entry)) (λ _. [])
-        (λ _. named (namespaceAt (now (s .entry)) (now (names .entry)) spaces depth)) c r ⌝ }
+    ensures { λ _. ⌜ Turns (now (s .entry)) (now (names .entry)) (λ _. [])
+        (λ _. named (namespaceAt (now (s .entry)) (now (names .entry)) spaces depth)) (contentOf (now (c .entry)))
+        (contentOf (now (c .exit))) ⌝ }
 {
     let mut d: u32 = 0;
     while d < depth {
         let name = name_index(s, names, spaces, d);
         let block = Block::UserDefinedNamespace(name);
         let boundary = Boundary::Begin(block);
-        c = push_block_boundary(s, names, digests, c, boundary);
+        push_block_boundary(s, names, digests, c, boundary);
         d = d + 1;
     }
-    c
 }
 
 // The namespace whose indexes stand at a position.
@@ -358,21 +379,27 @@ fn set_spaces(
     s: &[u8],
     names: &[u32],
     digests: &[u32],
-    c: Content,
+    c: &mut [usize; Content::PLACES],
     spaces: Cursor,
     depth: u32,
-) -> Content
+)
     requires { ⌜ Named (now s) (now names) × (now digests ≡ digestsAt (now s) (now names)) ×
-        Standing (now s) (now names) named c ×
+        Standing (now s) (now names) named (contentOf (now c)) ×
         Spaces (now s) (now names) spaces depth (namespaceAt (now s) (now names) spaces depth) ⌝ }
-    ensures { λ r. ⌜ Sets (now (s .entry)) (now (names .entry))
-        (namespaceAt (now (s .entry)) (now (names .entry)) spaces depth) c r ⌝ }
+    ensures { λ _. ⌜ Sets (now (s .entry)) (now (names .entry))
+        (namespaceAt (now (s .entry)) (now (names .entry)) spaces depth) (contentOf (now (c .entry)))
+        (contentOf (now (c .exit))) ⌝ }
 {
-    let ended = end_namespaces(s, names, digests, c);
-    let mut begun = begin_namespaces(s, names, digests, ended, spaces, depth);
-    begun.spaces = spaces;
-    begun.depth = depth;
-    begun
+    let before = c[Content::DEPTH];
+    if before == 0 {
+        if depth == 0 {
+            return;
+        }
+    }
+    end_namespaces(s, names, digests, c);
+    begin_namespaces(s, names, digests, c, spaces, depth);
+    c[Content::SPACES] = spaces.at as usize;
+    c[Content::DEPTH] = depth as usize;
 }
 
 // The namespace of an item.
@@ -381,16 +408,17 @@ pub fn set_namespace(
     names: &[u32],
     items: &[u32],
     digests: &[u32],
-    c: Content,
+    c: &mut [usize; Content::PLACES],
     v: ItemView,
-) -> Content
+)
     requires { ⌜ Whole (now s) (now names) (now items) × (now digests ≡ digestsAt (now s) (now names)) ×
-        Standing (now s) (now names) named c × ItemAt (now s) (now names) (now items) v ⌝ }
-    ensures { λ r. ⌜ Sets (now (s .entry)) (now (names .entry))
-        (itemAt (itemsAt (now (s .entry)) (now (names .entry)) (now (items .entry))) (v .number) .namespace) c r ⌝ }
+        Standing (now s) (now names) named (contentOf (now c)) × ItemAt (now s) (now names) (now items) v ⌝ }
+    ensures { λ _. ⌜ Sets (now (s .entry)) (now (names .entry))
+        (itemAt (itemsAt (now (s .entry)) (now (names .entry)) (now (items .entry))) (v .number) .namespace)
+        (contentOf (now (c .entry))) (contentOf (now (c .exit))) ⌝ }
 {
     let spaces = v.spaces;
-    set_spaces(s, names, digests, c, spaces, v.depth)
+    set_spaces(s, names, digests, c, spaces, v.depth);
 }
 
 // ---- flush_blocks
@@ -438,19 +466,21 @@ fn flush_all(
     s: &[u8],
     t: &[u32; Table::PLACES],
     pool: &[u8; Pool::BYTES],
-    c: Content,
+    c: &[usize; Content::PLACES],
     out: &mut [u8],
 ) -> Flushed
-    requires { ⌜ Lent (now s) (now t) (now pool) × Listed (namesIn (now t)) c ⌝ }
+    requires { ⌜ Lent (now s) (now t) (now pool) × Listed (namesIn (now t)) (contentOf (now c)) ⌝ }
     ensures { λ r. ⌜ Flushing (now (s .entry)) (namesIn (now (t .entry))) (now (out .entry)) (now (out .exit))
-        machine.flushAll c r ⌝ }
+        machine.flushAll (contentOf (now (c .entry))) r ⌝ }
 {
-    let mut at = c.at;
+    let mut at = c[Content::AT];
     let mut section = 0 < at;
+    let count = c[Content::COUNT];
     let mut i: usize = 0;
-    while i < c.count {
-        let p = c.pending[i];
-        let boundary = unpack(p);
+    while i < count {
+        let place = Content::FIRST + i;
+        let code = c[place] as u16;
+        let boundary = unpack(Pending { code });
         at = flush_boundary(s, t, pool, boundary, section, out, at);
         section = is_end(boundary);
         i = i + 1;
@@ -462,18 +492,18 @@ fn flush_blocks(
     s: &[u8],
     t: &[u32; Table::PLACES],
     pool: &[u8; Pool::BYTES],
-    c: Content,
+    c: &[usize; Content::PLACES],
     out: &mut [u8],
 ) -> Flushed
-    requires { ⌜ Lent (now s) (now t) (now pool) × Listed (namesIn (now t)) c ⌝ }
+    requires { ⌜ Lent (now s) (now t) (now pool) × Listed (namesIn (now t)) (contentOf (now c)) ⌝ }
     ensures { λ r. ⌜ Flushing (now (s .entry)) (namesIn (now (t .entry))) (now (out .entry)) (now (out .exit))
-        (λ _ m. machine.flushBlocks m) c r ⌝ }
+        (λ _ m. machine.flushBlocks m) (contentOf (now (c .entry))) r ⌝ }
 {
-    if c.count == 0 {
-        return Flushed {
-            at: c.at,
-            section: c.section_pending,
-        };
+    let count = c[Content::COUNT];
+    if count == 0 {
+        let at = c[Content::AT];
+        let section = 0 < c[Content::SECTION];
+        return Flushed { at, section };
     }
     flush_all(s, t, pool, c, out)
 }
@@ -495,30 +525,31 @@ pub fn prepare(
     s: &[u8],
     t: &[u32; Table::PLACES],
     pool: &[u8; Pool::BYTES],
-    mut c: Content,
+    c: &mut [usize; Content::PLACES],
     out: &mut [u8],
-) -> Content
-    requires { ⌜ Lent (now s) (now t) (now pool) × Listed (namesIn (now t)) c ⌝ }
-    ensures { λ r. ⌜ Prepares (now (s .entry)) (namesIn (now (t .entry))) (now (out .entry)) (now (out .exit)) c r ⌝ }
+)
+    requires { ⌜ Lent (now s) (now t) (now pool) × Listed (namesIn (now t)) (contentOf (now c)) ⌝ }
+    ensures { λ _. ⌜ Prepares (now (s .entry)) (namesIn (now (t .entry))) (now (out .entry)) (now (out .exit))
+        (contentOf (now (c .entry))) (contentOf (now (c .exit))) ⌝ }
 {
     let f = flush_blocks(s, t, pool, c, out);
     let blank = is_blank(f);
     let at = put_when(out, f.at, blank, b"\n");
-    c.at = at;
-    c.count = 0;
-    c.section_pending = false;
-    c
+    c[Content::AT] = at;
+    c[Content::COUNT] = 0;
+    c[Content::SECTION] = 0;
 }
 
 // No namespace is set.
-fn set_none(s: &[u8], t: &[u32], digests: &[u32], c: Content) -> Content
+fn set_none(s: &[u8], t: &[u32], digests: &[u32], c: &mut [usize; Content::PLACES])
     requires { ⌜ Tabled (now s) (now t) × (now digests ≡ digestsAt (now s) (namesIn (now t))) ×
-        Standing (now s) (namesIn (now t)) named c ⌝ }
-    ensures { λ r. ⌜ Sets (now (s .entry)) (namesIn (now (t .entry))) [] c r ⌝ }
+        Standing (now s) (namesIn (now t)) named (contentOf (now c)) ⌝ }
+    ensures { λ _. ⌜ Sets (now (s .entry)) (namesIn (now (t .entry))) [] (contentOf (now (c .entry)))
+        (contentOf (now (c .exit))) ⌝ }
 {
     let n = t[Table::NAMES] as usize;
     let spaces = Cursor::new(0);
-    set_spaces(s, &t[..n], digests, c, spaces, 0)
+    set_spaces(s, &t[..n], digests, c, spaces, 0);
 }
 
 // The end of the text: every block is closed.
@@ -527,14 +558,15 @@ pub fn flush(
     t: &[u32; Table::PLACES],
     pool: &[u8; Pool::BYTES],
     digests: &[u32],
-    c: Content,
+    c: &mut [usize; Content::PLACES],
     out: &mut [u8],
 ) -> usize
     requires { ⌜ Lent (now s) (now t) (now pool) × (now digests ≡ digestsAt (now s) (namesIn (now t))) ×
-        Standing (now s) (namesIn (now t)) named c ⌝ }
-    ensures { λ r. ⌜ Flushes (now (s .entry)) (namesIn (now (t .entry))) (now (out .entry)) (now (out .exit)) c r ⌝ }
+        Standing (now s) (namesIn (now t)) named (contentOf (now c)) ⌝ }
+    ensures { λ r. ⌜ Flushes (now (s .entry)) (namesIn (now (t .entry))) (now (out .entry)) (now (out .exit))
+        (contentOf (now (c .entry))) r ⌝ }
 {
-    let outermost = set_none(s, t, digests, c);
-    let f = flush_blocks(s, t, pool, outermost, out);
+    set_none(s, t, digests, c);
+    let f = flush_blocks(s, t, pool, c, out);
     f.at
 }

@@ -26,6 +26,7 @@ ghost use Rattle.syntax.specs.Items.{itemAt};
 ghost use Rattle.bridge.specs.Write.{writeRustFunctionDecl, writeOpaqueTypeLayoutDecls, layoutDefinition};
 ghost use Rattle.bridge.specs.Write.{writeOpaqueTypeLayout};
 ghost use Rattle.names.specs.Digests.{digestsAt};
+ghost use Rattle.out.specs.State.{contentOf};
 ghost use Rattle.sections.specs.Runs.{Representing, Runs, hiddenForm, sectionOf, shimSection, sheetOf};
 ghost use Rattle.summary.specs.Summaries.{Summaries};
 ghost use Rattle.tables.specs.Tables.{namesIn, itemsOf, functionOf, Item, Lent};
@@ -40,26 +41,27 @@ pub fn write_rust_function_decl(
     v: ItemView,
     kept: &[u32],
     offsets: &mut [u32],
-    c: Content,
+    c: &mut [usize; Content::PLACES],
     out: &mut [u8],
-) -> Content
+)
     requires { ⌜ Lent (now s) (now t) (now pool) × (now digests ≡ digestsAt (now s) (namesIn (now t))) ×
         Item (now s) (now t) v × (v .kind ≡ RustFunction) × Summaries (now s) (now t) (now kept) ×
-        (36 ≤ length (now offsets)) × Representing (now s) (namesIn (now t)) (now out) c ⌝ }
-    ensures { λ r. ⌜ Runs (now (s .entry)) (namesIn (now (t .entry))) (now (out .entry)) (now (out .exit))
+        (36 ≤ length (now offsets)) × Representing (now s) (namesIn (now t)) (now out) (contentOf (now c)) ⌝ }
+    ensures { λ _. ⌜ Runs (now (s .entry)) (namesIn (now (t .entry))) (now (out .entry)) (now (out .exit))
         (writeRustFunctionDecl (itemsOf (now (s .entry)) (now (t .entry)))
         (itemAt (itemsOf (now (s .entry)) (now (t .entry))) (v .number))
-        (functionOf (now (s .entry)) (now (t .entry)) (v .number))) c r ⌝ }
+        (functionOf (now (s .entry)) (now (t .entry)) (v .number))) (contentOf (now (c .entry)))
+        (contentOf (now (c .exit))) ⌝ }
 {
     let f = function(s, t, v);
     load_summary(s, t, f, kept, offsets);
-    let inside = set_namespace(s, t, digests, c, v);
-    let begun = begin_extern_c(s, t, digests, inside);
-    let asked = next_section(begun);
-    let ready = prepare(s, t, pool, asked, out);
-    let at = write_function_decl(s, t, pool, v, f, offsets, out, ready.at);
-    let written = placed(ready, at);
-    end_extern_c(s, t, digests, written)
+    set_namespace(s, t, digests, c, v);
+    begin_extern_c(s, t, digests, c);
+    next_section(c);
+    prepare(s, t, pool, c, out);
+    let at = write_function_decl(s, t, pool, v, f, offsets, out, c[Content::AT]);
+    placed(c, at);
+    end_extern_c(s, t, digests, c);
 }
 
 pub fn write_opaque_type_layout_decls(
@@ -68,22 +70,23 @@ pub fn write_opaque_type_layout_decls(
     pool: &[u8; Pool::BYTES],
     digests: &[u32],
     v: ItemView,
-    c: Content,
+    c: &mut [usize; Content::PLACES],
     out: &mut [u8],
-) -> Content
+)
     requires { ⌜ Lent (now s) (now t) (now pool) × (now digests ≡ digestsAt (now s) (namesIn (now t))) ×
-        Item (now s) (now t) v × Representing (now s) (namesIn (now t)) (now out) c ⌝ }
-    ensures { λ r. ⌜ Runs (now (s .entry)) (namesIn (now (t .entry))) (now (out .entry)) (now (out .exit))
+        Item (now s) (now t) v × Representing (now s) (namesIn (now t)) (now out) (contentOf (now c)) ⌝ }
+    ensures { λ _. ⌜ Runs (now (s .entry)) (namesIn (now (t .entry))) (now (out .entry)) (now (out .exit))
         (writeOpaqueTypeLayoutDecls
-        (itemAt (itemsOf (now (s .entry)) (now (t .entry))) (v .number))) c r ⌝ }
+        (itemAt (itemsOf (now (s .entry)) (now (t .entry))) (v .number))) (contentOf (now (c .entry)))
+        (contentOf (now (c .exit))) ⌝ }
 {
-    let inside = set_namespace(s, t, digests, c, v);
-    let begun = begin_extern_c(s, t, digests, inside);
-    let ready = prepare(s, t, pool, begun, out);
-    let next = write_layout_decl(s, t, pool, v, b"sizeof", out, ready.at);
+    set_namespace(s, t, digests, c, v);
+    begin_extern_c(s, t, digests, c);
+    prepare(s, t, pool, c, out);
+    let next = write_layout_decl(s, t, pool, v, b"sizeof", out, c[Content::AT]);
     let at = write_layout_decl(s, t, pool, v, b"alignof", out, next);
-    let written = placed(ready, at);
-    end_extern_c(s, t, digests, written)
+    placed(c, at);
+    end_extern_c(s, t, digests, c);
 }
 
 // ---- definitions
@@ -96,20 +99,21 @@ fn write_layout(
     v: ItemView,
     member: &[u8],
     name: &[u8],
-    c: Content,
+    c: &mut [usize; Content::PLACES],
     out: &mut [u8],
-) -> Content
+)
     requires { ⌜ Lent (now s) (now t) (now pool) × Item (now s) (now t) v ×
-        Representing (now s) (namesIn (now t)) (now out) c ⌝ }
-    ensures { λ r. ⌜ Runs (now (s .entry)) (namesIn (now (t .entry))) (now (out .entry)) (now (out .exit))
+        Representing (now s) (namesIn (now t)) (now out) (contentOf (now c)) ⌝ }
+    ensures { λ _. ⌜ Runs (now (s .entry)) (namesIn (now (t .entry))) (now (out .entry)) (now (out .exit))
         (sectionOf (layoutDefinition
         (itemAt (itemsOf (now (s .entry)) (now (t .entry))) (v .number))
-        (now (member .entry)) (now (name .entry)))) c r ⌝ }
+        (now (member .entry)) (now (name .entry)))) (contentOf (now (c .entry)))
+        (contentOf (now (c .exit))) ⌝ }
 {
-    let asked = next_section(c);
-    let ready = prepare(s, t, pool, asked, out);
-    let at = write_layout_definition(s, t, pool, v, member, name, out, ready.at);
-    placed(ready, at)
+    next_section(c);
+    prepare(s, t, pool, c, out);
+    let at = write_layout_definition(s, t, pool, v, member, name, out, c[Content::AT]);
+    placed(c, at);
 }
 
 pub fn write_opaque_type_layout(
@@ -118,18 +122,19 @@ pub fn write_opaque_type_layout(
     pool: &[u8; Pool::BYTES],
     digests: &[u32],
     v: ItemView,
-    c: Content,
+    c: &mut [usize; Content::PLACES],
     out: &mut [u8],
-) -> Content
+)
     requires { ⌜ Lent (now s) (now t) (now pool) × (now digests ≡ digestsAt (now s) (namesIn (now t))) ×
-        Item (now s) (now t) v × Representing (now s) (namesIn (now t)) (now out) c ⌝ }
-    ensures { λ r. ⌜ Runs (now (s .entry)) (namesIn (now (t .entry))) (now (out .entry)) (now (out .exit))
+        Item (now s) (now t) v × Representing (now s) (namesIn (now t)) (now out) (contentOf (now c)) ⌝ }
+    ensures { λ _. ⌜ Runs (now (s .entry)) (namesIn (now (t .entry))) (now (out .entry)) (now (out .exit))
         (writeOpaqueTypeLayout false
-        (itemAt (itemsOf (now (s .entry)) (now (t .entry))) (v .number))) c r ⌝ }
+        (itemAt (itemsOf (now (s .entry)) (now (t .entry))) (v .number))) (contentOf (now (c .entry)))
+        (contentOf (now (c .exit))) ⌝ }
 {
-    let inside = set_namespace(s, t, digests, c, v);
-    let size = write_layout(s, t, pool, v, b"size", b"sizeof", inside, out);
-    write_layout(s, t, pool, v, b"align", b"alignof", size, out)
+    set_namespace(s, t, digests, c, v);
+    write_layout(s, t, pool, v, b"size", b"sizeof", c, out);
+    write_layout(s, t, pool, v, b"align", b"alignof", c, out);
 }
 
 fn is_hidden(header: bool, form: u32) -> bool
@@ -152,27 +157,28 @@ pub fn write_rust_function_shim(
     v: ItemView,
     kept: &[u32],
     offsets: &mut [u32],
-    c: Content,
+    c: &mut [usize; Content::PLACES],
     out: &mut [u8],
-) -> Content
+)
     requires { ⌜ Lent (now s) (now t) (now pool) × (now digests ≡ digestsAt (now s) (namesIn (now t))) ×
         Item (now s) (now t) v × (v .kind ≡ RustFunction) × Summaries (now s) (now t) (now kept) ×
-        (36 ≤ length (now offsets)) × Representing (now s) (namesIn (now t)) (now out) c ⌝ }
-    ensures { λ r. ⌜ Runs (now (s .entry)) (namesIn (now (t .entry))) (now (out .entry)) (now (out .exit))
+        (36 ≤ length (now offsets)) × Representing (now s) (namesIn (now t)) (now out) (contentOf (now c)) ⌝ }
+    ensures { λ _. ⌜ Runs (now (s .entry)) (namesIn (now (t .entry))) (now (out .entry)) (now (out .exit))
         (shimSection
         (sheetOf header doxygen (itemsOf (now (s .entry)) (now (t .entry))))
         (itemAt (itemsOf (now (s .entry)) (now (t .entry))) (v .number))
-        (functionOf (now (s .entry)) (now (t .entry)) (v .number))) c r ⌝ }
+        (functionOf (now (s .entry)) (now (t .entry)) (v .number))) (contentOf (now (c .entry)))
+        (contentOf (now (c .exit))) ⌝ }
 {
     let f = function(s, t, v);
     let comment = load_summary(s, t, f, kept, offsets);
-    let asked = next_section(c);
-    let inside = set_namespace(s, t, digests, asked, v);
+    next_section(c);
+    set_namespace(s, t, digests, c, v);
     let hidden = is_hidden(header, f.form);
     if hidden {
-        return inside;
+        return;
     }
-    let ready = prepare(s, t, pool, inside, out);
+    prepare(s, t, pool, c, out);
     let at = write_function_shim(
         s,
         t,
@@ -184,7 +190,7 @@ pub fn write_rust_function_shim(
         offsets,
         comment,
         out,
-        ready.at,
+        c[Content::AT],
     );
-    placed(ready, at)
+    placed(c, at);
 }

@@ -21,6 +21,7 @@ ghost use Rattle.sink.specs.Sink.{sink, Wrote};
 ghost use Rattle.syntax.specs.Items.{itemAt};
 ghost use Rattle.bridge.specs.Write.{forEach, writeFunctions, text};
 ghost use Rattle.names.specs.Digests.{digestsAt};
+ghost use Rattle.out.specs.State.{contentOf};
 ghost use Rattle.sections.specs.Runs.{Representing, Runs, sheetOf};
 ghost use Rattle.write.specs.Passes.{declareItem, defineItem, Begins, Ends};
 ghost use Rattle.summary.specs.Summaries.{Summaries};
@@ -37,27 +38,30 @@ fn declare(
     i: u32,
     kept: &[u32],
     offsets: &mut [u32],
-    c: Content,
+    c: &mut [usize; Content::PLACES],
     out: &mut [u8],
-) -> Content
+)
     requires { ⌜ Lent (now s) (now t) (now pool) × (now digests ≡ digestsAt (now s) (namesIn (now t))) ×
         (i < length (itemsIn (now t))) × Summaries (now s) (now t) (now kept) × (36 ≤ length (now offsets)) ×
-        Representing (now s) (namesIn (now t)) (now out) c ⌝ }
-    ensures { λ r. ⌜ Runs (now (s .entry)) (namesIn (now (t .entry))) (now (out .entry)) (now (out .exit))
+        Representing (now s) (namesIn (now t)) (now out) (contentOf (now c)) ⌝ }
+    ensures { λ _. ⌜ Runs (now (s .entry)) (namesIn (now (t .entry))) (now (out .entry)) (now (out .exit))
         (declareItem (itemsOf (now (s .entry)) (now (t .entry)))
-        (itemAt (itemsOf (now (s .entry)) (now (t .entry))) i)) c r ⌝ }
+        (itemAt (itemsOf (now (s .entry)) (now (t .entry))) i)) (contentOf (now (c .entry)))
+        (contentOf (now (c .exit))) ⌝ }
 {
     let v = item(s, t, i);
     let kind = v.kind;
     match kind {
         ItemKind::RustFunction => {
-            write_rust_function_decl(s, t, pool, digests, v, kept, offsets, c, out)
+            write_rust_function_decl(s, t, pool, digests, v, kept, offsets, c, out);
         }
-        ItemKind::RustType => write_opaque_type_layout_decls(s, t, pool, digests, v, c, out),
-        ItemKind::Struct => c,
-        ItemKind::Enum => c,
-        ItemKind::CxxType => c,
-        ItemKind::Bad => c,
+        ItemKind::RustType => {
+            write_opaque_type_layout_decls(s, t, pool, digests, v, c, out);
+        }
+        ItemKind::Struct => {}
+        ItemKind::Enum => {}
+        ItemKind::CxxType => {}
+        ItemKind::Bad => {}
     }
 }
 
@@ -72,42 +76,45 @@ fn define(
     i: u32,
     kept: &[u32],
     offsets: &mut [u32],
-    c: Content,
+    c: &mut [usize; Content::PLACES],
     out: &mut [u8],
-) -> Content
+)
     requires { ⌜ Lent (now s) (now t) (now pool) × (now digests ≡ digestsAt (now s) (namesIn (now t))) ×
         (i < length (itemsIn (now t))) × Summaries (now s) (now t) (now kept) × (36 ≤ length (now offsets)) ×
-        Representing (now s) (namesIn (now t)) (now out) c ⌝ }
-    ensures { λ r. ⌜ Runs (now (s .entry)) (namesIn (now (t .entry))) (now (out .entry)) (now (out .exit))
+        Representing (now s) (namesIn (now t)) (now out) (contentOf (now c)) ⌝ }
+    ensures { λ _. ⌜ Runs (now (s .entry)) (namesIn (now (t .entry))) (now (out .entry)) (now (out .exit))
         (defineItem (sheetOf header doxygen (itemsOf (now (s .entry)) (now (t .entry))))
-        (itemAt (itemsOf (now (s .entry)) (now (t .entry))) i)) c r ⌝ }
+        (itemAt (itemsOf (now (s .entry)) (now (t .entry))) i)) (contentOf (now (c .entry)))
+        (contentOf (now (c .exit))) ⌝ }
 {
     let v = item(s, t, i);
     let kind = v.kind;
     match kind {
-        ItemKind::RustFunction => write_rust_function_shim(
-            s,
-            t,
-            pool,
-            digests,
-            header,
-            doxygen,
-            v,
-            kept,
-            offsets,
-            c,
-            out,
-        ),
+        ItemKind::RustFunction => {
+            write_rust_function_shim(
+                s,
+                t,
+                pool,
+                digests,
+                header,
+                doxygen,
+                v,
+                kept,
+                offsets,
+                c,
+                out,
+            );
+        }
         ItemKind::RustType => {
             if header {
-                return c;
+                return;
             }
-            write_opaque_type_layout(s, t, pool, digests, v, c, out)
+            write_opaque_type_layout(s, t, pool, digests, v, c, out);
         }
-        ItemKind::Struct => c,
-        ItemKind::Enum => c,
-        ItemKind::CxxType => c,
-        ItemKind::Bad => c,
+        ItemKind::Struct => {}
+        ItemKind::Enum => {}
+        ItemKind::CxxType => {}
+        ItemKind::Bad => {}
     }
 }
 
@@ -118,23 +125,23 @@ fn declare_all(
     digests: &[u32],
     kept: &[u32],
     offsets: &mut [u32],
-    mut c: Content,
+    c: &mut [usize; Content::PLACES],
     out: &mut [u8],
-) -> Content
+)
     requires { ⌜ Lent (now s) (now t) (now pool) × (now digests ≡ digestsAt (now s) (namesIn (now t))) ×
         Summaries (now s) (now t) (now kept) × (36 ≤ length (now offsets)) ×
-        Representing (now s) (namesIn (now t)) (now out) c ⌝ }
-    ensures { λ r. ⌜ Runs (now (s .entry)) (namesIn (now (t .entry))) (now (out .entry)) (now (out .exit))
+        Representing (now s) (namesIn (now t)) (now out) (contentOf (now c)) ⌝ }
+    ensures { λ _. ⌜ Runs (now (s .entry)) (namesIn (now (t .entry))) (now (out .entry)) (now (out .exit))
         (forEach (declareItem (itemsOf (now (s .entry)) (now (t .entry))))
-        (itemsOf (now (s .entry)) (now (t .entry)))) c r ⌝ }
+        (itemsOf (now (s .entry)) (now (t .entry)))) (contentOf (now (c .entry)))
+        (contentOf (now (c .exit))) ⌝ }
 {
     let n = t[Table::ITEMS];
     let mut i: u32 = 0;
     while i < n {
-        c = declare(s, t, pool, digests, i, kept, offsets, c, out);
+        declare(s, t, pool, digests, i, kept, offsets, c, out);
         i = i + 1;
     }
-    c
 }
 
 fn define_all(
@@ -146,21 +153,22 @@ fn define_all(
     doxygen: bool,
     kept: &[u32],
     offsets: &mut [u32],
-    mut c: Content,
+    c: &mut [usize; Content::PLACES],
     out: &mut [u8],
-) -> Content
+)
     requires { ⌜ Lent (now s) (now t) (now pool) × (now digests ≡ digestsAt (now s) (namesIn (now t))) ×
         Summaries (now s) (now t) (now kept) × (36 ≤ length (now offsets)) ×
-        Representing (now s) (namesIn (now t)) (now out) c ⌝ }
-    ensures { λ r. ⌜ Runs (now (s .entry)) (namesIn (now (t .entry))) (now (out .entry)) (now (out .exit))
+        Representing (now s) (namesIn (now t)) (now out) (contentOf (now c)) ⌝ }
+    ensures { λ _. ⌜ Runs (now (s .entry)) (namesIn (now (t .entry))) (now (out .entry)) (now (out .exit))
         (forEach (defineItem (sheetOf header doxygen
         (itemsOf (now (s .entry)) (now (t .entry)))))
-        (itemsOf (now (s .entry)) (now (t .entry)))) c r ⌝ }
+        (itemsOf (now (s .entry)) (now (t .entry)))) (contentOf (now (c .entry)))
+        (contentOf (now (c .exit))) ⌝ }
 {
     let count = t[Table::ITEMS];
     let mut i: u32 = 0;
     while i < count {
-        c = define(
+        define(
             s,
             t,
             pool,
@@ -175,7 +183,6 @@ fn define_all(
         );
         i = i + 1;
     }
-    c
 }
 
 // A header has no declarations.
@@ -188,45 +195,35 @@ fn write_functions(
     doxygen: bool,
     kept: &[u32],
     offsets: &mut [u32],
-    c: Content,
+    c: &mut [usize; Content::PLACES],
     out: &mut [u8],
-) -> Content
+)
     requires { ⌜ Lent (now s) (now t) (now pool) × (now digests ≡ digestsAt (now s) (namesIn (now t))) ×
         Summaries (now s) (now t) (now kept) × (36 ≤ length (now offsets)) ×
-        Representing (now s) (namesIn (now t)) (now out) c ⌝ }
-    ensures { λ r. ⌜ Runs (now (s .entry)) (namesIn (now (t .entry))) (now (out .entry)) (now (out .exit))
+        Representing (now s) (namesIn (now t)) (now out) (contentOf (now c)) ⌝ }
+    ensures { λ _. ⌜ Runs (now (s .entry)) (namesIn (now (t .entry))) (now (out .entry)) (now (out .exit))
         (writeFunctions (sheetOf header doxygen (itemsOf (now (s .entry)) (now (t .entry)))))
-        c r ⌝ }
+        (contentOf (now (c .entry))) (contentOf (now (c .exit))) ⌝ }
 {
     if header {
-        return define_all(s, t, pool, digests, header, doxygen, kept, offsets, c, out);
+        define_all(s, t, pool, digests, header, doxygen, kept, offsets, c, out);
+        return;
     }
-    let declared = declare_all(s, t, pool, digests, kept, offsets, c, out);
-    define_all(
-        s,
-        t,
-        pool,
-        digests,
-        header,
-        doxygen,
-        kept,
-        offsets,
-        declared,
-        out,
-    )
+    declare_all(s, t, pool, digests, kept, offsets, c, out);
+    define_all(s, t, pool, digests, header, doxygen, kept, offsets, c, out);
 }
 
 // ---- the text
 
 // The state behind the forward declarations: a section is pending where there are none.
-fn behind_forward(at: usize) -> Content
-    ensures { λ r. ⌜ Begins at r ⌝ }
+fn behind_forward(at: usize, c: &mut [usize; Content::PLACES])
+    ensures { λ _. ⌜ Begins at (contentOf (now (c .exit))) ⌝ }
 {
-    let c = placed(Content::new(), at);
+    Content::new(c);
+    placed(c, at);
     if at == 0 {
-        return next_section(c);
+        next_section(c);
     }
-    c
 }
 
 // What stands behind the forward declarations.
@@ -238,17 +235,17 @@ fn write_body(
     header: bool,
     doxygen: bool,
     kept: &[u32],
-    c: Content,
+    c: &mut [usize; Content::PLACES],
     out: &mut [u8],
 ) -> usize
     requires { ⌜ Lent (now s) (now t) (now pool) × (now digests ≡ digestsAt (now s) (namesIn (now t))) ×
-        Summaries (now s) (now t) (now kept) × Representing (now s) (namesIn (now t)) (now out) c ⌝ }
+        Summaries (now s) (now t) (now kept) × Representing (now s) (namesIn (now t)) (now out) (contentOf (now c)) ⌝ }
     ensures { λ r. ⌜ Ends (now (s .entry)) (namesIn (now (t .entry))) (now (out .entry)) (now (out .exit))
         (writeFunctions (sheetOf header doxygen (itemsOf (now (s .entry)) (now (t .entry)))))
-        c r ⌝ }
+        (contentOf (now (c .entry))) r ⌝ }
 {
     let mut offsets = [0u32; Words::MOST];
-    let written = write_functions(
+    write_functions(
         s,
         t,
         pool,
@@ -260,7 +257,7 @@ fn write_body(
         c,
         out,
     );
-    flush(s, t, pool, digests, written, out)
+    flush(s, t, pool, digests, c, out)
 }
 
 // The text, from the buffer's first byte on; the answer is the place behind it.
@@ -281,6 +278,7 @@ pub fn write_text(
         (sink (now (out .exit)) r) ⌝ }
 {
     let at = write_forward_declarations(s, t, pool, digests, out, 0);
-    let c = behind_forward(at);
-    write_body(s, t, pool, digests, header, doxygen, kept, c, out)
+    let mut c = [0usize; Content::PLACES];
+    behind_forward(at, &mut c);
+    write_body(s, t, pool, digests, header, doxygen, kept, &mut c, out)
 }

@@ -1,4 +1,4 @@
--- Written by tools/proofkit from answers/begin_extern_c.tpl (e1434f12 2f4c0651).
+-- Written by tools/proofkit from answers/begin_extern_c.tpl (e1434f12 dcdb828f).
 use borrow.Author.Needs.{needs}
 use native.Mathlib.Omega.{arith}
 use mathlib.Core.Path.{sym}
@@ -11,10 +11,10 @@ slice-aggregate-begin-extern-c : tie.Need-slice-aggregate-begin-extern-c
 slice-aggregate-begin-extern-c c = sym (length-take-le _ _ (omega (arith, c .before .before .before .before .before .pre .0 .names, c .before .before .before .before .before .pre .0 .long)))
 
 begin-extern-c-requires : tie.Need-begin-extern-c-requires
-begin-extern-c-requires c κs = rw (names-part (c .before .before .before .before .before .args .t .now)) (c .before .before .before .before .before .pre .0 .whole .named, c .before .before .before .before .before .pre .1, c .before .before .before .before .before .pre .2)
+begin-extern-c-requires c κs = rw (names-part (c .before .before .before .before .before .before .args .t .now)) (c .before .before .before .before .before .before .pre .0 .whole .named, c .before .before .before .before .before .before .pre .1, c .before .before .before .before .before .before .pre .2)
 
 returns : tie.Need-returns
-returns c = rw (names-part (c .before .before .before .before .before .before .args .t .now)) at (c .begin-extern-c .ensures)
+returns c = rw (names-part (c .before .before .before .before .before .before .before .args .t .now)) at (c .begin-extern-c .ensures)
 
 pub begin-extern-c-spec : {M : Type 1} → statement M
 begin-extern-c-spec =

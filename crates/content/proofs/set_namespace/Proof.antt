@@ -1,4 +1,4 @@
--- Written by tools/proofkit from answers/set_namespace.tpl (12ac17e9 632b2391).
+-- Written by tools/proofkit from answers/set_namespace.tpl (12ac17e9 94f4c0a7).
 use borrow.Author.Needs.{needs}
 use native.Mathlib.Omega.{arith}
 use mathlib.Core.Path.{sym}
@@ -11,10 +11,10 @@ slice-aggregate-set-namespace : tie.Need-slice-aggregate-set-namespace
 slice-aggregate-set-namespace c = sym (length-take-le _ _ (omega (arith, c .before .before .before .before .before .before .pre .0 .names, c .before .before .before .before .before .before .pre .0 .long)))
 
 set-namespace-requires : tie.Need-set-namespace-requires
-set-namespace-requires c κs = rw (names-part (c .before .before .before .before .before .before .before .args .t .now), items-part (c .before .before .before .before .before .before .before .args .t .now)) (c .before .before .before .before .before .before .before .pre .0 .whole, c .before .before .before .before .before .before .before .pre .1, c .before .before .before .before .before .before .before .pre .2, c .before .before .before .before .before .before .before .pre .3)
+set-namespace-requires c κs = rw (names-part (c .before .before .before .before .before .before .before .before .args .t .now), items-part (c .before .before .before .before .before .before .before .before .args .t .now)) (c .before .before .before .before .before .before .before .before .pre .0 .whole, c .before .before .before .before .before .before .before .before .pre .1, c .before .before .before .before .before .before .before .before .pre .2, c .before .before .before .before .before .before .before .before .pre .3)
 
 returns : tie.Need-returns
-returns c = rw (names-part (c .before .before .before .before .before .before .before .before .args .t .now), items-part (c .before .before .before .before .before .before .before .before .args .t .now)) at (c .set-namespace .ensures)
+returns c = rw (names-part (c .before .before .before .before .before .before .before .before .before .args .t .now), items-part (c .before .before .before .before .before .before .before .before .before .args .t .now)) at (c .set-namespace .ensures)
 
 pub set-namespace-spec : {M : Type 1} → statement M
 set-namespace-spec =

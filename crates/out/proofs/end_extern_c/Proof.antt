@@ -1,10 +1,10 @@
--- Written by tools/proofkit from answers/end_extern_c.tpl (b2687355 a8dcc300).
+-- Written by tools/proofkit from answers/end_extern_c.tpl (b2687355 61655a22).
 use Rattle.out.proofs.StateLaws.{end-extern-c-room, ends-extern-c}
 use Rattle.out.proofs.end_extern_c.Statement.{statement}
 use Rattle.out.proofs.end_extern_c.Tie as tie
 
 push-block-boundary-requires : tie.Need-push-block-boundary-requires
-push-block-boundary-requires c κs = (c .before .before .before .pre .0, c .before .before .before .pre .1, c .before .before .before .pre .2 .there .stands .listed, tt, end-extern-c-room (c .before .before .before .pre .2))
+push-block-boundary-requires c κs = (c .before .before .before .before .pre .0, c .before .before .before .before .pre .1, c .before .before .before .before .pre .2 .there .stands .listed, tt, end-extern-c-room (c .before .before .before .before .pre .2))
 
 returns : tie.Need-returns
 returns c = ends-extern-c (c .push-block-boundary .ensures)

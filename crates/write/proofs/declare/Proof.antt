@@ -1,4 +1,4 @@
--- Written by tools/proofkit from answers/declare.tpl (f7db3dd1 2878a185).
+-- Written by tools/proofkit from answers/declare.tpl (f7db3dd1 f1326f68).
 use borrow.Author.Needs.{needs}
 use Rattle.view.specs.Values.{functionAt}
 use Rattle.sections.proofs.StateLaws.{runs-none}
@@ -8,10 +8,10 @@ use Rattle.write.proofs.declare.Tie as tie
 
 returns : tie.Need-returns
 unfolding functionAt
-returns c = declared-at (c .before .before .before .before .before .before .before .before .before .item .ensures .0) _ (c .before .before .before .before .before .before .before .before .before .item .ensures .1 .view .kind) (c .before .before .before .before .before .before .before .enum-told .given .1) (c .before .before .before .before .write-rust-function-decl .ensures)
+returns c = declared-at (c .before .before .before .before .before .before .before .before .before .before .item .ensures .0) _ (c .before .before .before .before .before .before .before .before .before .before .item .ensures .1 .view .kind) (c .before .before .before .before .before .before .before .before .enum-told .given .1) (c .before .before .before .before .write-rust-function-decl .ensures)
 
 returns-2 : tie.Need-returns-2
-returns-2 c = declared-at (c .before .before .before .before .before .before .item .ensures .0) _ (c .before .before .before .before .before .before .item .ensures .1 .view .kind) (c .before .before .before .before .enum-told2 .given .1) (c .before .before .write-opaque-type-layout-decls .ensures)
+returns-2 c = declared-at (c .before .before .before .before .before .before .before .item .ensures .0) _ (c .before .before .before .before .before .before .before .item .ensures .1 .view .kind) (c .before .before .before .before .before .enum-told2 .given .1) (c .before .before .write-opaque-type-layout-decls .ensures)
 
 returns-3 : tie.Need-returns-3
 returns-3 c = declared-at (c .before .before .item .ensures .0) _ (c .before .before .item .ensures .1 .view .kind) (c .enum-told3 .given .1) runs-none

@@ -1,4 +1,4 @@
--- Written by tools/proofkit from answers/define.tpl (fee89b88 3634454d).
+-- Written by tools/proofkit from answers/define.tpl (fee89b88 9b644c99).
 use borrow.Author.Needs.{needs}
 use Rattle.view.specs.Values.{functionAt}
 use Rattle.sections.proofs.StateLaws.{runs-none}
@@ -11,10 +11,10 @@ returns c = defined-at (c .before .before .before .item .ensures .0) _ (c .befor
 
 returns-2 : tie.Need-returns-2
 unfolding functionAt
-returns-2 c = defined-at (c .before .before .before .before .before .before .before .before .before .item .ensures .0) _ (c .before .before .before .before .before .before .before .before .before .item .ensures .1 .view .kind) (c .before .before .before .before .before .before .before .enum-told .given .1) (c .before .before .before .before .write-rust-function-shim .ensures)
+returns-2 c = defined-at (c .before .before .before .before .before .before .before .before .before .before .item .ensures .0) _ (c .before .before .before .before .before .before .before .before .before .before .item .ensures .1 .view .kind) (c .before .before .before .before .before .before .before .before .enum-told .given .1) (c .before .before .before .before .write-rust-function-shim .ensures)
 
 returns-3 : tie.Need-returns-3
-returns-3 c = defined-at (c .before .before .before .before .before .before .before .item .ensures .0) _ (c .before .before .before .before .before .before .before .item .ensures .1 .view .kind) (c .before .before .before .before .before .enum-told2 .given .1) (layout-shown _ (c .before .before .before .before .if1 .left) (c .before .before .write-opaque-type-layout .ensures))
+returns-3 c = defined-at (c .before .before .before .before .before .before .before .before .item .ensures .0) _ (c .before .before .before .before .before .before .before .before .item .ensures .1 .view .kind) (c .before .before .before .before .before .before .enum-told2 .given .1) (layout-shown _ (c .before .before .before .before .before .if1 .left) (c .before .before .write-opaque-type-layout .ensures))
 
 returns-4 : tie.Need-returns-4
 returns-4 c = defined-at (c .before .before .item .ensures .0) _ (c .before .before .item .ensures .1 .view .kind) (c .enum-told3 .given .1) runs-none

@@ -1,10 +1,11 @@
--- Written by tools/proofkit from answers/define_all.tpl (bc33fa11 bbfbb7b3).
+-- Written by tools/proofkit from answers/define_all.tpl (d6824bc1 9123d20d).
 use borrow.Author.Needs.{needs}
 use native.Mathlib.Omega.{arith}
 use mathlib.Core.Path.{_≡_, refl}
 use Prim.Native.Nat.{_-_}
 use lib.ListN.{length}
 use Rattle.sections.specs.Runs.{sheetOf}
+use Rattle.out.specs.State.{contentOf}
 use Rattle.sections.proofs.StateLaws.{representing-after}
 use Rattle.write.specs.Passes.{defineItem}
 use Rattle.write.proofs.PassLaws.{Passed, pass-none, pass-next, pass-all}
@@ -14,7 +15,7 @@ use Rattle.write.proofs.define_all.Statement.{statement}
 use Rattle.write.proofs.define_all.Tie as tie
 
 abbrev Inv-loop : tie.InvT-loop
-Inv-loop s t pool digests header doxygen kept offsets₀ c₀ out₀ count i₀ offsets c out i = Passed s (namesIn t) (itemsIn t) (defineItem (sheetOf header doxygen (itemsOf s t))) out₀ out c₀ c i × (length offsets ≡ length offsets₀) × (length out ≡ length out₀)
+Inv-loop s t pool digests header doxygen kept offsets₀ c₀ out₀ count i₀ offsets c out i = Passed s (namesIn t) (itemsIn t) (defineItem (sheetOf header doxygen (itemsOf s t))) out₀ out (contentOf c₀) (contentOf c) i × (length offsets ≡ length offsets₀) × (length out ≡ length out₀)
 
 abbrev μ-loop : tie.MeasureT-loop
 μ-loop s t pool digests header doxygen kept offsets₀ c₀ out₀ count i₀ offsets c out i = length (itemsIn t) - i
@@ -23,16 +24,16 @@ loop-holds : tie.Need-loop-holds Inv-loop μ-loop
 loop-holds c = (pass-none _ _ _ _ _ _, refl, refl)
 
 define-requires : tie.Need-define-requires Inv-loop μ-loop
-define-requires c κs = (c .before .before .before .before .before .before .before .before .before .before .pre .0, c .before .before .before .before .before .before .before .before .before .before .pre .1, omega (arith, items-count (c .before .before .before .before .before .before .before .before .before .before .pre .0 .tabled), c .before .before .loop-test .taken), c .before .before .before .before .before .before .before .before .before .before .pre .2, omega (arith, c .before .before .before .loop .inv .1, c .before .before .before .before .before .before .before .before .before .before .pre .3), representing-after (c .before .before .before .before .before .before .before .before .before .before .pre .4) (c .before .before .before .loop .inv .0 .runs))
+define-requires c κs = (c .before .before .before .before .before .before .before .before .before .before .before .pre .0, c .before .before .before .before .before .before .before .before .before .before .before .pre .1, omega (arith, items-count (c .before .before .before .before .before .before .before .before .before .before .before .pre .0 .tabled), c .before .before .before .loop-test .taken), c .before .before .before .before .before .before .before .before .before .before .before .pre .2, omega (arith, c .before .before .before .before .loop .inv .1, c .before .before .before .before .before .before .before .before .before .before .before .pre .3), representing-after (c .before .before .before .before .before .before .before .before .before .before .before .pre .4) (c .before .before .before .before .loop .inv .0 .runs))
 
 add-i : tie.Need-add-i Inv-loop μ-loop
-add-i c = omega (arith, items-count (c .before .before .before .before .before .before .before .before .before .before .before .before .before .before .before .pre .0 .tabled), c .before .before .before .before .before .before .before .loop-test .taken, c .before .before .before .before .before .before .before .before .before .before .before .before .before .before .before .pre .0 .tabled .whole .few)
+add-i c = omega (arith, items-count (c .before .before .before .before .before .before .before .before .before .before .before .before .before .before .before .before .pre .0 .tabled), c .before .before .before .before .before .before .before .before .loop-test .taken, c .before .before .before .before .before .before .before .before .before .before .before .before .before .before .before .before .pre .0 .tabled .whole .few)
 
 loop-less : tie.Need-loop-less Inv-loop μ-loop
-loop-less c = omega (arith, items-count (c .before .before .before .before .before .before .before .before .before .before .before .before .before .before .before .pre .0 .tabled), c .before .before .before .before .before .before .before .loop-test .taken)
+loop-less c = omega (arith, items-count (c .before .before .before .before .before .before .before .before .before .before .before .before .before .before .before .before .pre .0 .tabled), c .before .before .before .before .before .before .before .before .loop-test .taken)
 
 loop-again : tie.Need-loop-again Inv-loop μ-loop
-loop-again c = (pass-next _ _ _ _ (omega (arith, items-count (c .before .before .before .before .before .before .before .before .before .before .before .before .before .before .before .pre .0 .tabled), c .before .before .before .before .before .before .before .loop-test .taken)) (c .before .before .before .before .before .before .before .before .loop .inv .0) (c .before .before .before .before .define .ensures), omega (arith, c .before .before .before .before .before .before .before .before .loop .inv .1, c .before .before .before .before .define .kept), omega (arith, c .before .before .before .before .before .before .before .before .loop .inv .2, c .before .before .before .before .define .kept))
+loop-again c = (pass-next _ _ _ _ (omega (arith, items-count (c .before .before .before .before .before .before .before .before .before .before .before .before .before .before .before .before .pre .0 .tabled), c .before .before .before .before .before .before .before .before .loop-test .taken)) (c .before .before .before .before .before .before .before .before .before .loop .inv .0) (c .before .before .before .before .define .ensures), omega (arith, c .before .before .before .before .before .before .before .before .before .loop .inv .1, c .before .before .before .before .define .kept), omega (arith, c .before .before .before .before .before .before .before .before .before .loop .inv .2, c .before .before .before .before .define .kept))
 
 same-length : tie.Need-same-length Inv-loop μ-loop
 same-length c = c .before .loop .inv .1
