@@ -10,12 +10,12 @@ use Rattle.sink.specs.Sink.{Sink, sink, Wrote}
 use Rattle.sink.proofs.SinkLaws.{wrote-length, wrote-whole}
 use Rattle.sink.proofs.StoreLaws.{buffer-emit}
 use Rattle.sink.proofs.ServiceLaws.{written-front}
-use Rattle.tables.specs.Tables.{namesIn, itemsIn, itemsOf, Tabled, Lent, Filled}
+use Rattle.tables.specs.Tables.{itemsIn, itemsOf, Tabled, Lent, Filled}
 use Rattle.tables.proofs.TableLaws.{items-count}
-use Rattle.tables.proofs.PoolLaws.{lent-whole, filled-full}
+use Rattle.tables.proofs.PoolLaws.{filled-full}
 
 -- what was written behind the first bytes of l
-behind : {l b text : List ℕ} {at r : ℕ} → Wrote (sink l at) text (sink b r) → at + length text ≤ length l →
+pub behind : {l b text : List ℕ} {at r : ℕ} → Wrote (sink l at) text (sink b r) → at + length text ≤ length l →
     length l < 2 ^ 63 → take (at + length text) b ≡ take at l ++ text
 behind {l} {b} {text} {at} p h g =
     ap (λ (x : Sink). take (at + length text) (x .buf)) (wrote-whole p h)
@@ -50,6 +50,3 @@ module _ {s before t pool : List ℕ} {end : ℕ} (d : Filled s before t pool en
     sameNames = f .sameNames ∙ d .sameNames;
     sameItems = f .sameItems ∙ d .sameItems;
   }
-
-  pub filled-all : Lent s t pool × (namesIn t ≡ namesIn before) × (itemsIn t ≡ itemsIn before)
-  filled-all = (lent-whole end pool (d .lent), d .sameNames, d .sameItems)

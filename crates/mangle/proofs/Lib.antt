@@ -1,3 +1,3 @@
 pub mod SegmentLaws
 pub mod NameLaws
-mod FullLaws
+pub mod FullLaws

@@ -8,7 +8,7 @@ use view::is_function;
 ghost use mathlib.Core.Path.{_≡_};
 ghost use Prim.Native.Nat.{_≤_, _<_};
 ghost use lib.ListN.{length, take};
-ghost use Rattle.tables.specs.Tables.{namesIn, itemsIn, Lent, Filled};
+ghost use Rattle.tables.specs.Tables.{itemsIn, Lent, Filled};
 
 // The longest full name: eight names of 63 bytes, with `::` before each.
 const LONGEST: usize = 520;
@@ -47,20 +47,19 @@ fn fill_full_name(
     end + count
 }
 
-// The full names of all types, in the pool behind its first `from` bytes; none of a small sheet.
+// The full names of all types, in the pool behind its first `from` bytes; none of a small sheet. The answer is the place
+// behind them.
 pub fn fill_full_names(
     s: &[u8],
     t: &mut [u32; Table::PLACES],
     pool: &mut [u8; Pool::BYTES],
     from: usize,
-)
+) -> usize
     requires { ⌜ Lent (now s) (now t) (take from (now pool)) × (from ≤ length (now pool)) ⌝ }
-    ensures { λ _. ⌜ Lent (now (s .entry)) (now (t .exit)) (now (pool .exit)) ×
-        (namesIn (now (t .exit)) ≡ namesIn (now (t .entry))) ×
-        (itemsIn (now (t .exit)) ≡ itemsIn (now (t .entry))) ⌝ }
+    ensures { λ r. ⌜ Filled (now (s .entry)) (now (t .entry)) (now (t .exit)) (now (pool .exit)) r ⌝ }
 {
     if s.len() <= SMALL {
-        return;
+        return from;
     }
     let n = t[Table::ITEMS];
     let mut text = [0u8; LONGEST];
@@ -70,4 +69,5 @@ pub fn fill_full_names(
         end = fill_full_name(s, t, pool, i, end, &mut text);
         i = i + 1;
     }
+    end
 }

@@ -34,7 +34,7 @@ use Rattle.view.specs.Views.{prefixOf}
 use Rattle.types.proofs.KindLaws.{body-type}
 use Rattle.write_atom.specs.Texts.{spaceOfKind}
 use Rattle.write_type.proofs.TypeLaws.{space-is}
-use Rattle.tables.specs.Tables.{itemsIn, itemsOf, Lent}
+use Rattle.tables.specs.Tables.{itemsIn, itemsOf, Part, Lent}
 use Rattle.shape.specs.declared.count.Inner.{Inner}
 use Rattle.shape.specs.Counts.{aroundOf, constOf, moreOf, InnerOf, writeTypeAs, Counts}
 
@@ -307,15 +307,16 @@ module _ (n : ℕ) (s : List ℕ) (at : ℕ) {t : Ty} {m w : ℕ}
       let q : j ≡ i = bits-there (widthOf n) s at (index-field n s at g) .1 ∙ sym (rw (← f) d) in
       (ap named (sym q) ∙ got-value h, rw (← q) (index-lt n s at g)))
 
+-- the length of a text in the pool
+pub part-counts : {pool text : List ℕ} {a n : ℕ} → Part pool a n text → Counts text n
+part-counts {pool} {text} {a} {n} q = record {
+  exact = λ h. omega (arith, length-slice a (a + n) pool (q .near), ap length (q .is));
+}
+
 -- the length of a full name, where the table knows it
 pub full-counts : {s t pool : List ℕ} (i : ℕ) → Lent s t pool → i < length (itemsIn t) →
     Counts (fullName (itemAt (itemsOf s t) i)) (getD t (2303 + i) 0 % 1024)
-full-counts {s} {t} {pool} i p l = record {
-  exact = λ h.
-      let q = p .full i l (λ z. h (rw z refl)) in
-      let a : ℕ = getD t (2303 + i) 0 / 1024 in
-      omega (arith, length-slice a (a + getD t (2303 + i) 0 % 1024) pool (q .near), ap length (q .is));
-}
+full-counts i p l = record { exact = λ h. part-counts (p .full i l (λ z. h (rw z refl))) .exact h }
 
 -- ---- the loop
 

@@ -15,6 +15,8 @@ use sink::put_unless;
 use tables::Pool;
 use tables::Table;
 use tables::needs_indirect_abi;
+use tables::put_part;
+use tables::type_word;
 use types::Levels;
 use types::kind_of;
 use view::FunctionView;
@@ -183,7 +185,7 @@ fn write_spaced(
     write_chain(s, t, pool, c, levels, true, out, at)
 }
 
-// The same of the outermost type at c.
+// The same of the outermost type at c, which the pool may have.
 pub fn write_outermost_space(
     s: &[u8],
     t: &[u32; Table::PLACES],
@@ -198,6 +200,10 @@ pub fn write_outermost_space(
         (writeTypeSpace (itemsOf (now (s .entry)) (now (t .entry)))
         (typeOf (now (s .entry)) (now (t .entry)) (c .at))) (sink (now (out .exit)) r) ⌝ }
 {
+    let word = type_word(s, t, pool, c);
+    if 0 < word {
+        return put_part(pool, word / 1024, word % 1024, out, at);
+    }
     write_spaced(s, t, pool, c, Levels::MOST, out, at)
 }
 

@@ -275,15 +275,15 @@ module _ {s t kept : List ℕ} {i end : ℕ} (k : Keeping s t i end kept) where
           k .later j (omega (arith, l)) m;
     }
 
-pub keeping-begins : {s t kept : List ℕ} → kept ≡ replicate 3840 0 → Keeping s t 0 255 kept
+pub keeping-begins : {s t kept : List ℕ} → kept ≡ replicate 3744 0 → Keeping s t 0 255 kept
 keeping-begins {kept = kept} e =
-    let long : length kept ≡ 3840 = ap length e ∙ length-replicate {A = ℕ} 3840 0 in
+    let long : length kept ≡ 3744 = ap length e ∙ length-replicate {A = ℕ} 3744 0 in
     record {
       first = omega arith;
       near = omega (arith, long);
       small = omega (arith, long);
       each = λ f x m z. absurd (omega (arith, m));
-      later = λ j m n. rw e (getD-replicate 3840 j 0 0 (omega (arith, n)));
+      later = λ j m n. rw e (getD-replicate 3744 j 0 0 (omega (arith, n)));
     }
 
 pub keeping-ends : {s t kept : List ℕ} {i end : ℕ} → Keeping s t i end kept → length (itemsIn t) ≤ i → Summaries s t kept

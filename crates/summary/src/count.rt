@@ -8,6 +8,7 @@ use shape::write_pointer;
 use sink::advance;
 use tables::Pool;
 use tables::Table;
+use tables::type_word;
 use types::Levels;
 use view::ArgumentView;
 use view::FunctionView;
@@ -75,6 +76,10 @@ fn type_length(s: &[u8], t: &[u32; Table::PLACES], pool: &[u8; Pool::BYTES], c: 
     ensures { λ r. ⌜ Counts (writeTypeSpace (itemsOf (now (s .entry)) (now (t .entry)))
         (typeOf (now (s .entry)) (now (t .entry)) (c .at))) r ⌝ }
 {
+    let word = type_word(s, t, pool, c);
+    if 0 < word {
+        return (word % 1024) as usize;
+    }
     let n = count_type(s, t, pool, c, Levels::MOST, true);
     if 0 < n {
         return n;

@@ -33,7 +33,7 @@ impl Words {
     // The most words of a summary.
     pub const MOST: usize = FunctionView::ARGUMENTS + 5;
     // The words that are kept: where the summary of each item begins, or 0, and the summaries.
-    pub const KEPT: usize = 3840;
+    pub const KEPT: usize = 3744;
 }
 
 // The summary of a function, whose texts are not counted; the answer is the position of its comment.
@@ -125,7 +125,7 @@ pub fn fill_summaries(
     pool: &[u8; Pool::BYTES],
     kept: &mut [u32],
 )
-    requires { ⌜ Lent (now s) (now t) (now pool) × (now kept ≡ replicate 3840 0) ⌝ }
+    requires { ⌜ Lent (now s) (now t) (now pool) × (now kept ≡ replicate 3744 0) ⌝ }
     ensures { λ _. ⌜ Summaries (now (s .entry)) (now (t .entry)) (now (kept .exit)) ⌝ }
 {
     let n = t[Table::ITEMS];

@@ -21,7 +21,7 @@ front-long {names} {a} t x h =
     length-append a (drop (length names) t) ∙ omega (arith, length-drop (length names) t, ap length x)
 
 pub back-room : {names a : List ℕ} (items t : List ℕ) → a ≡ names → length names ≤ mostNames → length items ≤ mostItems →
-    length t ≡ 2558 →
+    length t ≡ 3068 →
     length (take (1024 + length items - 1024) (drop 1024 (a ++ drop (length names) t))) ≡ length items
 back-room {names} {a} items t x n k l =
     part-long 1024 (length items) (a ++ drop (length names) t) (omega (arith, front-long t x (omega arith)))
@@ -102,14 +102,14 @@ module _ (p f m : ℕ) (names items t a b : List ℕ) where
         ∙ ap (λ (j : ℕ). drop j t) z
 
 pub both-long : {names items : List ℕ} (t : List ℕ) {a b : List ℕ} → a ≡ names → b ≡ items → length names ≤ mostNames →
-    length items ≤ mostItems → length t ≡ 2558 →
-    length (putMid 1024 (1024 + length items - 1024) (a ++ drop (length names) t) b) ≡ 2558
+    length items ≤ mostItems → length t ≡ 3068 →
+    length (putMid 1024 (1024 + length items - 1024) (a ++ drop (length names) t) b) ≡ 3068
 both-long {names} {items} t {a} {b} x y n k l =
     let h : 1024 + 255 < length t = omega arith in
     long-both 1023 1024 255 names items t a b (omega arith) x y n k h ∙ l
 
 pub listed : {names items : List ℕ} (t : List ℕ) {a b : List ℕ} → a ≡ names → b ≡ items → length names ≤ mostNames →
-    length items ≤ mostItems → length t ≡ 2558 → Listed names items
+    length items ≤ mostItems → length t ≡ 3068 → Listed names items
     (set (set (putMid 1024 (1024 + length items - 1024) (a ++ drop (length names) t) b) 1023 (length names)) 1279
     (length items))
 unfolding namesIn itemsIn
@@ -128,7 +128,7 @@ listed {names} {items} t {a} {b} x y n k l =
     }
 
 pub words-stay : {names items : List ℕ} (t : List ℕ) {a b : List ℕ} → a ≡ names → b ≡ items → length names ≤ mostNames →
-    length items ≤ mostItems → length t ≡ 2558 →
+    length items ≤ mostItems → length t ≡ 3068 →
     drop 1280 (set (set (putMid 1024 (1024 + length items - 1024) (a ++ drop (length names) t) b) 1023 (length names)) 1279
     (length items)) ≡ drop 1280 t
 words-stay {names} {items} t {a} {b} x y n k l =

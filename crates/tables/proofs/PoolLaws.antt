@@ -5,9 +5,9 @@ use mathlib.Core.List.{List, _++_}
 use Prim.Native.Nat.{ℕ, _+_, _-_, _*_, _/_, _%_, _<_, _≤_}
 use native.Mathlib.Omega.{arith}
 use native.Mathlib.Decide.{ℕ-discrete}
-use lib.ListN.{length, getD, set, take, drop, replicate, length-set, length-append, getD-replicate}
+use lib.ListN.{length, getD, set, take, drop, replicate, length-set, length-append}
 use lib.ListN.{take-append-drop}
-use lib.Seq.{slice, getD-set-same, getD-set-other, getD-take, getD-drop, take-set-le, drop-set-add, take-add, take-at}
+use lib.Seq.{slice, getD-set-same, getD-set-other, getD-take, take-set-le, drop-set-add, take-add, take-at}
 use lib.Seq.{drop-at, length-take-le, take-append-le, take-append-add, drop-append-seam, take-length}
 use borrow.Rule.Slice.PartMut.{putMid, postOf, take-put, same-len-mid}
 use Rattle.format.specs.Bits.{bits}
@@ -18,9 +18,10 @@ use Rattle.text.specs.Text.{Holds}
 use Rattle.view.specs.Views.{Finds}
 use Rattle.put_name.proofs.CharLaws.{name-inside, name-held}
 use Rattle.view.specs.Values.{Yields, nameAt}
-use Rattle.tables.specs.Tables.{namesIn, itemsIn, itemsOf, Tabled, Part, Lent, Filled}
+use Rattle.bridge.specs.WriteType.{writeTypeSpace}
+use Rattle.tables.specs.Tables.{namesIn, itemsIn, itemsOf, typeOf, Met, Tabled, Part, Lent, Filled}
 use Rattle.tables.proofs.FillLaws.{part-long}
-use Rattle.tables.proofs.TableLaws.{items-count}
+use Rattle.tables.proofs.TableLaws.{items-count, zero-word}
 
 -- a part that is lent, as the part of a list
 pub part-is : (a k : ℕ) (l : List ℕ) → a ≤ length l → take (a + k - a) (drop a l) ≡ slice a (a + k) l
@@ -30,13 +31,13 @@ part-is a k l h =
 
 -- ---- a text behind the others
 
-part-more : {pool text : List ℕ} {a k : ℕ} (more : List ℕ) → Part pool a k text → Part (pool ++ more) a k text
+pub part-more : {pool text : List ℕ} {a k : ℕ} (more : List ℕ) → Part pool a k text → Part (pool ++ more) a k text
 part-more {pool} {text} {a} {k} more p = record {
   near = omega (arith, length-append pool more, p .near);
   is = ap (drop a) (take-append-le (a + k) pool more (p .near)) ∙ p .is;
 }
 
-part-new : (pool text : List ℕ) → Part (pool ++ text) (length pool) (length text) text
+pub part-new : (pool text : List ℕ) → Part (pool ++ text) (length pool) (length text) text
 part-new pool text = record {
   near = omega (arith, length-append pool text);
   is = ap (drop (length pool)) (take-append-add pool text (length text))
@@ -49,11 +50,18 @@ lent-more more l = record {
   tabled = l .tabled;
   names = λ i h k. part-more more (l .names i h k);
   full = λ i h k. part-more more (l .full i h k);
+  types = λ i h k. part-more more (l .types i h k);
 }
 
 -- the whole pool is lent where its front is
 pub lent-whole : {s t : List ℕ} (end : ℕ) (pool : List ℕ) → Lent s t (take end pool) → Lent s t pool
 lent-whole {s} {t} end pool l = rw (take-append-drop end pool) at (lent-more (drop end pool) l)
+
+-- the text of a type that is spelled
+pub type-part : {s t pool : List ℕ} → Lent s t pool → (k : ℕ) {at : ℕ} → k < 127 → getD t (2558 + k) 0 ≡ at →
+    (getD t (2685 + k) 0 ≡ 0 → ⊥) → Part pool (getD t (2685 + k) 0 / 1024) (getD t (2685 + k) 0 % 1024)
+    (writeTypeSpace (itemsOf s t) (typeOf s t at))
+type-part l k h e n = rw (← e) (l .types k h n)
 
 -- ---- one word of the table
 
@@ -63,7 +71,7 @@ module _ (u first n : ℕ) (text : ℕ → List ℕ) where
   Words t pool = (j : ℕ) → j < n → (getD t (first + j) 0 ≡ 0 → ⊥) →
       Part pool (getD t (first + j) 0 / u) (getD t (first + j) 0 % u) (text j)
 
-  words-other : (t pool : List ℕ) (p w : ℕ) → ((j : ℕ) → j < n → first + j ≡ p → ⊥) → Words t pool → Words (set t p w) pool
+  pub words-other : (t pool : List ℕ) (p w : ℕ) → ((j : ℕ) → j < n → first + j ≡ p → ⊥) → Words t pool → Words (set t p w) pool
   words-other t pool p w apart l = λ j h k.
       let e : getD (set t p w) (first + j) 0 ≡ getD t (first + j) 0 = getD-set-other t p (first + j) w 0 (apart j h) in
       rw e (l j h (rw e at k))
@@ -82,6 +90,9 @@ module _ (u first n : ℕ) (text : ℕ → List ℕ) where
       rw g (part-more (text i) (l j h (rw g at k))))
 
 module _ {s t : List ℕ} (tabled : Tabled s t) (p w : ℕ) (h : 1280 ≤ p) where
+  pub place-kept : (k : ℕ) → (k ≡ p → ⊥) → getD (set t p w) k 0 ≡ getD t k 0
+  place-kept k apart = getD-set-other t p k w 0 apart
+
   pub names-kept : namesIn (set t p w) ≡ namesIn t
   unfolding namesIn
   names-kept =
@@ -97,13 +108,23 @@ module _ {s t : List ℕ} (tabled : Tabled s t) (p w : ℕ) (h : 1280 ≤ p) whe
       ap (λ (j : ℕ). drop 1024 (set t j w)) q ∙ drop-set-add 1024 t (p - 1024) w in
       rw (e, d) (take-set-le (getD t 1279 0) (drop 1024 t) (p - 1024) w (omega (arith, tabled .items)))
 
-  tabled-kept : Tabled s (set t p w)
-  tabled-kept = record {
+  -- what is kept of types that were met aside
+  pub tabled-but : ((k : ℕ) → k < 128 → (getD (set t p w) (2940 + k) 0 ≡ 0 → ⊥) → Met s (namesIn (set t p w))
+      (itemsIn (set t p w)) (getD (set t p w) (2812 + k) 0) (getD (set t p w) (2940 + k) 0)) → Tabled s (set t p w)
+  tabled-but met = record {
     long = length-set t p w ∙ tabled .long;
     names = let e = getD-set-other t p 1023 w 0 (λ e. omega arith) in rw e (tabled .names);
     items = let e = getD-set-other t p 1279 w 0 (λ e. omega arith) in rw e (tabled .items);
     whole = rw (names-kept, items-kept) (tabled .whole);
+    met = met;
   }
+
+  pub tabled-kept : p < 2812 → Tabled s (set t p w)
+  tabled-kept l =
+      tabled-but (λ k g n.
+      let a = place-kept (2812 + k) (λ e. omega arith) in
+      let b = place-kept (2940 + k) (λ e. omega arith) in
+      rw (a, b, names-kept, items-kept) (tabled .met k g (rw b at n)))
 
 -- ---- a name by its number
 
@@ -131,23 +152,33 @@ module _ {s t : List ℕ} (tabled : Tabled s t) where
 -- ---- the pool with one text more
 
 -- no text yet
-pub filled-none : {s t : List ℕ} (pool : List ℕ) → Tabled s t → drop 1280 t ≡ replicate 1278 0 → Filled s t t pool 0
+pub filled-none : {s t : List ℕ} (pool : List ℕ) → Tabled s t → drop 1280 t ≡ replicate 1788 0 → Filled s t t pool 0
 filled-none {s} {t} pool tabled zeros = record {
   lent = record {
     tabled = tabled;
-    names = λ i h k. absurd (k (zero-word i (omega (arith, names-count tabled, tabled .names))));
+    names = λ i h k. absurd (k (zero-word t zeros i (omega (arith, names-count tabled, tabled .names))));
     full = λ i h k.
         let e : 2303 + i ≡ 1280 + (1023 + i) = omega arith in
-        absurd (k (rw e (zero-word (1023 + i) (omega (arith, items-count tabled, tabled .items)))));
+        absurd (k (rw e (zero-word t zeros (1023 + i) (omega (arith, items-count tabled, tabled .items)))));
+    types = λ i h k.
+        let e : 2685 + i ≡ 1280 + (1405 + i) = omega arith in
+        absurd (k (rw e (zero-word t zeros (1405 + i) (omega arith))));
   };
   room = omega arith;
   sameNames = refl;
   sameItems = refl;
 }
-  where
-    zero-word : (j : ℕ) → j < 1278 → getD t (1280 + j) 0 ≡ 0
-    zero-word j h =
-        sym (getD-drop 1280 t j 0) ∙ ap (λ (l : List ℕ). getD l j 0) zeros ∙ getD-replicate 1278 j 0 0 h
+
+module _ {s t pool : List ℕ} (l : Lent s t pool) (p w : ℕ) (h : 1280 ≤ p) where
+  -- a word that is not one of a type
+  pub types-kept : ((k : ℕ) → k < 254 → 2558 + k ≡ p → ⊥) → (k : ℕ) → k < 127 →
+      (getD (set t p w) (2685 + k) 0 ≡ 0 → ⊥) → Part pool (getD (set t p w) (2685 + k) 0 / 1024)
+      (getD (set t p w) (2685 + k) 0 % 1024)
+      (writeTypeSpace (itemsOf s (set t p w)) (typeOf s (set t p w) (getD (set t p w) (2558 + k) 0)))
+  types-kept apart k g n =
+      let a = place-kept (l .tabled) p w h (2558 + k) (apart k (omega arith)) in
+      let b = place-kept (l .tabled) p w h (2685 + k) (λ e. apart (127 + k) (omega arith) (omega arith)) in
+      rw (a, b, names-kept (l .tabled) p w h, items-kept (l .tabled) p w h) (l .types k g (rw b at n))
 
 module _ {s t pool : List ℕ} (l : Lent s t pool) (i : ℕ) where
   -- a name
@@ -162,11 +193,12 @@ module _ {s t pool : List ℕ} (l : Lent s t pool) (i : ℕ) where
       let a = names-kept (l .tabled) p w (omega arith) in
       let b = items-kept (l .tabled) p w (omega arith) in
       record {
-        tabled = tabled-kept (l .tabled) p w (omega arith);
+        tabled = tabled-kept (l .tabled) p w (omega arith) (omega arith);
         names = rw a (words-new 64 1280 (length (namesIn t)) text t pool i w (omega (arith, l .tabled .long)) (omega arith)
             (omega arith) (l .names));
         full = rw (a, b) (words-other 1024 2303 (length (itemsIn t)) (λ j. fullName (itemAt (itemsOf s t) j)) t
             (pool ++ text i) p w (λ j _ e. omega arith) (λ j g k. part-more (text i) (l .full j g k)));
+        types = types-kept (lent-more (text i) l) p w (omega arith) (λ j _ e. omega arith);
       }
 
   -- a full name
@@ -181,12 +213,13 @@ module _ {s t pool : List ℕ} (l : Lent s t pool) (i : ℕ) where
       let a = names-kept (l .tabled) p w (omega arith) in
       let b = items-kept (l .tabled) p w (omega arith) in
       record {
-        tabled = tabled-kept (l .tabled) p w (omega arith);
+        tabled = tabled-kept (l .tabled) p w (omega arith) (omega arith);
         names = rw a (words-other 64 1280 (length (namesIn t)) (λ j. nameAt s (getD (namesIn t) j 0)) t
             (pool ++ text i) p w (λ j g e. omega (arith, names-count (l .tabled), l .tabled .names))
             (λ j g k. part-more (text i) (l .names j g k)));
         full = rw (a, b) (words-new 1024 2303 (length (itemsIn t)) text t pool i w (omega (arith, l .tabled .long))
             (omega arith) (omega arith) (l .full));
+        types = types-kept (lent-more (text i) l) p w (omega arith) (λ j _ e. omega arith);
       }
 
 -- the pool's front has one text of n bytes more

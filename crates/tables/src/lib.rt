@@ -1,7 +1,9 @@
 // What every writer is lent beside the sheet: the positions of its names and items in one table, and their texts in a
 // pool. A table of known length costs a writer one register.
 use cursor::Cursor;
+use cursor::extract;
 use cursor::fields::field;
+use cursor::width;
 use format::Outline;
 use format::TypeKind;
 use names::name_reads;
@@ -11,9 +13,11 @@ use text::unpack;
 use toposort::Traversal;
 use view::FunctionView;
 use view::ItemView;
+use view::argument_entry;
+use view::skip_type;
 ghost use mathlib.Core.Path.{_≡_};
 ghost use mathlib.Core.List.{[]};
-ghost use Prim.Native.Nat.{_+_, _≤_, _<_};
+ghost use Prim.Native.Nat.{_+_, _/_, _%_, _≤_, _<_};
 ghost use lib.ListN.{length, getD, drop, replicate};
 ghost use lib.Seq.{slice};
 ghost use Rattle.lexical.specs.Bytes.{same};
@@ -23,13 +27,16 @@ ghost use Rattle.format.specs.Decoding.{type};
 ghost use Rattle.format.specs.declared.ItemKind.the-variants.{RustFunction};
 ghost use Rattle.syntax.specs.Items.{itemAt};
 ghost use Rattle.syntax.specs.Types.{needsIndirectAbi};
+ghost use Rattle.bridge.specs.WriteType.{writeTypeSpace};
 ghost use Rattle.view.specs.Values.{nameAt};
-ghost use Rattle.view.specs.Views.{kindOfType};
+ghost use Rattle.view.specs.Views.{kindOfType, EntryOf};
 ghost use Rattle.tables.specs.Tables.{namesIn, itemsIn, Listed, itemsOf, Tabled, Item};
-ghost use Rattle.tables.specs.Tables.{Function, Arguments, behindArguments, Lent, Filled, typeOf, Typed};
+ghost use Rattle.tables.specs.Tables.{Function, Arguments, behindArguments, Part, Lent, Filled, typeOf};
+ghost use Rattle.tables.specs.Tables.{Typed, Known};
 
 // The table: the positions of the names and behind them their number, the same of the items, and then for each name and
-// for each item one word that says where its text is in the pool, or is 0.
+// for each item one word that says where its text is in the pool, or is 0. Behind them the positions of types and the
+// words of their texts, and then what is kept of types that arguments have.
 pub struct Table {
     pub place: usize,
 }
@@ -47,10 +54,25 @@ impl Table {
     // Where the words of the items begin: 1024 times the first place of the full name, and its length.
     pub const FULL: usize = Table::SPELLED + Outline::NAMES;
 
-    pub const PLACES: usize = Table::FULL + Outline::ITEMS;
+    // The most types that are spelled in the pool.
+    pub const SPELLINGS: usize = 127;
+    // Where their positions begin.
+    pub const TYPES: usize = Table::FULL + Outline::ITEMS;
+    // Where their words begin: 1024 times the first place of the type and the space behind it, and their length.
+    pub const SPACED: usize = Table::TYPES + Table::SPELLINGS;
+
+    // The most types that are kept.
+    pub const ROWS: usize = 128;
+    // Where their bits begin, each as one number.
+    pub const KEYS: usize = Table::SPACED + Table::SPELLINGS;
+    // Where their words begin: 512 times the type's position, 16 times the number of bits that it has less than 32, and
+    // the lowest four bits of an argument's entry.
+    pub const MET: usize = Table::KEYS + Table::ROWS;
+
+    pub const PLACES: usize = Table::MET + Table::ROWS;
 }
 
-// The pool: names, one behind the other, and behind them full names. It is lent the bytes that held the edges of the
+// The pool: names, one behind the other, behind them full names, and then types. It is lent the bytes that held the edges of the
 // structs.
 pub struct Pool {
     pub place: usize,
@@ -79,7 +101,7 @@ pub fn copy_words(from: &[u32], to: &mut [u32])
 
 // The table of these names and items; its words stay.
 pub fn fill_table(names: &[u32], items: &[u32], t: &mut [u32])
-    requires { ⌜ (length (now names) ≤ mostNames) × (length (now items) ≤ mostItems) × (length (now t) ≡ 2558) ⌝ }
+    requires { ⌜ (length (now names) ≤ mostNames) × (length (now items) ≤ mostItems) × (length (now t) ≡ 3068) ⌝ }
     ensures { λ _. ⌜ Listed (now (names .entry)) (now (items .entry)) (now (t .exit)) ×
         (drop 1280 (now (t .exit)) ≡ drop 1280 (now (t .entry))) ⌝ }
 {
@@ -130,7 +152,50 @@ pub fn function(s: &[u8], t: &[u32], v: ItemView) -> FunctionView
     view::function(s, &t[..n], &t[first..end], v)
 }
 
-// The arguments of a function, into the front of offsets; the answer is the position behind the last.
+// ---- arguments
+
+// The row of a type that begins with these bits. A Str is its kind alone, and what stands behind it tells nothing.
+pub fn row_of(bits: u32) -> usize
+    ensures { λ r. ⌜ r < 128 ⌝ }
+{
+    if bits >> 28 == 9 {
+        return 16;
+    }
+    (bits >> 24) as usize % Table::ROWS
+}
+
+// The word of a type that was met, where it stands at a position; 0 where none is known to.
+fn known_type(s: &[u8], t: &[u32], at: u32) -> u32
+    requires { ⌜ Tabled (now s) (now t) ⌝ }
+    ensures { λ r. ⌜ ((r ≡ 0 → ⊥) →
+        Known (now (s .entry)) (namesIn (now (t .entry))) (itemsIn (now (t .entry))) at r) ⌝ }
+{
+    let size = s.len() * 8;
+    let end = at as usize + 32;
+    if size < end {
+        return 0;
+    }
+    let bits = extract(s, at, 32);
+    let k = row_of(bits);
+    let word = t[Table::MET + k];
+    if bits >> (word / 16 % 32) == t[Table::KEYS + k] {
+        return word;
+    }
+    0
+}
+
+// The entry of an argument with this name, whose type has this word.
+fn met_entry(s: &[u8], t: &[u32], at: u32, word: u32, name: u32) -> u32
+    requires { ⌜ Tabled (now s) (now t) × (name ≤ mostNames) ×
+        Known (now s) (namesIn (now t)) (itemsIn (now t)) at word ⌝ }
+    ensures { λ r. ⌜ EntryOf (now (s .entry)) (namesIn (now (t .entry))) (itemsIn (now (t .entry))) name
+        (word / 512) r ⌝ }
+{
+    word / 512 * 16384 + name * 16 + word % 16
+}
+
+// The arguments of a function, into the front of offsets; the answer is the position behind the last. A type that was
+// met is where it was met first.
 pub fn fill_arguments(s: &[u8], t: &[u32], v: FunctionView, offsets: &mut [u32]) -> Cursor
     requires { ⌜ Tabled (now s) (now t) × Function (now s) (now t) v × (mostArguments ≤ length (now offsets)) ⌝ }
     ensures { λ r. ⌜ Arguments (now (s .entry)) (now (t .entry)) v (now (offsets .exit)) ×
@@ -139,8 +204,27 @@ pub fn fill_arguments(s: &[u8], t: &[u32], v: FunctionView, offsets: &mut [u32])
     let n = t[Table::NAMES] as usize;
     let first = Table::FIRST;
     let end = first + t[Table::ITEMS] as usize;
-    view::fill_arguments(s, &t[..n], &t[first..end], v, offsets)
+    let w = width(t[Table::NAMES]);
+    let mut next = v.first;
+    let mut i: u32 = 0;
+    while i < v.arguments {
+        let j = i as usize;
+        let name = field(s, next, w);
+        let of = name.next;
+        i = i + 1;
+        let word = known_type(s, t, of.at);
+        if 0 < word {
+            offsets[j] = met_entry(s, t, of.at, word, name.value);
+            next = Cursor::new(of.at + (32 - word / 16 % 32));
+            continue;
+        }
+        offsets[j] = argument_entry(s, &t[..n], &t[first..end], name.value, of);
+        next = skip_type(s, of, t[Table::ITEMS]);
+    }
+    next
 }
+
+// ---- types
 
 // Whether the type at c needs an indirect ABI.
 pub fn needs_indirect_abi(s: &[u8], t: &[u32], c: Cursor) -> bool
@@ -178,7 +262,7 @@ pub fn reads(s: &[u8], t: &[u32], i: u32, text: &[u8]) -> bool
 
 // Spells the first names, up to the first that does not fit; the answer is the place behind them.
 pub fn fill_pool(s: &[u8], t: &mut [u32], pool: &mut [u8]) -> usize
-    requires { ⌜ Tabled (now s) (now t) × (drop 1280 (now t) ≡ replicate 1278 0) × (12000 ≤ length (now pool)) ⌝ }
+    requires { ⌜ Tabled (now s) (now t) × (drop 1280 (now t) ≡ replicate 1788 0) × (12000 ≤ length (now pool)) ⌝ }
     ensures { λ r. ⌜ Filled (now (s .entry)) (now (t .entry)) (now (t .exit)) (now (pool .exit)) r ⌝ }
 {
     let n = t[Table::NAMES] as usize;
@@ -208,6 +292,20 @@ pub fn put_part(pool: &[u8], start: u32, count: u32, out: &mut [u8], at: usize) 
     let first = start as usize;
     let end = first + count as usize;
     put_text(out, at, &pool[first..end])
+}
+
+// The word of the type at c, with the space behind it; 0 where the pool does not have it.
+pub fn type_word(s: &[u8], t: &[u32; Table::PLACES], pool: &[u8; Pool::BYTES], c: Cursor) -> u32
+    requires { ⌜ Lent (now s) (now t) (now pool) ⌝ }
+    ensures { λ r. ⌜ ((r ≡ 0 → ⊥) → Part (now (pool .entry)) (r / 1024) (r % 1024)
+        (writeTypeSpace (itemsOf (now (s .entry)) (now (t .entry)))
+        (typeOf (now (s .entry)) (now (t .entry)) (c .at)))) ⌝ }
+{
+    let k = c.at as usize % Table::SPELLINGS;
+    if t[Table::TYPES + k] == c.at {
+        return t[Table::SPACED + k];
+    }
+    0
 }
 
 // Name i.

@@ -25,7 +25,8 @@ use Rattle.names.proofs.NameLaws.{Read, name-read}
 use Rattle.view.specs.declared.FunctionView.{FunctionView}
 use Rattle.view.specs.declared.ArgumentView.{ArgumentView}
 use Rattle.view.specs.Values.{nextOf, Yields, namesAt, itemsAt, functionAt, argumentAt, typeHere}
-use Rattle.view.specs.Views.{Finds, FunctionAt, ArgumentsAt, ArgumentOf, FactsOf, unpacked, ownerOf, kindOfType}
+use Rattle.view.specs.Views.{Finds, FunctionAt, ArgumentsAt, ArgumentOf, FactsOf, EntryOf, unpacked}
+use Rattle.view.specs.Views.{ownerOf, kindOfType}
 
 -- ---- an entry of a table
 
@@ -46,6 +47,17 @@ packed name of owner low high h o a b =
     let two : e / 2 ≡ x * 2 + high = omega arith in
     let j : e / 2 % 2 ≡ high = rw two (last-bit x high (b .0)) in
     rw (n, p, k, i, j, a .1, b .1)
+
+pub entry-of : {s names items : List ℕ} {name : ℕ} {of : Cursor} {o : ℕ} {b₁ b₂ : Bool} (e : ℕ) →
+    unpacked e ≡ record { name = name; of = of; owner = o; indirect = b₁; string = b₂ } →
+    o ≡ ownerOf (kindOfType (typeHere (length items) s (of .at))) →
+    b₁ ≡ needsIndirectAbi (itemsAt s names items) (typeHere (length items) s (of .at)) →
+    b₂ ≡ isRustString (typeHere (length items) s (of .at)) → EntryOf s names items name (of .at) e
+entry-of {s} {names} {items} e u h₀ h₁ h₂ = record {
+  named = ap (λ (v : ArgumentView). v .name) u;
+  of = ap (λ (v : ArgumentView). v .of .at) u;
+  facts = subst (λ (v : ArgumentView). FactsOf s names items v) (sym u) (record { owner = h₀; indirect = h₁; string = h₂ });
+}
 
 -- ---- values in a row, where all of them are known to be there
 
@@ -87,9 +99,14 @@ module _ (s names : List ℕ) (n at : ℕ) {x : Argument} {m w : ℕ} {r : Found
   typed : type n s (r .next .at) ≡ got (x .type) m
   typed = ap (λ (a : ℕ). type n s a) (sym (name .next)) ∙ parts .2
 
-  argument-of : (o : ℕ) (b c : Bool) →
-      ArgumentOf s names n x (record { name = r .value; of = r .next; owner = o; indirect = b; string = c })
-  argument-of o b c = record { named = name .there; name = name .name; of = yields typed }
+  argument-of : {a : ArgumentView} → a .name ≡ r .value →
+      Yields (type n s (a .of .at)) (typeHere n s (r .next .at)) → ArgumentOf s names n x a
+  unfolding typeHere
+  argument-of e y = record {
+    named = rw e (name .there);
+    name = rw e (name .name);
+    of = rw (← yielded str (yields typed)) y;
+  }
 
   type-there : Yields (type n s (r .next .at)) (typeHere n s (r .next .at))
   unfolding typeHere
@@ -143,25 +160,21 @@ module _ (s names items : List ℕ) (v : FunctionView) where
       pub argument-named : r .value < length names
       argument-named = name s names (length items) at (here .0) z g .there
 
-      pub arguments-turn : {m o : ℕ} {b₁ b₂ : Bool} (e : ℕ) → i < length b →
-          o ≡ ownerOf (kindOfType (typeHere (length items) s (r .next .at))) →
-          b₁ ≡ needsIndirectAbi (itemsAt s names items) (typeHere (length items) s (r .next .at)) →
-          b₂ ≡ isRustString (typeHere (length items) s (r .next .at)) →
-          unpacked e ≡ record { name = r .value; of = r .next; owner = o; indirect = b₁; string = b₂ } →
-          m ≡ nextOf (type (length items) s (r .next .at)) → Arguments (i + 1) (set b i e) m
-      arguments-turn {m} {o} {b₁} {b₂} e k h₀ h₁ h₂ u q = record {
-        each = λ j h. by-cases (eqb j i)
-            (λ t. let y : j ≡ i = eqb-true j i t in rw (y, getD-set-same b i e 0 k) new)
+      -- an entry with its name, and with a position where the same type stands
+      pub arguments-turn : {m : ℕ} (e : ℕ) → i < length b → unpacked e .name ≡ r .value →
+          Yields (type (length items) s (unpacked e .of .at)) (typeHere (length items) s (r .next .at)) →
+          FactsOf s names items (unpacked e) → m ≡ nextOf (type (length items) s (r .next .at)) →
+          Arguments (i + 1) (set b i e) m
+      arguments-turn e k a y h q = record {
+        each = λ j l. by-cases (eqb j i)
+            (λ t. let z : j ≡ i = eqb-true j i t in rw (z, getD-set-same b i e 0 k) (new, h))
             (λ t. rw (getD-set-other b i j e 0 (eqb-false j i t))
-            (p .each j (let y = eqb-false j i t in omega arith)));
+            (p .each j (let z = eqb-false j i t in omega arith)));
         rest = rw (argument-next s names (length items) at (here .0) z g q) (here .1);
       }
         where
-          new : ArgumentOf s names (length items) (argumentAt s names items (v .number) i) (unpacked e) ×
-              FactsOf s names items (unpacked e)
-          new = subst (λ (a : ArgumentView). ArgumentOf s names (length items) (argumentAt s names items (v .number) i) a ×
-              FactsOf s names items a) (sym u)
-              (argument-of s names (length items) at (here .0) z g o b₁ b₂, record { owner = h₀; indirect = h₁; string = h₂ })
+          new : ArgumentOf s names (length items) (argumentAt s names items (v .number) i) (unpacked e)
+          new = argument-of s names (length items) at (here .0) z g a y
 
     pub arguments-done : {i : ℕ} {b : List ℕ} (c : Cursor) → Arguments i b (c .at) → i ≤ v .arguments → v .arguments ≤ i →
         ArgumentsAt s names items v b × (c .at ≡ nextOf (many (v .arguments) d s (v .first .at)))

@@ -146,6 +146,12 @@ unpacked e = record {
   string = eqb (e / 2 % 2) 1;
 }
 
+-- e is the entry of an argument with this name, whose type stands at a position
+pub record EntryOf (s names items : List ℕ) (name at e : ℕ) : Type 0 where
+  pub named : unpacked e .name ≡ name
+  pub of : unpacked e .of .at ≡ at
+  pub facts : FactsOf s names items (unpacked e)
+
 -- the front of offsets holds views of the arguments of v
 pub record ArgumentsAt (s names items : List ℕ) (v : FunctionView) (offsets : List ℕ) : Type 0 where
   pub count : length (functionAt s names items (v .number) .arguments) ≡ v .arguments

@@ -15,18 +15,17 @@ ghost use mathlib.Core.List.{[]};
 ghost use Prim.Native.Nat.{_≤_, _<_};
 ghost use lib.Dec.{eqb};
 ghost use lib.ListN.{length, getD};
-ghost use Rattle.format.specs.Limits.{mostNames, mostBits, mostArguments};
-ghost use Rattle.format.specs.Decode.{many};
+ghost use Rattle.format.specs.Limits.{mostNames, mostBits};
 ghost use Rattle.format.specs.Bits.{bitsAt};
 ghost use Rattle.format.specs.Sheet.{free};
-ghost use Rattle.format.specs.Decoding.{kindOf, type, argument as argumentOf, form};
+ghost use Rattle.format.specs.Decoding.{kindOf, type, form};
 ghost use Rattle.format.specs.declared.ItemKind.the-variants.{RustFunction};
 ghost use Rattle.syntax.specs.Items.{itemAt};
 ghost use Rattle.syntax.specs.Types.{pointerBit, isIndirectTemplate, needsIndirectAbi};
 ghost use Rattle.cursor.specs.Checking.{Limited};
-ghost use Rattle.view.specs.Values.{valueOr, nextOf, Yields, nameAt, namesAt, itemsAt, typeHere};
+ghost use Rattle.view.specs.Values.{valueOr, nextOf, Yields, nameAt, itemsAt, typeHere};
 ghost use Rattle.view.specs.Values.{Named, Whole};
-ghost use Rattle.view.specs.Views.{kindOfBody, ItemAt, Formed, FunctionAt, ArgumentsAt, unpacked};
+ghost use Rattle.view.specs.Views.{kindOfBody, ItemAt, Formed, FunctionAt, EntryOf, unpacked};
 ghost use Rattle.view.specs.Views.{returnOf, returnHere, isFunctionKind, kindOfType, isNamedKind};
 ghost use Rattle.view.specs.Views.{isIndirectKind, prefixOf, ownerOf};
 
@@ -192,7 +191,7 @@ fn prefix_of(k: u32) -> u32
 }
 
 // Past the outermost type at c, which is known to be there.
-fn skip_type(s: &[u8], c: Cursor, items: u32) -> Cursor
+pub fn skip_type(s: &[u8], c: Cursor, items: u32) -> Cursor
     requires { ⌜ Limited (now s) × Yields (type items (now s) (c .at)) (typeHere items (now s) (c .at)) ⌝ }
     ensures { λ r. ⌜ r .at ≡ nextOf (type items (now (s .entry)) (c .at)) ⌝ }
 {
@@ -318,46 +317,23 @@ fn pack(name: u32, of: Cursor, owner: u32, indirect: bool, string: bool) -> u32
     of.at * 16384 + name * 16 + owner * 4 + high * 2 + low
 }
 
-// Each argument's view, packed, into the front of offsets; the answer is the position behind the last.
-pub fn fill_arguments(
-    s: &[u8],
-    names: &[u32],
-    items: &[u32],
-    v: FunctionView,
-    offsets: &mut [u32],
-) -> Cursor
-    requires { ⌜ Whole (now s) (now names) (now items) × FunctionAt (now s) (now names) (now items) v ×
-        (mostArguments ≤ length (now offsets)) ⌝ }
-    ensures { λ r. ⌜ ArgumentsAt (now (s .entry)) (now (names .entry)) (now (items .entry)) v (now (offsets .exit)) ×
-        (r .at ≡ nextOf (many (v .arguments)
-        (argumentOf (namesAt (now (s .entry)) (now (names .entry))) (length (now (items .entry))))
-        (now (s .entry)) (v .first .at))) ⌝ }
+// The entry of an argument with this name, whose type stands at c.
+pub fn argument_entry(s: &[u8], names: &[u32], items: &[u32], name: u32, c: Cursor) -> u32
+    requires { ⌜ Whole (now s) (now names) (now items) × (name ≤ mostNames) ×
+        Yields (type (length (now items)) (now s) (c .at)) (typeHere (length (now items)) (now s) (c .at)) ⌝ }
+    ensures { λ r. ⌜ EntryOf (now (s .entry)) (now (names .entry)) (now (items .entry)) name (c .at) r ⌝ }
 {
-    let w = width(names.len() as u32);
-    let n = items.len() as u32;
-    let mut next = v.first;
-    let mut i: u32 = 0;
-    while i < v.arguments {
-        let j = i as usize;
-        let name = field(s, next, w);
-        let of = name.next;
-        let k = extract(s, of.at, 4);
-        i = i + 1;
-        if k == 0 {
-            let a = extract(s, of.at + 4, 4);
-            offsets[j] = pack(name.value, of, 0, 14 <= a, a == 15);
-            next = Cursor::new(of.at + 8);
-            continue;
-        }
-        let indirect = is_indirect_other(s, names, items, of, k);
-        let owner = owner_of(k);
-        offsets[j] = pack(name.value, of, owner, indirect, false);
-        next = skip_type(s, of, n);
+    let k = extract(s, c.at, 4);
+    if k == 0 {
+        let a = extract(s, c.at + 4, 4);
+        return pack(name, c, 0, 14 <= a, a == 15);
     }
-    next
+    let indirect = is_indirect_other(s, names, items, c, k);
+    let owner = owner_of(k);
+    pack(name, c, owner, indirect, false)
 }
 
-// Argument j of the table that `fill_arguments` fills.
+// Argument j of a table of entries.
 pub fn argument(offsets: &[u32], j: u32) -> ArgumentView
     requires { ⌜ j < length (now offsets) ⌝ }
     ensures { λ r. ⌜ r ≡ unpacked (getD (now (offsets .entry)) j 0) ⌝ }

@@ -7,7 +7,7 @@ use Rattle.bridge.specs.Write.{text}
 use Rattle.services.specs.declared.Written.{Written}
 use Rattle.names.specs.Digests.{digestsAt}
 use Rattle.view.specs.Values.{itemsAt, Ready}
-use Rattle.tables.specs.Tables.{namesIn, itemsIn, itemsOf, Listed, Lent, Filled}
+use Rattle.tables.specs.Tables.{namesIn, itemsIn, itemsOf, Listed, Filled}
 use Rattle.summary.specs.Summaries.{Summaries}
 use Rattle.sections.specs.Runs.{sheetOf}
 use Rattle.write_sheet.specs.Delivers.{Delivers}
@@ -17,12 +17,12 @@ pub record Lists (names items t : List ℕ) : Type 0 where
   pub namesAre : namesIn t ≡ names
   pub itemsAre : itemsIn t ≡ items
 
-pub filled-lists : {s names items t u v pool after : List ℕ} {end : ℕ} → Listed names items t → Filled s t u pool end →
-    Lent s v after × (namesIn v ≡ namesIn u) × (itemsIn v ≡ itemsIn u) → Lists names items v
-filled-lists l f g = record {
-  namesAre = g .1 ∙ f .sameNames ∙ l .namesAre;
-  itemsAre = g .2 ∙ f .sameItems ∙ l .itemsAre;
-}
+pub listed-lists : {names items t : List ℕ} → Listed names items t → Lists names items t
+listed-lists l = record { namesAre = l .namesAre; itemsAre = l .itemsAre }
+
+pub filled-lists : {s names items t u pool : List ℕ} {end : ℕ} → Filled s t u pool end → Lists names items t →
+    Lists names items u
+filled-lists f l = record { namesAre = f .sameNames ∙ l .namesAre; itemsAre = f .sameItems ∙ l .itemsAre }
 
 pub digested : {s names items digests t : List ℕ} → Ready s names items digests → Lists names items t →
     digests ≡ digestsAt s (namesIn t)

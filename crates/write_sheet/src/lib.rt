@@ -3,6 +3,7 @@ use check_sheet::judge_in;
 use decode::Decoded;
 use decode::decode;
 use format::Outline;
+use intern::intern_types;
 use mangle::fill_full_names;
 use marks::Mark;
 use refusal::Refusal;
@@ -77,8 +78,8 @@ fn deliver_text(
     Written::Length(length)
 }
 
-// The same by its names and items. The table is made here, so that it takes no stack before a sheet is accepted; what
-// both passes ask of functions is gathered once, where there are two.
+// The same by its names and items. The table is made here, so that it takes no stack before a sheet is accepted; where
+// there are two passes, types are spelled and what both ask of functions is gathered once.
 fn deliver_listed(
     s: &[u8],
     names: &[u32],
@@ -97,9 +98,10 @@ fn deliver_listed(
 {
     let mut t = [0u32; Table::PLACES];
     fill_table(names, items, &mut t);
-    let end = fill_pool(s, &mut t, pool);
-    fill_full_names(s, &mut t, pool, end);
+    let spelled = fill_pool(s, &mut t, pool);
+    let full = fill_full_names(s, &mut t, pool, spelled);
     if short.len() == 0 {
+        intern_types(s, &mut t, pool, full);
         let mut kept = [0u32; Words::KEPT];
         fill_summaries(s, &t, pool, &mut kept);
         return deliver_text(s, &t, pool, digests, header, doxygen, &kept, short, buf);

@@ -1,11 +1,11 @@
--- Written by tools/proofkit from answers/full/fill_full_names.tpl (e19c2f30 5fcb2b67).
+-- Written by tools/proofkit from answers/full/fill_full_names.tpl (3ca6b25a 5d287002).
 use borrow.Author.Needs.{needs}
 use native.Mathlib.Omega.{arith}
 use Prim.Native.Nat.{_≤_, _-_}
 use mathlib.Core.Path.{_≡_, refl}
 use lib.ListN.{length}
 use Rattle.tables.specs.Tables.{Filled}
-use Rattle.mangle.proofs.FullLaws.{filled-same, item-left, filled-next, filled-all}
+use Rattle.mangle.proofs.FullLaws.{filled-same, item-left, filled-next}
 use Rattle.mangle.proofs.full.fill_full_names.Statement.{statement}
 use Rattle.mangle.proofs.full.fill_full_names.Tie as tie
 
@@ -28,10 +28,10 @@ loop-again : tie.Need-loop-again Inv-loop μ-loop
 loop-again c = (omega arith, search (needs, c .before .before .before .before .before .before .loop .inv .1), filled-next (c .before .before .before .before .before .before .loop .inv .2) (c .before .fill-full-name .ensures))
 
 returns : tie.Need-returns Inv-loop μ-loop
-returns c = filled-all (filled-same _ (c .before .before .pre .0) (c .before .before .pre .1))
+returns c = filled-same _ (c .before .before .pre .0) (c .before .before .pre .1)
 
 returns-2 : tie.Need-returns-2 Inv-loop μ-loop
-returns-2 c = filled-all (c .before .loop .inv .2)
+returns-2 c = c .before .loop .inv .2
 
 pub fill-full-names-spec : {M : Type 1} → statement M
 fill-full-names-spec =
