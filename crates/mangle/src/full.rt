@@ -47,8 +47,8 @@ fn fill_full_name(
     end + count
 }
 
-// The full names of all types, in the pool behind its first `from` bytes; none of a small sheet. The answer is the place
-// behind them.
+// The full names of all types, in the pool behind its first `from` bytes; none of a small sheet. The answer is the
+// place behind them.
 pub fn fill_full_names(
     s: &[u8],
     t: &mut [u32; Table::PLACES],

@@ -49,8 +49,8 @@ argumentOf s t i j = argumentAt s (namesIn t) (itemsIn t) i j
 
 -- ---- types that were met
 
--- what is kept of a type: it stands at word / 512, key has all its 32 - word / 16 % 32 bits, and word % 16 is the end of
--- an entry for it
+-- what is kept of a type: it stands at word / 512, key has all its 32 - word / 16 % 32 bits, and word % 16 is the end
+-- of an entry for it
 pub record Met (s names items : List ℕ) (key word : ℕ) : Type 0 where
   pub here : type (length items) s (word / 512) ≡
       got (typeHere (length items) s (word / 512)) (word / 512 + (32 - word / 16 % 32))
@@ -103,8 +103,8 @@ pub record Part (pool : List ℕ) (start count : ℕ) (text : List ℕ) : Type 0
   pub near : start + count ≤ length pool
   pub is : slice start (start + count) pool ≡ text
 
--- a word that is not 0 says where its text is: that of a name from place 1280 on, the full name of an item from 2303 on,
--- and from 2685 on a type, with the space behind it, whose position stands 127 places before
+-- a word that is not 0 says where its text is: that of a name from place 1280 on, the full name of an item from 2303
+-- on, and from 2685 on a type, with the space behind it, whose position stands 127 places before
 pub record Lent (s t pool : List ℕ) : Type 0 where
   pub tabled : Tabled s t
   pub names : (i : ℕ) → i < length (namesIn t) → (getD t (1280 + i) 0 ≡ 0 → ⊥) →

@@ -72,8 +72,8 @@ impl Table {
     pub const PLACES: usize = Table::MET + Table::ROWS;
 }
 
-// The pool: names, one behind the other, behind them full names, and then types. It is lent the bytes that held the edges of the
-// structs.
+// The pool: names, one behind the other, behind them full names, and then types. It is lent the bytes that held the
+// edges of the structs.
 pub struct Pool {
     pub place: usize,
 }
