@@ -12,7 +12,6 @@ use Rattle.sink.specs.Sink.{Sink, sink, Wrote}
 use Rattle.out.specs.declared.Block.{Block}
 use Rattle.out.specs.declared.Boundary.{Boundary}
 use Rattle.out.specs.declared.Pending.{Pending}
-use Rattle.out.specs.declared.Content.{Content}
 use Rattle.out.specs.State.{Known, KnownBlock, packed, sideOf, unpackedBlock, unpacked, boundaryAt, maxPending}
 use Rattle.out.specs.State.{Listed, entry, contentOf}
 use Rattle.out.specs.Steps.{Starts, asking, behind, appendedTo}
