@@ -17,7 +17,7 @@ use Rattle.view.specs.declared.FunctionView.{FunctionView}
 use Rattle.view.specs.Values.{nextOf, Yields, typeHere}
 use Rattle.view.specs.Views.{kindOfType, FactsOf, unpacked}
 use Rattle.cursor.proofs.YieldLaws.{yielded}
-use Rattle.tables.specs.Tables.{namesIn, itemsIn, itemsOf, typeOf, Typed, Function, Arguments, Lent, Filled}
+use Rattle.tables.specs.Tables.{namesIn, itemsIn, itemsOf, typeOf, Typed, Arguments, Lent, Filled}
 use Rattle.tables.proofs.TypeLaws.{filled-type}
 use Rattle.mangle.proofs.FullLaws.{behind, filled-same}
 

@@ -14,10 +14,8 @@ use view::FunctionView;
 use view::ItemView;
 use view::is_function;
 use view::skip_type;
-ghost use mathlib.Core.Path.{_≡_};
 ghost use Prim.Native.Nat.{_/_, _<_, _≤_};
 ghost use lib.ListN.{length, take};
-ghost use Rattle.format.specs.declared.ItemKind.the-variants.{RustFunction};
 ghost use Rattle.view.specs.Views.{FactsOf, unpacked};
 ghost use Rattle.tables.specs.Tables.{namesIn, itemsIn, Item, Typed, Function, Lent, Filled};
 
@@ -29,8 +27,8 @@ const IDLE: u32 = 8;
 
 // ---- a type
 
-// Keeps the bits of the type of an argument with this entry, and what the entry says of it. A type has none kept that
-// has more than 32, or whose places are taken. The first `end` bytes of the pool are in use.
+// Keeps the bits of the type of an argument with this entry, and what the entry says of it. Nothing is kept of a type
+// of more than 32 bits, or where its place is taken. The first `end` bytes of the pool are in use.
 fn keep_type(
     s: &[u8],
     t: &mut [u32; Table::PLACES],

@@ -5,10 +5,8 @@ use Prim.Native.Nat.{ℕ, _+_, _-_, _*_, _/_, _%_, _^_, _<_, _≤_}
 use native.Mathlib.Omega.{arith}
 use lib.ListN.{length}
 use lib.Pow.{high}
-use lib.Dec.{eqb}
 use Rattle.format.specs.Limits.{mostNames}
 use Rattle.format.specs.Bits.{bitsAt}
-use Rattle.format.specs.Decode.{got}
 use Rattle.format.specs.Types.{str}
 use Rattle.format.specs.Decoding.{type}
 use Rattle.format.proofs.LocalLaws.{type-number}

@@ -1,18 +1,18 @@
 -- Types in the pool, and types that are kept.
-use mathlib.Core.Path.{_≡_, refl, sym, ap, _∙_}
+use mathlib.Core.Path.{_≡_, sym, ap, _∙_}
 use mathlib.Core.Logic.{by-cases}
 use mathlib.Core.List.{List, _++_}
 use Prim.Native.Nat.{ℕ, _+_, _-_, _*_, _/_, _%_, _<_, _≤_}
 use native.Mathlib.Omega.{arith}
 use native.Mathlib.Decide.{ℕ-discrete}
-use lib.ListN.{length, getD, set, take, length-set}
-use lib.Seq.{getD-set-same, getD-set-other, length-take-le}
+use lib.ListN.{length, getD, set, take}
+use lib.Seq.{getD-set-same, length-take-le}
 use Rattle.syntax.specs.Items.{itemAt, fullName}
 use Rattle.bridge.specs.WriteType.{writeTypeSpace}
 use Rattle.view.specs.Values.{nameAt}
 use Rattle.tables.specs.Tables.{namesIn, itemsIn, itemsOf, typeOf, Met, Tabled, Part, Lent, Filled}
 use Rattle.tables.proofs.TableLaws.{items-count}
-use Rattle.tables.proofs.PoolLaws.{part-more, part-new, lent-more, words-other, names-kept, items-kept, place-kept}
+use Rattle.tables.proofs.PoolLaws.{part-new, lent-more, words-other, names-kept, items-kept, place-kept}
 use Rattle.tables.proofs.PoolLaws.{tabled-kept, tabled-but, types-kept, names-count}
 
 -- ---- a place behind the words of names and items

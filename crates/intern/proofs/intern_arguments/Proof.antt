@@ -1,9 +1,7 @@
--- Written by tools/proofkit from answers/intern_arguments.tpl (5ef91299 af15fa37).
+-- Written by tools/proofkit from answers/intern_arguments.tpl (1c790ba1 6dad0ee0).
 use borrow.Author.Needs.{needs}
 use native.Mathlib.Omega.{arith}
 use Prim.Native.Nat.{_≤_, _-_}
-use mathlib.Core.Path.{_≡_, refl}
-use lib.ListN.{length}
 use Rattle.tables.specs.Tables.{Filled}
 use Rattle.mangle.proofs.FullLaws.{filled-same, filled-next}
 use Rattle.intern.proofs.InternLaws.{Entries, entries-of, entry-typed, entry-facts}

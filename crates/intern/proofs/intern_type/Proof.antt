@@ -1,7 +1,6 @@
--- Written by tools/proofkit from answers/intern_type.tpl (1f7e76cd bf2904c3).
+-- Written by tools/proofkit from answers/intern_type.tpl (9701ea1a 981ece60).
 use borrow.Author.Needs.{needs}
-use mathlib.Core.Path.{_∙_}
-use Rattle.mangle.proofs.FullLaws.{filled-same, filled-next}
+use Rattle.mangle.proofs.FullLaws.{filled-next}
 use Rattle.intern.proofs.intern_type.Statement.{statement}
 use Rattle.intern.proofs.intern_type.Tie as tie
 

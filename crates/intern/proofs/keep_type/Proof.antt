@@ -1,7 +1,7 @@
--- Written by tools/proofkit from answers/keep_type.tpl (10ce360c 5a775426).
+-- Written by tools/proofkit from answers/keep_type.tpl (16c5c5d0 cd23f1de).
 use borrow.Author.Needs.{needs}
 use native.Mathlib.Omega.{arith}
-use mathlib.Core.Path.{_≡_, refl, sym, ap, _∙_}
+use mathlib.Core.Path.{refl}
 use Rattle.types.proofs.KindLaws.{kind-room}
 use Rattle.tables.proofs.TableLaws.{items-count}
 use Rattle.tables.proofs.MetLaws.{met}

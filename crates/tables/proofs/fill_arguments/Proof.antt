@@ -1,4 +1,4 @@
--- Written by tools/proofkit from answers/fill_arguments.tpl (f7bbc4ec d5bb397e).
+-- Written by tools/proofkit from answers/fill_arguments.tpl (a8e3c877 83671186).
 use borrow.Author.Needs.{needs}
 use native.Mathlib.Omega.{arith}
 use mathlib.Core.Path.{_≡_, refl, sym, ap, _∙_}
@@ -6,9 +6,7 @@ use Prim.Native.Nat.{_≤_, _-_}
 use lib.ListN.{length, length-set}
 use lib.Seq.{length-take-le}
 use Rattle.cursor.proofs.WidthLaws.{width-le}
-use Rattle.cursor.proofs.YieldLaws.{yields}
 use Rattle.format.specs.Bits.{widthOf}
-use Rattle.view.specs.Values.{typeHere}
 use Rattle.view.proofs.ArgumentLaws as laws
 use Rattle.tables.specs.Tables.{namesIn, itemsIn}
 use Rattle.tables.proofs.TableLaws.{names-part, items-part, items-count}
