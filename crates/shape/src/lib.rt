@@ -1,9 +1,5 @@
 // The types that a call treats in a way of their own, and what a declaration and a shim write alike.
-mod chain;
-mod count;
-
-use crate::chain::write_chain;
-pub use count::count_type;
+use count_type::count_type;
 use cursor::Cursor;
 use cursor::fields::field;
 use format::Pointer;
@@ -20,6 +16,7 @@ use tables::type_word;
 use types::Levels;
 use types::kind_of;
 use view::FunctionView;
+use write_chain::write_chain;
 ghost use mathlib.Core.Path.{_≡_};
 ghost use mathlib.Core.Bool.{_||_};
 ghost use lib.Dec.{ltb};

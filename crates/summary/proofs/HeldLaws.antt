@@ -21,7 +21,7 @@ use Rattle.bridge.specs.Write.{shape, isHeld, heldLocal, operandEnd, operand}
 use Rattle.view.specs.declared.ArgumentView.{ArgumentView}
 use Rattle.view.specs.Values.{nameAt, itemsAt, typeHere}
 use Rattle.view.specs.Views.{ArgumentOf, FactsOf, kindOfType, ownerOf}
-use Rattle.shape.specs.Counts.{Counts}
+use Rattle.count_type.specs.Counts.{Counts}
 use Rattle.shape.proofs.TypeLaws.{here-is}
 use Rattle.summary.specs.Ends.{ownerEnd}
 

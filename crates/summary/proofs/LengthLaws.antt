@@ -14,9 +14,9 @@ use Rattle.sink.proofs.SinkLaws.{_▷_, wrote-as, wrote-length, wrote-place}
 use Rattle.sink.proofs.StoreLaws.{wrote-none}
 use Rattle.view.specs.Values.{nameAt}
 use Rattle.tables.specs.Tables.{namesIn, Lent}
-use Rattle.shape.specs.Counts.{Counts}
+use Rattle.count_type.specs.Counts.{Counts}
 use Rattle.shape.proofs.CommaLaws.{commas-behind}
-use Rattle.shape.proofs.CountLaws.{wrote-counted}
+use Rattle.count_type.proofs.CountLaws.{wrote-counted}
 use Rattle.summary.specs.declared.count.Places.{Places}
 use Rattle.summary.specs.Places.{Word, Passed, Placed}
 

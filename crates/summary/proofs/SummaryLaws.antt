@@ -19,7 +19,7 @@ use Rattle.view.specs.declared.FunctionView.{FunctionView}
 use Rattle.view.specs.Values.{Yields}
 use Rattle.view.specs.Views.{commentLines}
 use Rattle.tables.specs.Tables.{itemsIn, itemsOf, functionOf, Function, Arguments, behindArguments}
-use Rattle.shape.specs.Counts.{Counts}
+use Rattle.count_type.specs.Counts.{Counts}
 use Rattle.summary.specs.Summaries.{Summary, Summaries, Keeping}
 
 -- words that are the same in front are a summary as well

@@ -11,7 +11,7 @@ use Rattle.view.specs.declared.FunctionView.{FunctionView}
 use Rattle.view.specs.Values.{Yields}
 use Rattle.view.specs.Views.{commentLines}
 use Rattle.tables.specs.Tables.{itemsOf, functionOf, Function, Arguments}
-use Rattle.shape.specs.Counts.{Counts}
+use Rattle.count_type.specs.Counts.{Counts}
 
 -- the front of words: a view of each argument, the length of their text in the declaration and in the shim's head, that
 -- of the locals that hold some of them and of the operands, each or 0, and the position of the comment

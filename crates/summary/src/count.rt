@@ -1,8 +1,8 @@
 // The lengths of a function's arguments in its declaration, in the head of its shim, as locals and as operands. All are
 // counted by places in an empty buffer, from place 1 on; place 0 stands for texts that are not counted.
+use count_type::count_type;
 use cursor::Cursor;
 use put_name::put_name;
-use shape::count_type;
 use shape::write_outermost_space;
 use shape::write_pointer;
 use sink::advance;
@@ -29,7 +29,7 @@ ghost use Rattle.view.specs.Values.{nameAt};
 ghost use Rattle.view.specs.Views.{kindOfType, ownerOf};
 ghost use Rattle.tables.specs.Tables.{namesIn, itemsOf, functionOf, argumentOf, typeOf, Typed};
 ghost use Rattle.tables.specs.Tables.{Function, Arguments, Lent};
-ghost use Rattle.shape.specs.Counts.{Counts};
+ghost use Rattle.count_type.specs.Counts.{Counts};
 ghost use Rattle.summary.specs.Summaries.{Summary};
 ghost use Rattle.summary.specs.Places.{Word, Passed, Placed};
 ghost use Rattle.summary.specs.Ends.{ownerEnd};

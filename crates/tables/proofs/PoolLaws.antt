@@ -22,6 +22,7 @@ use Rattle.bridge.specs.WriteType.{writeTypeSpace}
 use Rattle.tables.specs.Tables.{namesIn, itemsIn, itemsOf, typeOf, Met, Tabled, Part, Lent, Filled}
 use Rattle.tables.proofs.FillLaws.{part-long}
 use Rattle.tables.proofs.TableLaws.{items-count, zero-word}
+use Rattle.tables.proofs.PairLaws.{pairs-other}
 
 -- a part that is lent, as the part of a list
 pub part-is : (a k : ℕ) (l : List ℕ) → a ≤ length l → take (a + k - a) (drop a l) ≡ slice a (a + k) l
@@ -63,6 +64,10 @@ pub type-part : {s t pool : List ℕ} → Lent s t pool → (k : ℕ) {at : ℕ}
     (writeTypeSpace (itemsOf s t) (typeOf s t at))
 type-part l k h e n = rw (← e) (l .types k h n)
 
+-- a word of the table that says where in the pool the type at a position is spelled
+abbrev pub Spelled : List ℕ → List ℕ → List ℕ → ℕ → ℕ → Type 0
+Spelled s t pool at w = Part pool (w / 1024) (w % 1024) (writeTypeSpace (itemsOf s t) (typeOf s t at))
+
 -- ---- one word of the table
 
 -- words of u * start + length, from `first` on
@@ -90,9 +95,6 @@ module _ (u first n : ℕ) (text : ℕ → List ℕ) where
       rw g (part-more (text i) (l j h (rw g at k))))
 
 module _ {s t : List ℕ} (tabled : Tabled s t) (p w : ℕ) (h : 1280 ≤ p) where
-  pub place-kept : (k : ℕ) → (k ≡ p → ⊥) → getD (set t p w) k 0 ≡ getD t k 0
-  place-kept k apart = getD-set-other t p k w 0 apart
-
   pub names-kept : namesIn (set t p w) ≡ namesIn t
   unfolding namesIn
   names-kept =
@@ -121,10 +123,9 @@ module _ {s t : List ℕ} (tabled : Tabled s t) (p w : ℕ) (h : 1280 ≤ p) whe
 
   pub tabled-kept : p < 2812 → Tabled s (set t p w)
   tabled-kept l =
-      tabled-but (λ k g n.
-      let a = place-kept (2812 + k) (λ e. omega arith) in
-      let b = place-kept (2940 + k) (λ e. omega arith) in
-      rw (a, b, names-kept, items-kept) (tabled .met k g (rw b at n)))
+      tabled-but (rw (names-kept, items-kept)
+      (pairs-other 2812 2940 128 (Met s (namesIn t) (itemsIn t)) t p w (λ k g e. omega arith) (λ k g e. omega arith)
+      (tabled .met)))
 
 -- ---- a name by its number
 
@@ -175,10 +176,10 @@ module _ {s t pool : List ℕ} (l : Lent s t pool) (p w : ℕ) (h : 1280 ≤ p) 
       (getD (set t p w) (2685 + k) 0 ≡ 0 → ⊥) → Part pool (getD (set t p w) (2685 + k) 0 / 1024)
       (getD (set t p w) (2685 + k) 0 % 1024)
       (writeTypeSpace (itemsOf s (set t p w)) (typeOf s (set t p w) (getD (set t p w) (2558 + k) 0)))
-  types-kept apart k g n =
-      let a = place-kept (l .tabled) p w h (2558 + k) (apart k (omega arith)) in
-      let b = place-kept (l .tabled) p w h (2685 + k) (λ e. apart (127 + k) (omega arith) (omega arith)) in
-      rw (a, b, names-kept (l .tabled) p w h, items-kept (l .tabled) p w h) (l .types k g (rw b at n))
+  types-kept apart =
+      rw (names-kept (l .tabled) p w h, items-kept (l .tabled) p w h)
+      (pairs-other 2558 2685 127 (Spelled s t pool) t p w (λ k g. apart k (omega arith))
+      (λ k g e. apart (127 + k) (omega arith) (omega arith)) (l .types))
 
 module _ {s t pool : List ℕ} (l : Lent s t pool) (i : ℕ) where
   -- a name

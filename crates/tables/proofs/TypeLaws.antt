@@ -1,18 +1,17 @@
 -- Types in the pool, and types that are kept.
 use mathlib.Core.Path.{_≡_, sym, ap, _∙_}
-use mathlib.Core.Logic.{by-cases}
 use mathlib.Core.List.{List, _++_}
 use Prim.Native.Nat.{ℕ, _+_, _-_, _*_, _/_, _%_, _<_, _≤_}
 use native.Mathlib.Omega.{arith}
-use native.Mathlib.Decide.{ℕ-discrete}
 use lib.ListN.{length, getD, set, take}
-use lib.Seq.{getD-set-same, length-take-le}
+use lib.Seq.{length-take-le}
 use Rattle.syntax.specs.Items.{itemAt, fullName}
 use Rattle.bridge.specs.WriteType.{writeTypeSpace}
 use Rattle.view.specs.Values.{nameAt}
 use Rattle.tables.specs.Tables.{namesIn, itemsIn, itemsOf, typeOf, Met, Tabled, Part, Lent, Filled}
 use Rattle.tables.proofs.TableLaws.{items-count}
-use Rattle.tables.proofs.PoolLaws.{part-new, lent-more, words-other, names-kept, items-kept, place-kept}
+use Rattle.tables.proofs.PairLaws.{pairs-key, pairs-word}
+use Rattle.tables.proofs.PoolLaws.{part-new, lent-more, Spelled, words-other, names-kept, items-kept}
 use Rattle.tables.proofs.PoolLaws.{tabled-kept, tabled-but, types-kept, names-count}
 
 -- ---- a place behind the words of names and items
@@ -44,18 +43,16 @@ module _ {s t pool : List ℕ} (l : Lent s t pool) (p w : ℕ) (h : 2558 ≤ p) 
 -- ---- a type in the pool
 
 module _ {s t pool : List ℕ} (l : Lent s t pool) (k at : ℕ) (h : k < 127) (free : getD t (2685 + k) 0 ≡ 0) where
+  abbrev u : List ℕ
+  u = set t (2558 + k) at
+
   -- its position
   place-more : Lent s (set t (2558 + k) at) pool
   place-more =
       let p = 2558 + k in
-      lent-but l p at (omega arith) (tabled-kept (l .tabled) p at (omega arith) (omega arith)) (λ j g n.
-      let b = place-kept (l .tabled) p at (omega arith) (2685 + j) (λ e. omega arith) in
-      by-cases (ℕ-discrete j k)
-      (λ e. absurd (n (b ∙ ap (λ (i : ℕ). getD t (2685 + i) 0) e ∙ free)))
-      (λ other.
-      let a = place-kept (l .tabled) p at (omega arith) (2558 + j) (λ e. other (omega arith)) in
-      rw (a, b, names-kept (l .tabled) p at (omega arith), items-kept (l .tabled) p at (omega arith))
-      (l .types j g (rw b at n))))
+      lent-but l p at (omega arith) (tabled-kept (l .tabled) p at (omega arith) (omega arith))
+      (rw (names-kept (l .tabled) p at (omega arith), items-kept (l .tabled) p at (omega arith))
+      (pairs-key 2558 2685 127 (Spelled s t pool) (omega arith) t k at h (omega (arith, l .tabled .long)) free (l .types)))
 
   abbrev text : List ℕ
   text = writeTypeSpace (itemsOf s t) (typeOf s t at)
@@ -65,27 +62,21 @@ module _ {s t pool : List ℕ} (l : Lent s t pool) (k at : ℕ) (h : k < 127) (f
       Lent s (set (set t (2558 + k) at) (2685 + k) (length pool * 1024 + length (writeTypeSpace (itemsOf s t) (typeOf s t at))))
       (pool ++ writeTypeSpace (itemsOf s t) (typeOf s t at))
   type-more short =
-      let u = set t (2558 + k) at in
       let m : Lent s u (pool ++ text) = lent-more text place-more in
       let p = 2685 + k in
       let w = length pool * 1024 + length text in
-      let na : namesIn (set u p w) ≡ namesIn t =
-      names-kept (m .tabled) p w (omega arith) ∙ names-kept (l .tabled) (2558 + k) at (omega arith) in
-      let ia : itemsIn (set u p w) ≡ itemsIn t =
-      items-kept (m .tabled) p w (omega arith) ∙ items-kept (l .tabled) (2558 + k) at (omega arith) in
-      lent-but m p w (omega arith) (tabled-kept (m .tabled) p w (omega arith) (omega arith)) (λ j g n.
-      let a = place-kept (m .tabled) p w (omega arith) (2558 + j) (λ e. omega arith) in
-      by-cases (ℕ-discrete j k)
-      (λ e.
-      let b : getD (set u p w) (2685 + j) 0 ≡ w = rw e (getD-set-same u p w 0 (omega (arith, m .tabled .long))) in
-      let c : getD u (2558 + j) 0 ≡ at = rw e (getD-set-same t (2558 + k) at 0 (omega (arith, l .tabled .long))) in
       let d : w / 1024 ≡ length pool = omega arith in
       let f : w % 1024 ≡ length text = omega arith in
-      rw (a, b, c, d, f, na, ia) (part-new pool text))
-      (λ other.
-      let b = place-kept (m .tabled) p w (omega arith) (2685 + j) (λ e. other (omega arith)) in
-      rw (a, b, names-kept (m .tabled) p w (omega arith), items-kept (m .tabled) p w (omega arith))
-      (m .types j g (rw b at n))))
+      let new : Spelled s t (pool ++ text) at w = rw (d, f) (part-new pool text) in
+      lent-but m p w (omega arith) (tabled-kept (m .tabled) p w (omega arith) (omega arith))
+      (rw (
+        names-kept (m .tabled) p w (omega arith),
+        names-kept (l .tabled) (2558 + k) at (omega arith),
+        items-kept (m .tabled) p w (omega arith),
+        items-kept (l .tabled) (2558 + k) at (omega arith),
+      )
+      (pairs-word 2558 2685 127 (Spelled s t (pool ++ text)) (omega arith) t k at h (omega (arith, l .tabled .long)) free
+      (lent-more text l .types) w new))
 
 pub filled-type : {s before t pool : List ℕ} {end : ℕ} → Filled s before t pool end → (k at n : ℕ) (part after : List ℕ) →
     length part ≡ n → take (end + n) after ≡ take end pool ++ part → end + n ≤ length after → k < 127 →
@@ -107,39 +98,26 @@ filled-type {s} {before} {t} {pool} {end} d k at n part after c front room h fre
 -- ---- a type that is kept
 
 module _ {s t : List ℕ} (tabled : Tabled s t) (k key : ℕ) (h : k < 128) (free : getD t (2940 + k) 0 ≡ 0) where
-  abbrev u : List ℕ
-  u = set t (2812 + k) key
-
   tabled-key : Tabled s (set t (2812 + k) key)
   tabled-key =
       let p = 2812 + k in
-      tabled-but tabled p key (omega arith) (λ j g n.
-      let b = place-kept tabled p key (omega arith) (2940 + j) (λ e. omega arith) in
-      by-cases (ℕ-discrete j k)
-      (λ e. absurd (n (b ∙ ap (λ (i : ℕ). getD t (2940 + i) 0) e ∙ free)))
-      (λ other.
-      let a = place-kept tabled p key (omega arith) (2812 + j) (λ e. other (omega arith)) in
-      rw (a, b, names-kept tabled p key (omega arith), items-kept tabled p key (omega arith))
-      (tabled .met j g (rw b at n))))
+      tabled-but tabled p key (omega arith)
+      (rw (names-kept tabled p key (omega arith), items-kept tabled p key (omega arith))
+      (pairs-key 2812 2940 128 (Met s (namesIn t) (itemsIn t)) (omega arith) t k key h (omega (arith, tabled .long)) free
+      (tabled .met)))
 
   tabled-met : {w : ℕ} → Met s (namesIn t) (itemsIn t) key w → Tabled s (set (set t (2812 + k) key) (2940 + k) w)
   tabled-met {w} m =
       let p = 2940 + k in
-      let na : namesIn (set u p w) ≡ namesIn t =
-      names-kept tabled-key p w (omega arith) ∙ names-kept tabled (2812 + k) key (omega arith) in
-      let ia : itemsIn (set u p w) ≡ itemsIn t =
-      items-kept tabled-key p w (omega arith) ∙ items-kept tabled (2812 + k) key (omega arith) in
-      tabled-but tabled-key p w (omega arith) (λ j g n.
-      let a = place-kept tabled-key p w (omega arith) (2812 + j) (λ e. omega arith) in
-      by-cases (ℕ-discrete j k)
-      (λ e.
-      let b : getD (set u p w) (2940 + j) 0 ≡ w = rw e (getD-set-same u p w 0 (omega (arith, tabled-key .long))) in
-      let c : getD u (2812 + j) 0 ≡ key = rw e (getD-set-same t (2812 + k) key 0 (omega (arith, tabled .long))) in
-      rw (a, b, c, na, ia) m)
-      (λ other.
-      let b = place-kept tabled-key p w (omega arith) (2940 + j) (λ e. other (omega arith)) in
-      rw (a, b, names-kept tabled-key p w (omega arith), items-kept tabled-key p w (omega arith))
-      (tabled-key .met j g (rw b at n))))
+      tabled-but tabled-key p w (omega arith)
+      (rw (
+        names-kept tabled-key p w (omega arith),
+        names-kept tabled (2812 + k) key (omega arith),
+        items-kept tabled-key p w (omega arith),
+        items-kept tabled (2812 + k) key (omega arith),
+      )
+      (pairs-word 2812 2940 128 (Met s (namesIn t) (itemsIn t)) (omega arith) t k key h (omega (arith, tabled .long)) free
+      (tabled .met) w m))
 
 pub filled-met : {s before t pool : List ℕ} {end : ℕ} → Filled s before t pool end → (k key : ℕ) {w : ℕ} → k < 128 →
     getD t (2940 + k) 0 ≡ 0 → Met s (namesIn t) (itemsIn t) key w →

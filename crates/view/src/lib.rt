@@ -173,7 +173,7 @@ pub fn past_type(s: &[u8], c: Cursor, items: u32) -> Cursor
 }
 
 // The bits of a kind, by its number, before its inner type; 0 where it has none, or more stands behind that.
-fn prefix_of(k: u32) -> u32
+pub fn prefix_of(k: u32) -> u32
     ensures { λ r. ⌜ r ≡ prefixOf (kindOf k) ⌝ }
 {
     match k {

@@ -1,4 +1,4 @@
--- Written by tools/proofkit from answers/write_parameters.tpl (5b6a6988 80e9bc61).
+-- Written by tools/proofkit from answers/write_parameters.tpl (e328be3f 785627d9).
 use borrow.Author.Needs.{needs}
 use mathlib.Core.List.{_++_}
 use mathlib.Core.Bool.{false}
@@ -8,7 +8,7 @@ use Rattle.bridge.specs.WriteType.{writeTypeSpace}
 use Rattle.sink.specs.Sink.{sink}
 use Rattle.sink.proofs.SinkLaws.{wrote-length}
 use Rattle.shape.proofs.CommaLaws.{Listed, listed-none}
-use Rattle.shape.proofs.CountLaws.{wrote-counted}
+use Rattle.count_type.proofs.CountLaws.{wrote-counted}
 use Rattle.shape.proofs.ArgumentLaws.{listed-argument, listed-arguments}
 use Rattle.summary.proofs.LengthLaws.{kept}
 use Rattle.tables.specs.Tables.{itemsOf, functionOf}

@@ -1,4 +1,4 @@
--- Written by tools/proofkit from answers/write_held_locals.tpl (ecc4ca50 8cdbd250).
+-- Written by tools/proofkit from answers/write_held_locals.tpl (60df3db3 1ac006cc).
 use borrow.Author.Needs.{needs}
 use Prim.Native.Nat.{_-_, _≤_}
 use native.Mathlib.Omega.{arith}
@@ -6,7 +6,7 @@ use Rattle.bridge.specs.Write.{heldLocal}
 use Rattle.sink.specs.Sink.{sink}
 use Rattle.sink.proofs.SinkLaws.{wrote-length}
 use Rattle.shape.proofs.CommaLaws.{Gathered, gathered-none}
-use Rattle.shape.proofs.CountLaws.{wrote-counted}
+use Rattle.count_type.proofs.CountLaws.{wrote-counted}
 use Rattle.shape.proofs.ArgumentLaws.{gathered-argument, gathered-arguments}
 use Rattle.summary.proofs.LengthLaws.{kept}
 use Rattle.tables.specs.Tables.{itemsOf, functionOf}

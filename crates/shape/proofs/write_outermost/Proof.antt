@@ -1,9 +1,9 @@
--- Written by tools/proofkit from answers/write_outermost.tpl (d33ee2c4 cb33f3b8).
+-- Written by tools/proofkit from answers/write_outermost.tpl (cce7bc9b 15fed19e).
 use borrow.Author.Needs.{needs}
 use native.Mathlib.Omega.{arith}
 use Rattle.write_type.proofs.TypeLaws.{outermost-yields}
 use Rattle.shape.proofs.TypeLaws.{type-at}
-use Rattle.shape.proofs.CountLaws.{wrote-counted}
+use Rattle.count_type.proofs.CountLaws.{wrote-counted}
 use Rattle.shape.proofs.write_outermost.Statement.{statement}
 use Rattle.shape.proofs.write_outermost.Tie as tie
 

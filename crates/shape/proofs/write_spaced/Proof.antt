@@ -1,7 +1,7 @@
--- Written by tools/proofkit from answers/write_spaced.tpl (ae676f40 0d951a3e).
+-- Written by tools/proofkit from answers/write_spaced.tpl (c91006c3 cbda052e).
 use borrow.Author.Needs.{needs}
 use native.Mathlib.Omega.{arith}
-use Rattle.shape.proofs.CountLaws.{wrote-counted}
+use Rattle.count_type.proofs.CountLaws.{wrote-counted}
 use Rattle.shape.proofs.write_spaced.Statement.{statement}
 use Rattle.shape.proofs.write_spaced.Tie as tie
 

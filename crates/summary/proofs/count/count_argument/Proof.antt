@@ -1,10 +1,10 @@
--- Written by tools/proofkit from answers/count/count_argument.tpl (b6ea6514 74c80428).
+-- Written by tools/proofkit from answers/count/count_argument.tpl (ba63e576 e5a0ae4c).
 use borrow.Author.Needs.{needs}
 use mathlib.Core.Path.{refl}
 use native.Mathlib.Omega.{arith}
 use Rattle.shape.proofs.TypeLaws.{here-yields}
 use Rattle.shape.proofs.ArgumentLaws.{argument-at}
-use Rattle.shape.proofs.CountLaws.{wrote-counted}
+use Rattle.count_type.proofs.CountLaws.{wrote-counted}
 use Rattle.shape.proofs.ExternLaws.{argument-written, parameter-written}
 use Rattle.summary.proofs.HeldLaws.{held-is, local-passed, operand-written}
 use Rattle.summary.proofs.LengthLaws.{positive, passed, ahead, within, later, near, passed-near, passed-none}

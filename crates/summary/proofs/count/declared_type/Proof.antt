@@ -1,8 +1,8 @@
--- Written by tools/proofkit from answers/count/declared_type.tpl (ae482f1f 6777dc75).
+-- Written by tools/proofkit from answers/count/declared_type.tpl (7be3b6b1 e4743093).
 use borrow.Author.Needs.{needs}
 use native.Mathlib.Omega.{arith}
 use Rattle.types.proofs.KindLaws.{kind-room}
-use Rattle.shape.proofs.CountLaws.{wrote-counted}
+use Rattle.count_type.proofs.CountLaws.{wrote-counted}
 use Rattle.shape.proofs.ExternLaws.{arg-plain, arg-inner, arg-owner}
 use Rattle.tables.specs.Tables.{namesIn, itemsIn}
 use Rattle.summary.proofs.LengthLaws.{alone}

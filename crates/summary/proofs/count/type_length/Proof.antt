@@ -1,9 +1,9 @@
--- Written by tools/proofkit from answers/count/type_length.tpl (e7801fa1 c3ac42cd).
+-- Written by tools/proofkit from answers/count/type_length.tpl (f7f05290 179da496).
 use borrow.Author.Needs.{needs}
 use native.Mathlib.Omega.{arith}
 use Rattle.write_type.proofs.TypeLaws.{outermost-yields}
 use Rattle.shape.proofs.TypeLaws.{type-at}
-use Rattle.shape.proofs.CountLaws.{part-counts}
+use Rattle.count_type.proofs.CountLaws.{part-counts}
 use Rattle.summary.proofs.LengthLaws.{counted}
 use Rattle.summary.proofs.SummaryLaws.{counted-none}
 use Rattle.sink.proofs.SinkLaws.{wrote-place}

@@ -1,0 +1,2 @@
+pub mod InnerLaws
+mod ChainLaws
