@@ -1,3 +1,3 @@
-pub mod DeliverLaws
+pub mod JudgeLaws
 pub mod WrittenLaws
 mod TableLaws

@@ -10,7 +10,7 @@ use Rattle.view.specs.Values.{itemsAt, Ready}
 use Rattle.tables.specs.Tables.{namesIn, itemsIn, itemsOf, Listed, Filled}
 use Rattle.summary.specs.Summaries.{Summaries}
 use Rattle.sections.specs.Runs.{sheetOf}
-use Rattle.write_sheet.specs.Delivers.{Delivers}
+use Rattle.deliver.specs.Delivers.{Delivers}
 
 -- the lists of the table that is lent are those that it was filled from
 pub record Lists (names items t : List ℕ) : Type 0 where

@@ -1,1 +1,1 @@
-pub mod Delivers
+pub mod Judges

@@ -2,22 +2,19 @@
 use check_sheet::judge_in;
 use decode::Decoded;
 use decode::decode;
+use deliver::deliver_text;
 use format::Outline;
 use intern::intern_types;
 use mangle::fill_full_names;
 use marks::Mark;
-use refusal::Refusal;
 use rules::Checked;
 use services::Written;
-use sink::put_bytes;
 use summary::Words;
 use summary::fill_summaries;
 use tables::Pool;
 use tables::Table;
 use tables::fill_pool;
 use tables::fill_table;
-use write::write_text;
-ghost use mathlib.Core.Path.{_≡_};
 ghost use Prim.Native.Nat.{_≤_};
 ghost use lib.ListN.{length, replicate};
 ghost use Rattle.format.specs.Limits.{mostNames, mostItems};
@@ -27,12 +24,10 @@ ghost use Rattle.marks.specs.Marking.{places};
 ghost use Rattle.judge.specs.Marked.{Marked};
 ghost use Rattle.bridge.specs.Write.{text};
 ghost use Rattle.services.specs.Services.{Writes};
-ghost use Rattle.names.specs.Digests.{digestsAt};
 ghost use Rattle.view.specs.Values.{itemsAt, Ready};
-ghost use Rattle.tables.specs.Tables.{namesIn, itemsOf, Lent};
-ghost use Rattle.summary.specs.Summaries.{Summaries};
 ghost use Rattle.sections.specs.Runs.{sheetOf};
-ghost use Rattle.write_sheet.specs.Delivers.{Delivers, Judges};
+ghost use Rattle.deliver.specs.Delivers.{Delivers};
+ghost use Rattle.write_sheet.specs.Judges.{Judges};
 
 // A text of at most so many bytes is written once, and copied where it fits; that of a longer sheet is measured before.
 const SHORT: usize = 6144;
@@ -40,46 +35,8 @@ const SHORT: usize = 6144;
 // The longest sheet whose text is taken for short.
 const SMALL: usize = 512;
 
-// Writes the text where it fits. It is written beside the buffer first, into bytes that may be too few to hold it.
-fn deliver_text(
-    s: &[u8],
-    t: &[u32; Table::PLACES],
-    pool: &[u8; Pool::BYTES],
-    digests: &[u32],
-    header: bool,
-    doxygen: bool,
-    kept: &[u32],
-    short: &mut [u8],
-    buf: &mut [u8],
-) -> Written
-    requires { ⌜ Lent (now s) (now t) (now pool) × (now digests ≡ digestsAt (now s) (namesIn (now t))) ×
-        Summaries (now s) (now t) (now kept) ⌝ }
-    ensures { λ r. ⌜ Delivers (text (sheetOf header doxygen (itemsOf (now (s .entry)) (now (t .entry)))))
-        (now (buf .entry)) r (now (buf .exit)) ⌝ }
-{
-    let length = write_text(s, t, pool, digests, header, doxygen, kept, short);
-    if buf.len() < length {
-        return Written::Refused(Refusal::Overrun);
-    }
-    if length <= short.len() {
-        put_bytes(buf, 0, &short[..length]);
-        return Written::Length(length);
-    }
-    write_text(
-        s,
-        t,
-        pool,
-        digests,
-        header,
-        doxygen,
-        kept,
-        &mut buf[..length],
-    );
-    Written::Length(length)
-}
-
-// The same by its names and items. The table is made here, so that it takes no stack before a sheet is accepted; where
-// there are two passes, types are spelled and what both ask of functions is gathered once.
+// Writes the text where it fits, by names and items. The table is made here, so that it takes no stack before a sheet
+// is accepted; where there are two passes, types are spelled and what both ask of functions is gathered once.
 fn deliver_listed(
     s: &[u8],
     names: &[u32],

@@ -1,7 +1,7 @@
--- Written by tools/proofkit from answers/answer.tpl (3f434df0 ccfe36bd).
+-- Written by tools/proofkit from answers/answer.tpl (f79aeb37 d47e7a92).
 use borrow.Author.Needs.{needs}
 use Rattle.decode.proofs.AnswerLaws.{refused, whole}
-use Rattle.write_sheet.proofs.DeliverLaws.{writes-refused}
+use Rattle.write_sheet.proofs.JudgeLaws.{writes-refused}
 use Rattle.write_sheet.proofs.answer.Statement.{statement}
 use Rattle.write_sheet.proofs.answer.Tie as tie
 

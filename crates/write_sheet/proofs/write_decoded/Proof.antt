@@ -1,10 +1,10 @@
--- Written by tools/proofkit from answers/write_decoded.tpl (ea040810 407bd139).
+-- Written by tools/proofkit from answers/write_decoded.tpl (4f1a0e9d 5fb26f3d).
 use borrow.Author.Needs.{needs}
 use native.Mathlib.Omega.{arith}
 use mathlib.Core.Path.{sym}
 use lib.Seq.{length-take-le}
 use Rattle.check_sheet.proofs.CheckLaws.{ready-tables, marked-tables}
-use Rattle.write_sheet.proofs.DeliverLaws.{writes-tables}
+use Rattle.write_sheet.proofs.JudgeLaws.{writes-tables}
 use Rattle.write_sheet.proofs.write_decoded.Statement.{statement}
 use Rattle.write_sheet.proofs.write_decoded.Tie as tie
 

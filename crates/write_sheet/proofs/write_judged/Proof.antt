@@ -1,6 +1,6 @@
--- Written by tools/proofkit from answers/write_judged.tpl (248df838 8c4bb972).
+-- Written by tools/proofkit from answers/write_judged.tpl (a556c8ab 799170db).
 use borrow.Author.Needs.{needs}
-use Rattle.write_sheet.proofs.DeliverLaws.{judged-refused, judged-accepted}
+use Rattle.write_sheet.proofs.JudgeLaws.{judged-refused, judged-accepted}
 use Rattle.write_sheet.proofs.write_judged.Statement.{statement}
 use Rattle.write_sheet.proofs.write_judged.Tie as tie
 

@@ -1,12 +1,12 @@
--- Written by tools/proofkit from answers/deliver_text.tpl (2fb04e42 a7d075b8).
+-- Written by tools/proofkit from answers/deliver_text.tpl (084b720f 62e5092e).
 use borrow.Author.Needs.{needs}
 use native.Mathlib.Omega.{arith}
 use mathlib.Core.Path.{sym}
 use lib.Seq.{length-take-le}
 use Rattle.sink.proofs.SinkLaws.{wrote-length}
-use Rattle.write_sheet.proofs.DeliverLaws.{deliver-long, deliver-short, deliver-fits}
-use Rattle.write_sheet.proofs.deliver_text.Statement.{statement}
-use Rattle.write_sheet.proofs.deliver_text.Tie as tie
+use Rattle.deliver.proofs.DeliverLaws.{deliver-long, deliver-short, deliver-fits}
+use Rattle.deliver.proofs.deliver_text.Statement.{statement}
+use Rattle.deliver.proofs.deliver_text.Tie as tie
 
 returns : tie.Need-returns
 returns c = deliver-long _ (c .before .before .before .write-text .ensures) (c .if1 .taken)

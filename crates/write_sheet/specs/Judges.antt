@@ -1,21 +1,15 @@
--- What is promised of an answer's bytes, where the sheet is accepted.
+-- What is promised of an answer's bytes, where the sheet is decoded.
 use mathlib.Core.Path.{_≡_}
 use mathlib.Core.List.{List}
 use Prim.Native.Nat.{ℕ}
-use lib.ListN.{length}
 use Rattle.format.specs.Sheet.{Sheet}
 use Rattle.rules.specs.declared.Checked.{Checked}
 use Rattle.rules.specs.declared.Checked.the-variants.{Accepted, Refused}
 use Rattle.bridge.specs.Write.{text}
 use Rattle.services.specs.declared.Written.{Written}
 use Rattle.services.specs.declared.Written.the-variants as Written
-use Rattle.services.specs.Services.{fitted, overlaid}
 use Rattle.check_sheet.specs.Ruled.{ruledItems}
-
--- the bytes, or 13
-pub record Delivers (bytes buffer : List ℕ) (answer : Written) (after : List ℕ) : Type 0 where
-  pub answers : answer ≡ fitted bytes (length buffer)
-  pub leaves : after ≡ overlaid bytes buffer
+use Rattle.deliver.specs.Delivers.{Delivers}
 
 -- a refusal of 9 to 12, else the text
 abbrev pub JudgedBy : Checked → Sheet → List ℕ → Written → List ℕ → Type 0
