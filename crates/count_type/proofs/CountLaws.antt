@@ -27,9 +27,8 @@ use Rattle.view.specs.Views.{prefixOf}
 use Rattle.write_atom.specs.Texts.{spaceOfKind}
 use Rattle.write_type.specs.TypeAt.{tyAt}
 use Rattle.tables.specs.Tables.{itemsIn, itemsOf, Part, Lent}
-use Rattle.write_chain.specs.declared.Inner.{Inner}
-use Rattle.write_chain.specs.Chains.{beginOf, closeOf, endOf, InnerOf, writeTypeAs}
-use Rattle.write_chain.proofs.InnerLaws.{space-few, space-at, type-room, inner-at}
+use Rattle.write_chain.specs.Chains.{beginOf, closeOf, endOf, writeTypeAs}
+use Rattle.write_chain.proofs.InnerLaws.{space-few, prefix-fits, Reads, space-at, type-room, inner-at}
 use Rattle.count_type.specs.Counts.{Counts}
 
 -- ---- numbers that a match leaves
@@ -117,19 +116,14 @@ close-few Kind.Fn b i = omega arith
 close-few Kind.Array b i = omega arith
 close-few Kind.Bad b i = omega arith
 
-prefix-long : (j : TypeKind) → 0 < prefixOf j → 4 ≤ prefixOf j
-prefix-long (Kind.Template k) l = omega arith
-prefix-long (Kind.Pointer k) l = omega arith
-prefix-long Kind.Atom l = absurd (omega arith)
-prefix-long Kind.Named l = absurd (omega arith)
-prefix-long Kind.Str l = absurd (omega arith)
-prefix-long Kind.Fn l = absurd (omega arith)
-prefix-long Kind.Array l = absurd (omega arith)
-prefix-long Kind.Bad l = absurd (omega arith)
-
 -- as a helper ensures it
 pub begin-fits : (k : ℕ) {r : ℕ} → r ≡ length (beginOf (kindOf k)) → r ≤ 18
 begin-fits k e = omega (arith, begin-few (kindOf k))
+
+-- the code of a template
+pub one-long : 1 ≡ length (endOf 1)
+unfolding endOf
+one-long = refl
 
 pub atom-fits : (n : ℕ) {r : ℕ} → r ≡ length (writeAtom (atomOf n)) → r ≤ 15
 atom-fits n e = omega (arith, atom-few (atomOf n))
@@ -169,47 +163,52 @@ module _ (n : ℕ) (s : List ℕ) (items : List Item) where
     length-is =
         let t = tyAt n levels s at in
         let f = z ∙ ap (λ (i : ℕ). length (spaceOfKind (kindOf i))) e in
-        omega (arith, length-append (writeType items t) (spaceAfterType t), ap length (space-at n s levels at (y .is)), f);
+        let g = ap length (space-at n s levels at (y .is)) in
+        omega (arith, length-append (writeType items t) (spaceAfterType t), g, f);
   }
-  counting-whole levels at false y e z = record { few = omega arith; levels = levels; there = y; length-is = omega arith }
+  counting-whole levels at false y e z = record {
+    few = omega arith;
+    levels = levels;
+    there = y;
+    length-is = omega arith;
+  }
 
   -- its inner type, as the code goes on with it
-  pub counting-turn : {whole : List ℕ} {at sum k a b c : ℕ} {r : Inner} → Counting n s items whole at sum →
-      k ≡ bitsAt s at 4 → a ≡ prefixOf (kindOf k) → 0 < a → InnerOf s at k r → b ≡ length (beginOf (kindOf k)) →
-      c ≡ length (endOf (r .code)) → (at + 4 ≤ r .at) × Counting n s items whole (r .at) (sum + b + c)
-  counting-turn {at = at} {k = k} {r = r} p e z l o v w =
-      let i = inner-at n s (p .levels) at (p .there) e items (rw (← z) l) in
-      let m = prefix-long (kindOf k) (rw (← z) l) in
-      let t = tyAt n (p .levels - 1) s (r .at) in
-      let close = closeOf (kindOf k) (eqb (bitsAt s (at + 4) 1) 1) (kindOf (r .kind)) in
+  pub counting-turn : {whole : List ℕ} {at sum k a next i c b d : ℕ} → Counting n s items whole at sum →
+      k ≡ bitsAt s at 4 → a ≡ prefixOf (kindOf k) → 0 < a → b ≡ length (beginOf (kindOf k)) →
+      Reads s at (kindOf k) next i c → d ≡ length (endOf c) → Counting n s items whole next (sum + b + d)
+  counting-turn {at = at} {k = k} {next = next} {i = i} p e z l v o w =
+      let inner = inner-at n s (p .levels) at (p .there) e items (rw (← z) l) in
+      let t = tyAt n (p .levels - 1) s next in
+      let mutable = eqb (bitsAt s (at + 4) 1) 1 in
+      let close = closeOf (kindOf k) mutable (kindOf i) in
       let text : writeType items (tyAt n (p .levels) s at) ≡ beginOf (kindOf k) ++ writeType items t ++ close =
-      rw (o .kind, o .place) (i .text) in
-      let d = w ∙ ap length (o .text) in (
-        omega (arith, o .place, m),
-        record {
-          few = omega (
-            arith,
-            p .few,
-            o .place,
-            m,
-            v,
-            d,
-            begin-few (kindOf k),
-            close-few (kindOf k) (eqb (bitsAt s (at + 4) 1) 1) (kindOf (r .kind)),
-          );
-          levels = p .levels - 1;
-          there = rw (o .place) (i .there);
-          length-is = omega (
-            arith,
-            p .length-is,
-            v,
-            d,
-            ap length text,
-            length-append (beginOf (kindOf k) ++ writeType items t) close,
-            length-append (beginOf (kindOf k)) (writeType items t),
-          );
-        },
-      )
+      rw (o .kind, o .place) (inner .text) in
+      let g = w ∙ ap length (o .text) in
+      record {
+        few = omega (
+          arith,
+          p .few,
+          o .place,
+          z,
+          prefix-fits k z l,
+          v,
+          g,
+          begin-few (kindOf k),
+          close-few (kindOf k) mutable (kindOf i),
+        );
+        levels = p .levels - 1;
+        there = rw (o .place) (inner .there);
+        length-is = omega (
+          arith,
+          p .length-is,
+          v,
+          g,
+          ap length text,
+          length-append (beginOf (kindOf k) ++ writeType items t) close,
+          length-append (beginOf (kindOf k)) (writeType items t),
+        );
+      }
 
   module _ {whole : List ℕ} {at sum : ℕ} (p : Counting n s items whole at sum) where
     pub counting-near : (at + 4 ≤ 8 * length s) × (sum ≤ 64 * length s)

@@ -6,8 +6,8 @@ use cursor::width;
 use tables::Pool;
 use tables::Table;
 use view::prefix_of;
+use write_chain::code_of;
 use write_chain::end_length;
-use write_chain::inner_type;
 ghost use mathlib.Core.Path.{_≡_};
 ghost use Prim.Native.Nat.{_<_};
 ghost use lib.ListN.{length};
@@ -119,10 +119,18 @@ pub fn count_type(
     let mut sum = end_length(spaced, k);
     let mut prefix = prefix_of(k);
     while 0 < prefix {
-        let i = inner_type(s, at, k);
-        sum = sum + begin_length(k) + close_length(i.code);
-        at = i.at;
-        k = i.kind;
+        sum = sum + begin_length(k);
+        if prefix == 4 {
+            sum = sum + 1;
+            at = at + 4;
+            k = extract(s, at, 4);
+            prefix = prefix_of(k);
+            continue;
+        }
+        let m = extract(s, at + 4, 5);
+        sum = sum + close_length(code_of(k, m));
+        at = at + 5;
+        k = m % 16;
         prefix = prefix_of(k);
     }
     if k == 0 {

@@ -17,9 +17,8 @@ use Rattle.view.specs.Values.{Yields}
 use Rattle.view.specs.Views.{prefixOf}
 use Rattle.write_atom.specs.Texts.{isSpaced, spaceOfKind}
 use Rattle.write_type.specs.TypeAt.{tyAt}
-use Rattle.write_chain.specs.declared.Inner.{Inner}
-use Rattle.write_chain.specs.Chains.{beginOf, endOf, endsBy, endsOf, writeTypeAs, InnerOf, Remains, Entering}
-use Rattle.write_chain.proofs.InnerLaws.{space-at, inner-at}
+use Rattle.write_chain.specs.Chains.{beginOf, endOf, endsBy, endsOf, writeTypeAs, Remains, Entering}
+use Rattle.write_chain.proofs.InnerLaws.{Reads, space-at, inner-at}
 
 -- ---- the stack
 
@@ -99,15 +98,15 @@ module _ (n : ℕ) (s : List ℕ) (items : List Item) where
     remains = remains-all r (rw (z, ← space-code false, append-nil) refl);
   }
 
-  pub entering-turn : {whole : List ℕ} {before after later : Sink} {at levels stack k a : ℕ} {r : Inner} →
+  pub entering-turn : {whole : List ℕ} {before after later : Sink} {at levels stack k a next i c : ℕ} →
       Entering n s items whole before after at levels stack → k ≡ bitsAt s at 4 → a ≡ prefixOf (kindOf k) → 0 < a →
-      Wrote after (beginOf (kindOf k)) later → InnerOf s at k r →
-      Entering n s items whole before later (r .at) (levels - 1) (stack * 16 + r .code)
-  entering-turn {at = at} {levels = levels} {stack = stack} {k = k} {r = r} p e z l w o =
+      Wrote after (beginOf (kindOf k)) later → Reads s at (kindOf k) next i c →
+      Entering n s items whole before later next (levels - 1) (stack * 16 + c)
+  entering-turn {at = at} {levels = levels} {stack = stack} {k = k} {c = c} p e z l w o =
       let i = inner-at n s levels at (p .there) e items (rw (← z) l) in
       record {
         there = rw (o .place) (i .there);
         remains = remains-next (p .remains) w
-            (rw (ends-push stack (r .code) (o .some) (o .small), o .text, o .kind, o .place, i .text)
+            (rw (ends-push stack c (o .some) (o .small), o .text, o .kind, o .place, i .text)
             (turn-parts (beginOf (kindOf k)) _ _ (endsOf stack)));
       }

@@ -28,8 +28,7 @@ use Rattle.types.proofs.KindLaws.{body-type}
 use Rattle.write_atom.specs.Texts.{isSpaced, spaceOfKind}
 use Rattle.write_type.specs.TypeAt.{tyAt}
 use Rattle.write_type.proofs.TypeLaws.{type-is, type-yields, space-is}
-use Rattle.write_chain.specs.declared.Inner.{Inner}
-use Rattle.write_chain.specs.Chains.{beginOf, closeOf, baseOf, endOf, InnerOf}
+use Rattle.write_chain.specs.Chains.{beginOf, closeOf, baseOf, endOf, codeOf}
 
 -- ---- numbers that a match leaves
 
@@ -143,28 +142,6 @@ pointer-code SliceRef false false = refl
 
 -- ---- inner types
 
-pub plain-prefix : (j : TypeKind) {c : ℕ} → 0 < prefixOf j → c ≡ baseOf j → c ≡ 0 → prefixOf j ≡ 4
-plain-prefix (Kind.Template k) l e z = refl
-plain-prefix (Kind.Pointer Ref) l e z = absurd (omega arith)
-plain-prefix (Kind.Pointer Ptr) l e z = absurd (omega arith)
-plain-prefix (Kind.Pointer SliceRef) l e z = absurd (omega arith)
-plain-prefix Kind.Atom l e z = absurd (omega arith)
-plain-prefix Kind.Named l e z = absurd (omega arith)
-plain-prefix Kind.Str l e z = absurd (omega arith)
-plain-prefix Kind.Fn l e z = absurd (omega arith)
-plain-prefix Kind.Array l e z = absurd (omega arith)
-plain-prefix Kind.Bad l e z = absurd (omega arith)
-
-pub based-prefix : (j : TypeKind) {c : ℕ} → c ≡ baseOf j → (c ≡ 0 → ⊥) → prefixOf j ≡ 5
-based-prefix (Kind.Pointer k) e z = refl
-based-prefix (Kind.Template k) e z = absurd (z e)
-based-prefix Kind.Atom e z = absurd (z e)
-based-prefix Kind.Named e z = absurd (z e)
-based-prefix Kind.Str e z = absurd (z e)
-based-prefix Kind.Fn e z = absurd (z e)
-based-prefix Kind.Array e z = absurd (z e)
-based-prefix Kind.Bad e z = absurd (z e)
-
 base-few : (j : TypeKind) → baseOf j ≤ 10
 base-few (Kind.Pointer Ref) = omega arith
 base-few (Kind.Pointer Ptr) = omega arith
@@ -177,82 +154,99 @@ base-few Kind.Fn = omega arith
 base-few Kind.Array = omega arith
 base-few Kind.Bad = omega arith
 
-plain-close : (j : TypeKind) (b : Bool) (i : TypeKind) → prefixOf j ≡ 4 → endOf 1 ≡ closeOf j b i
-unfolding endOf
-plain-close (Kind.Template k) b i h = refl
-plain-close (Kind.Pointer k) b i h = absurd (omega arith)
-plain-close Kind.Atom b i h = absurd (omega arith)
-plain-close Kind.Named b i h = absurd (omega arith)
-plain-close Kind.Str b i h = absurd (omega arith)
-plain-close Kind.Fn b i h = absurd (omega arith)
-plain-close Kind.Array b i h = absurd (omega arith)
-plain-close Kind.Bad b i h = absurd (omega arith)
+prefix-few : (j : TypeKind) → 0 < prefixOf j → (4 ≤ prefixOf j) × (prefixOf j ≤ 5)
+prefix-few (Kind.Template k) l = (omega arith, omega arith)
+prefix-few (Kind.Pointer k) l = (omega arith, omega arith)
+prefix-few Kind.Atom l = absurd (omega arith)
+prefix-few Kind.Named l = absurd (omega arith)
+prefix-few Kind.Str l = absurd (omega arith)
+prefix-few Kind.Fn l = absurd (omega arith)
+prefix-few Kind.Array l = absurd (omega arith)
+prefix-few Kind.Bad l = absurd (omega arith)
 
-based-close : (j : TypeKind) (b : Bool) (i : TypeKind) → prefixOf j ≡ 5 →
-    endOf (baseOf j + pick b 2 0 + length (spaceOfKind i)) ≡ closeOf j b i
-based-close (Kind.Pointer k) b i h = pointer-code k b (isSpaced i)
-based-close (Kind.Template k) b i h = absurd (omega arith)
-based-close Kind.Atom b i h = absurd (omega arith)
-based-close Kind.Named b i h = absurd (omega arith)
-based-close Kind.Str b i h = absurd (omega arith)
-based-close Kind.Fn b i h = absurd (omega arith)
-based-close Kind.Array b i h = absurd (omega arith)
-based-close Kind.Bad b i h = absurd (omega arith)
+-- as a helper ensures it
+pub prefix-fits : (k : ℕ) {a : ℕ} → a ≡ prefixOf (kindOf k) → 0 < a → (4 ≤ a) × (a ≤ 5)
+prefix-fits k e l = rw e (prefix-few (kindOf k) (rw (← e) l))
+
+pub base-fits : (k : ℕ) {c : ℕ} → c ≡ baseOf (kindOf k) → c ≤ 10
+base-fits k e = omega (arith, base-few (kindOf k))
+
+pub code-fits : (k m : ℕ) {c r : ℕ} → c ≡ baseOf (kindOf k) → r ≡ length (spaceOfKind (kindOf (m % 16))) →
+    c + m / 16 * 2 + r ≤ m + 11
+code-fits k m e f = omega (arith, base-few (kindOf k), space-few (kindOf (m % 16)))
+
+pub pointer-prefix : (k : ℕ) {a : ℕ} → a ≡ prefixOf (kindOf k) → 0 < a → (a ≡ 4 → ⊥) → prefixOf (kindOf k) ≡ 5
+pointer-prefix k {a} e l n = sym e ∙ by-four a (prefix-fits k e l) n
+  where
+    by-four : (a : ℕ) → (4 ≤ a) × (a ≤ 5) → (a ≡ 4 → ⊥) → a ≡ 5
+    by-four zero h n = absurd (omega (arith, h .0))
+    by-four (suc zero) h n = absurd (omega (arith, h .0))
+    by-four (suc (suc zero)) h n = absurd (omega (arith, h .0))
+    by-four (suc (suc (suc zero))) h n = absurd (omega (arith, h .0))
+    by-four (suc (suc (suc (suc zero)))) h n = absurd (n refl)
+    by-four (suc (suc (suc (suc (suc a))))) h n = omega (arith, h .1)
+
+-- of a type at a position the inner type stands at `next` and is of kind number i, and c is the code of what stands behind it
+pub record Reads (s : List ℕ) (at : ℕ) (j : TypeKind) (next i c : ℕ) : Type 0 where
+  pub place : next ≡ at + prefixOf j
+  pub kind : i ≡ bitsAt s next 4
+  pub some : 0 < c
+  pub small : c < 16
+  pub text : endOf c ≡ closeOf j (eqb (bitsAt s (at + 4) 1) 1) (kindOf i)
 
 twice : (b : ℕ) → b < 2 → b * 2 ≡ pick (eqb b 1) 2 0
 twice zero h = refl
 twice (suc zero) h = refl
 twice (suc (suc b)) h = absurd (omega arith)
 
-module _ (s : List ℕ) (at k : ℕ) {c : ℕ} (e : c ≡ baseOf (kindOf k)) where
-  pub inner-plain : {i : ℕ} → 0 < prefixOf (kindOf k) → c ≡ 0 → i ≡ bitsAt s (at + 4) 4 →
-      InnerOf s at k (record { at = at + 4; kind = i; code = 1 })
-  inner-plain {i} l z r =
-      let p : prefixOf (kindOf k) ≡ 4 = plain-prefix (kindOf k) l e z in
+base-some : (k : Pointer) → 0 < baseOf (Kind.Pointer k)
+base-some Ref = omega arith
+base-some Ptr = omega arith
+base-some SliceRef = omega arith
+
+module _ (s : List ℕ) (at : ℕ) where
+  pub reads-template : (j : TypeKind) {i : ℕ} → prefixOf j ≡ 4 → i ≡ bitsAt s (at + 4) 4 → Reads s at j (at + 4) i 1
+  unfolding endOf
+  reads-template (Kind.Template k) h r = record {
+    place = refl;
+    kind = r;
+    some = omega arith;
+    small = omega arith;
+    text = refl;
+  }
+  reads-template (Kind.Pointer k) h r = absurd (omega arith)
+  reads-template Kind.Atom h r = absurd (omega arith)
+  reads-template Kind.Named h r = absurd (omega arith)
+  reads-template Kind.Str h r = absurd (omega arith)
+  reads-template Kind.Fn h r = absurd (omega arith)
+  reads-template Kind.Array h r = absurd (omega arith)
+  reads-template Kind.Bad h r = absurd (omega arith)
+
+  -- the mutable bit of a pointer and the kind of its inner type are read together
+  pub reads-pointer : (j : TypeKind) {m c : ℕ} → prefixOf j ≡ 5 → m ≡ bitsAt s (at + 4) 5 → c ≡ codeOf j m →
+      Reads s at j (at + 5) (m % 16) c
+  reads-pointer (Kind.Pointer k) {m} h r e =
+      let a : at + 4 + 1 ≡ at + 5 = omega arith in
+      let both : m ≡ bitsAt s (at + 4) 1 * 16 + bitsAt s (at + 5) 4 = r ∙ bits-split s (at + 4) 1 4 ∙ rw a refl in
+      let low = bits-lt s (at + 5) 4 in
+      let one = bits-lt s (at + 4) 1 in
+      let bit : m / 16 ≡ bitsAt s (at + 4) 1 = omega (arith, both, low) in
+      let t : m / 16 * 2 ≡ pick (eqb (bitsAt s (at + 4) 1) 1) 2 0 =
+      ap (λ (b : ℕ). b * 2) bit ∙ twice (bitsAt s (at + 4) 1) one in
       record {
-        place = rw p;
-        kind = r;
-        some = omega arith;
-        small = omega arith;
-        text = plain-close (kindOf k) _ (kindOf i) p;
+        place = refl;
+        kind = omega (arith, both, low);
+        some = omega (arith, e, base-some k);
+        small = omega (arith, e, base-few (Kind.Pointer k), bit, one, space-few (kindOf (m % 16)));
+        text = rw (e, t) (pointer-code k _ (isSpaced (kindOf (m % 16))));
       }
-
-  -- a pointer: its mutable bit and the kind of its inner type are read together
-  module _ {m : ℕ} (r : m ≡ bitsAt s (at + 4) 5) where
-    both : m ≡ bitsAt s (at + 4) 1 * 16 + bitsAt s (at + 5) 4
-    both =
-        let a : at + 4 + 1 ≡ at + 5 = omega arith in
-        r ∙ bits-split s (at + 4) 1 4 ∙ rw a refl
-
-    read-kind : m % 16 ≡ bitsAt s (at + 5) 4
-    read-kind = omega (arith, both, bits-lt s (at + 5) 4)
-
-    read-bit : m / 16 ≡ bitsAt s (at + 4) 1
-    read-bit = omega (arith, both, bits-lt s (at + 5) 4)
-
-    module _ {space : ℕ} (q : space ≡ length (spaceOfKind (kindOf (m % 16)))) where
-      pub code-few : c + m / 16 * 2 + space ≤ 13
-      code-few =
-          omega (arith, base-few (kindOf k), read-bit, bits-lt s (at + 4) 1, space-few (kindOf (m % 16)))
-
-      pub inner-pointed : (c ≡ 0 → ⊥) →
-          InnerOf s at k (record { at = at + 5; kind = m % 16; code = c + m / 16 * 2 + space })
-      inner-pointed z =
-          let p : prefixOf (kindOf k) ≡ 5 = based-prefix (kindOf k) e z in
-          let t : m / 16 * 2 ≡ pick (eqb (bitsAt s (at + 4) 1) 1) 2 0 =
-          ap (λ (b : ℕ). b * 2) read-bit ∙ twice (bitsAt s (at + 4) 1) (bits-lt s (at + 4) 1) in
-          let some : 0 < c = by-zero c z in
-          record {
-            place = rw p;
-            kind = read-kind;
-            some = omega arith;
-            small = omega (arith, code-few);
-            text = rw (t, q, e) (based-close (kindOf k) _ (kindOf (m % 16)) p);
-          }
-        where
-          by-zero : (c : ℕ) → (c ≡ 0 → ⊥) → 0 < c
-          by-zero zero z = absurd (z refl)
-          by-zero (suc c) z = omega arith
+  reads-pointer (Kind.Template k) h r e = absurd (omega arith)
+  reads-pointer Kind.Atom h r e = absurd (omega arith)
+  reads-pointer Kind.Named h r e = absurd (omega arith)
+  reads-pointer Kind.Str h r e = absurd (omega arith)
+  reads-pointer Kind.Fn h r e = absurd (omega arith)
+  reads-pointer Kind.Array h r e = absurd (omega arith)
+  reads-pointer Kind.Bad h r e = absurd (omega arith)
 
 -- by what stands behind the kind: an index into the table of items
 module _ (n : ℕ) (s : List ℕ) (at : ℕ) {t : Ty} {m w : ℕ}
@@ -353,6 +347,11 @@ module _ (n : ℕ) (s : List ℕ) (levels at : ℕ)
   pub inner-at : (items : List Item) → 0 < prefixOf (kindOf k) →
       Inside n s items (kindOf k) (tyAt n levels s at) at (levels - 1) (at + prefixOf (kindOf k))
   inner-at items l = inside n s items (kindOf k) (levels - 1) at body l
+
+  pub inner-room : {a : ℕ} → a ≡ prefixOf (kindOf k) → 0 < a → at + 4 + a ≤ 8 * length s
+  inner-room z l =
+      let i = inner-at [] (rw (← z) l) in
+      omega (arith, z, type-room n s (levels - 1) (at + prefixOf (kindOf k)) (i .there))
 
   pub atom-room : k ≡ 0 → at + 8 ≤ 8 * length s
   unfolding kindOf

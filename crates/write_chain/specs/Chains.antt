@@ -2,12 +2,10 @@
 use mathlib.Core.Path.{_≡_}
 use mathlib.Core.List.{List, [], _∷_, _++_}
 use mathlib.Core.Bool.{Bool, true, false}
-use Prim.Native.Nat.{ℕ, zero, suc, _+_, _/_, _%_, _<_}
-use lib.Dec.{eqb}
-use lib.ListN.{getD}
+use Prim.Native.Nat.{ℕ, zero, suc, _+_, _*_, _/_, _%_}
+use lib.ListN.{length, getD}
 use Rattle.lexical.specs.Bytes.{bytes}
 use Rattle.sink.specs.Sink.{Sink, Wrote}
-use Rattle.format.specs.Bits.{bitsAt}
 use Rattle.format.specs.Types.{Ty}
 use Rattle.format.specs.Sheet.{Item}
 use Rattle.format.specs.Decoding.{kindOf, typeAt}
@@ -16,10 +14,8 @@ use Rattle.format.specs.declared.TypeKind.{TypeKind}
 use Rattle.format.specs.declared.TypeKind.the-variants as Kind
 use Rattle.bridge.specs.WriteType.{templateName, pointerBegin, pointerEnd, writeType, writeTypeSpace}
 use Rattle.view.specs.Values.{Yields}
-use Rattle.view.specs.Views.{prefixOf}
 use Rattle.write_atom.specs.Texts.{spaceOfKind}
 use Rattle.write_type.specs.TypeAt.{tyAt}
-use Rattle.write_chain.specs.declared.Inner.{Inner}
 
 -- what stands before the inner type of a template or a pointer
 abbrev pub beginOf : TypeKind → List ℕ
@@ -68,6 +64,10 @@ baseOf Kind.Fn = 0
 baseOf Kind.Array = 0
 baseOf Kind.Bad = 0
 
+-- the code of what stands behind the inner type of a pointer, by the five bits that follow its kind
+abbrev pub codeOf : TypeKind → ℕ → ℕ
+codeOf j m = baseOf j + m / 16 * 2 + length (spaceOfKind (kindOf (m % 16)))
+
 -- the text of a stack of codes, the last one first; no stack has more codes than its number
 unfoldable pub endsBy : ℕ → ℕ → List ℕ
 endsBy zero stack = []
@@ -82,14 +82,6 @@ writeTypeAs true items t = writeTypeSpace items t
 writeTypeAs false items t = writeType items t
 
 -- ---- what the code promises
-
--- r is the inner type of the one at a position, of kind number k
-pub record InnerOf (s : List ℕ) (at k : ℕ) (r : Inner) : Type 0 where
-  pub place : r .at ≡ at + prefixOf (kindOf k)
-  pub kind : r .kind ≡ bitsAt s (r .at) 4
-  pub some : 0 < r .code
-  pub small : r .code < 16
-  pub text : endOf (r .code) ≡ closeOf (kindOf k) (eqb (bitsAt s (at + 4) 1) 1) (kindOf (r .kind))
 
 -- with the rest behind `after`, the whole stands behind `before`
 pub record Remains (before : Sink) (whole : List ℕ) (after : Sink) (rest : List ℕ) : Type 0 where

@@ -25,7 +25,7 @@ ghost use Rattle.view.specs.Views.{prefixOf};
 ghost use Rattle.write_atom.specs.Texts.{spaceOfKind};
 ghost use Rattle.write_type.specs.TypeAt.{tyAt};
 ghost use Rattle.tables.specs.Tables.{itemsIn, itemsOf, Lent};
-ghost use Rattle.write_chain.specs.Chains.{beginOf, baseOf, endOf, endsOf, InnerOf, writeTypeAs, Entering};
+ghost use Rattle.write_chain.specs.Chains.{beginOf, baseOf, endOf, codeOf, endsOf, writeTypeAs, Entering};
 
 // From here on a stack has no room for one more code.
 const HIGH: usize = 0x1000_0000_0000_0000;
@@ -106,43 +106,15 @@ pub fn end_length(spaced: bool, k: u32) -> usize
     0
 }
 
-// ---- inwards
-
-// An inner type: where it stands, its kind, and the code of what stands behind it.
-pub struct Inner {
-    pub at: u32,
-    pub kind: u32,
-    pub code: usize,
-}
-
-// The inner type of the one at a position, of kind k.
-pub fn inner_type(s: &[u8], at: u32, k: u32) -> Inner
-    requires { ⌜ Limited (now s) × (0 < prefixOf (kindOf k)) ×
-        (at + prefixOf (kindOf k) + 4 ≤ 8 * length (now s)) ⌝ }
-    ensures { λ r. ⌜ InnerOf (now (s .entry)) at k r ⌝ }
+// The code of what stands behind the inner type of a pointer of kind k, by the five bits that follow k: the mutable bit
+// and the inner type's kind.
+pub fn code_of(k: u32, m: u32) -> usize
+    ensures { λ r. ⌜ r ≡ codeOf (kindOf k) m ⌝ }
 {
-    let base = base_of(k);
-    if base == 0 {
-        let next = at + 4;
-        let kind = extract(s, next, 4);
-        return Inner {
-            at: next,
-            kind,
-            code: 1,
-        };
-    }
-    let m = extract(s, at + 4, 5);
-    let next = at + 5;
-    let kind = m % 16;
-    let space = space_length(kind);
-    let shift = (m / 16 * 2) as usize;
-    let code = base + shift + space;
-    Inner {
-        at: next,
-        kind,
-        code,
-    }
+    base_of(k) + (m / 16 * 2) as usize + space_length(m % 16)
 }
+
+// ---- inwards
 
 // An inner type that is reached: where it stands, its kind, the levels left, the codes of what stands behind it, and
 // the place for its text.
@@ -191,12 +163,18 @@ fn enter(
             };
         }
         here = put_begin(k, out, here);
-        let i = inner_type(s, p, k);
-        p = i.at;
-        k = i.kind;
-        let code = i.code;
         left = left - 1;
-        stack = stack * 16 + code;
+        if prefix == 4 {
+            stack = stack * 16 + 1;
+            p = p + 4;
+            k = extract(s, p, 4);
+            prefix = prefix_of(k);
+            continue;
+        }
+        let m = extract(s, p + 4, 5);
+        stack = stack * 16 + code_of(k, m);
+        p = p + 5;
+        k = m % 16;
         prefix = prefix_of(k);
     }
     Entered {

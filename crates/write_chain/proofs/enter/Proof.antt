@@ -1,4 +1,4 @@
--- Written by tools/proofkit from answers/enter.tpl (1f5155b1 36423ed5).
+-- Written by tools/proofkit from answers/enter.tpl (0855cfa7 561b970c).
 use borrow.Author.Needs.{needs}
 use mathlib.Core.Path.{_≡_}
 use native.Mathlib.Omega.{arith}
@@ -10,7 +10,8 @@ use Rattle.view.specs.Views.{prefixOf}
 use Rattle.write_type.specs.TypeAt.{tyAt}
 use Rattle.tables.specs.Tables.{itemsIn, itemsOf}
 use Rattle.write_chain.specs.Chains.{writeTypeAs, Entering}
-use Rattle.write_chain.proofs.InnerLaws.{end-few, type-room, level-left, inner-at}
+use Rattle.write_chain.proofs.InnerLaws.{end-few, pointer-prefix, reads-template, reads-pointer}
+use Rattle.write_chain.proofs.InnerLaws.{type-room, level-left, inner-room}
 use Rattle.write_chain.proofs.ChainLaws.{entering-whole, entering-turn, remains-length}
 use Rattle.write_chain.proofs.enter.Statement.{statement}
 use Rattle.write_chain.proofs.enter.Tie as tie
@@ -36,23 +37,47 @@ returns c = (c .before .before .loop .inv .0, c .before .before .loop .inv .1)
 same-length : tie.Need-same-length Inv-loop μ-loop
 same-length c = remains-length (c .before .before .loop .inv .0 .remains)
 
-inner-type-requires : tie.Need-inner-type-requires Inv-loop μ-loop
-inner-type-requires c κs = (c .before .before .before .before .before .before .before .before .before .before .before .before .pre .0, omega (arith, c .before .before .before .before .before .before .loop .inv .2), type-room _ _ _ _ (inner-at _ _ _ _ (c .before .before .before .before .before .before .loop .inv .0 .there) (c .before .before .before .before .before .before .loop .inv .1) (itemsOf (c .before .before .before .before .before .before .before .before .before .before .before .before .args .s .now) (c .before .before .before .before .before .before .before .before .before .before .before .before .args .t .now)) (omega (arith, c .before .before .before .before .before .before .loop .inv .2)) .there))
-
 sub-left : tie.Need-sub-left Inv-loop μ-loop
-sub-left c = omega (arith, level-left _ _ _ _ (c .before .before .before .before .before .before .before .loop .inv .0 .there) (c .before .before .before .before .before .before .before .loop .inv .1))
+sub-left c = omega (arith, level-left _ _ _ _ (c .before .before .before .before .before .before .loop .inv .0 .there) (c .before .before .before .before .before .before .loop .inv .1))
 
 mul-stack-2 : tie.Need-mul-stack-2 Inv-loop μ-loop
-mul-stack-2 c = omega (arith, c .before .before .before .before .before .if1 .left, c .inner-type .ensures .small)
+mul-stack-2 c = omega (arith, c .before .before .before .before .before .if1 .left)
 
 add-stack : tie.Need-add-stack Inv-loop μ-loop
-add-stack c = omega (arith, c .before .before .before .before .before .if1 .left, c .inner-type .ensures .small)
+add-stack c = omega (arith, c .before .before .before .before .before .if1 .left)
+
+add-p : tie.Need-add-p Inv-loop μ-loop
+add-p c = omega (arith, c .before .before .before .before .before .before .before .before .before .before .before .before .before .pre .0, inner-room _ _ _ _ (c .before .before .before .before .before .before .before .loop .inv .0 .there) (c .before .before .before .before .before .before .before .loop .inv .1) (c .before .before .before .before .before .before .before .loop .inv .2) (c .before .before .before .before .before .before .loop-test .taken))
+
+extract-requires-2 : tie.Need-extract-requires-2 Inv-loop μ-loop
+extract-requires-2 c κs = (c .before .before .before .before .before .before .before .before .before .before .before .before .before .pre .0, omega arith, omega (arith, c .if2 .taken, inner-room _ _ _ _ (c .before .before .before .before .before .before .before .loop .inv .0 .there) (c .before .before .before .before .before .before .before .loop .inv .1) (c .before .before .before .before .before .before .before .loop .inv .2) (c .before .before .before .before .before .before .loop-test .taken)))
 
 loop-less : tie.Need-loop-less Inv-loop μ-loop
-loop-less c = omega (arith, level-left _ _ _ _ (c .before .before .before .before .before .before .before .before .loop .inv .0 .there) (c .before .before .before .before .before .before .before .before .loop .inv .1))
+loop-less c = omega (arith, level-left _ _ _ _ (c .before .before .before .before .before .before .before .before .before .loop .inv .0 .there) (c .before .before .before .before .before .before .before .before .before .loop .inv .1))
 
 loop-again : tie.Need-loop-again Inv-loop μ-loop
-loop-again c = (entering-turn _ _ _ (c .before .before .before .before .before .before .before .before .loop .inv .0) (c .before .before .before .before .before .before .before .before .loop .inv .1) (c .before .before .before .before .before .before .before .before .loop .inv .2) (c .before .before .before .before .before .before .before .loop-test .taken) (c .before .before .before .before .put-begin .ensures) (c .before .inner-type .ensures), c .before .inner-type .ensures .kind, c .prefix-of2 .ensures)
+loop-again c = (entering-turn _ _ _ (c .before .before .before .before .before .before .before .before .before .loop .inv .0) (c .before .before .before .before .before .before .before .before .before .loop .inv .1) (c .before .before .before .before .before .before .before .before .before .loop .inv .2) (c .before .before .before .before .before .before .before .before .loop-test .taken) (c .before .before .before .before .before .put-begin .ensures) (reads-template _ _ (kindOf _) (omega (arith, c .before .before .before .before .before .before .before .before .before .loop .inv .2, c .before .before .if2 .taken)) (c .before .extract2 .ensures)), c .before .extract2 .ensures, c .prefix-of2 .ensures)
+
+add-extract : tie.Need-add-extract Inv-loop μ-loop
+add-extract c = omega (arith, c .before .before .before .before .before .before .before .before .before .before .before .before .before .pre .0, type-room _ _ _ _ (c .before .before .before .before .before .before .before .loop .inv .0 .there))
+
+extract-requires-3 : tie.Need-extract-requires-3 Inv-loop μ-loop
+extract-requires-3 c κs = (c .before .before .before .before .before .before .before .before .before .before .before .before .before .pre .0, omega arith, omega (arith, c .before .before .before .before .before .before .before .loop .inv .2, pointer-prefix _ (c .before .before .before .before .before .before .before .loop .inv .2) (c .before .before .before .before .before .before .loop-test .taken) (c .if2 .left), inner-room _ _ _ _ (c .before .before .before .before .before .before .before .loop .inv .0 .there) (c .before .before .before .before .before .before .before .loop .inv .1) (c .before .before .before .before .before .before .before .loop .inv .2) (c .before .before .before .before .before .before .loop-test .taken)))
+
+mul-stack-3 : tie.Need-mul-stack-3 Inv-loop μ-loop
+mul-stack-3 c = omega (arith, c .before .before .before .before .before .before .if1 .left)
+
+add-stack-2 : tie.Need-add-stack-2 Inv-loop μ-loop
+add-stack-2 c = omega (arith, c .before .before .before .before .before .before .before .if1 .left, reads-pointer _ _ (kindOf _) (pointer-prefix _ (c .before .before .before .before .before .before .before .before .before .loop .inv .2) (c .before .before .before .before .before .before .before .before .loop-test .taken) (c .before .before .if2 .left)) (c .before .extract3 .ensures) (c .code-of .ensures) .small)
+
+add-p-2 : tie.Need-add-p-2 Inv-loop μ-loop
+add-p-2 c = omega (arith, c .before .before .before .before .before .before .before .before .before .before .before .before .before .before .before .pre .0, c .before .before .before .before .before .before .before .before .before .loop .inv .2, pointer-prefix _ (c .before .before .before .before .before .before .before .before .before .loop .inv .2) (c .before .before .before .before .before .before .before .before .loop-test .taken) (c .before .before .if2 .left), inner-room _ _ _ _ (c .before .before .before .before .before .before .before .before .before .loop .inv .0 .there) (c .before .before .before .before .before .before .before .before .before .loop .inv .1) (c .before .before .before .before .before .before .before .before .before .loop .inv .2) (c .before .before .before .before .before .before .before .before .loop-test .taken))
+
+loop-less-2 : tie.Need-loop-less-2 Inv-loop μ-loop
+loop-less-2 c = omega (arith, level-left _ _ _ _ (c .before .before .before .before .before .before .before .before .before .before .loop .inv .0 .there) (c .before .before .before .before .before .before .before .before .before .before .loop .inv .1))
+
+loop-again-2 : tie.Need-loop-again-2 Inv-loop μ-loop
+loop-again-2 c = (entering-turn _ _ _ (c .before .before .before .before .before .before .before .before .before .before .loop .inv .0) (c .before .before .before .before .before .before .before .before .before .before .loop .inv .1) (c .before .before .before .before .before .before .before .before .before .before .loop .inv .2) (c .before .before .before .before .before .before .before .before .before .loop-test .taken) (c .before .before .before .before .before .before .put-begin .ensures) (reads-pointer _ _ (kindOf _) (pointer-prefix _ (c .before .before .before .before .before .before .before .before .before .before .loop .inv .2) (c .before .before .before .before .before .before .before .before .before .loop-test .taken) (c .before .before .before .if2 .left)) (c .before .before .extract3 .ensures) (c .before .code-of .ensures)), reads-pointer _ _ (kindOf _) (pointer-prefix _ (c .before .before .before .before .before .before .before .before .before .before .loop .inv .2) (c .before .before .before .before .before .before .before .before .before .loop-test .taken) (c .before .before .before .if2 .left)) (c .before .before .extract3 .ensures) (c .before .code-of .ensures) .kind, c .prefix-of3 .ensures)
 
 returns-2 : tie.Need-returns-2 Inv-loop μ-loop
 returns-2 c = (c .before .loop .inv .0, c .before .loop .inv .1)
@@ -74,12 +99,22 @@ enter-spec =
     same-length
     returns
     (λ c κs. search needs)
-    inner-type-requires
     sub-left
     mul-stack-2
     add-stack
+    add-p
+    extract-requires-2
     (λ c κs. search needs)
     loop-less
     loop-again
+    add-extract
+    extract-requires-3
+    mul-stack-3
+    (λ c κs. search needs)
+    add-stack-2
+    add-p-2
+    (λ c κs. search needs)
+    loop-less-2
+    loop-again-2
     same-length-2
     returns-2)
