@@ -25,6 +25,10 @@ const LONGEST: usize = 64;
 // After so many functions in a row that bring no type the rest are taken to bring none.
 const IDLE: u32 = 8;
 
+// Of fewer items no types are kept: the short types of three functions take less than the 512 bytes of a sheet whose text
+// has one pass.
+const FEW: u32 = 4;
+
 // ---- a type
 
 // Keeps the bits of the type of an argument with this entry, and what the entry says of it. Nothing is kept of a type
@@ -194,6 +198,9 @@ pub fn intern_types(
     ensures { λ r. ⌜ Filled (now (s .entry)) (now (t .entry)) (now (t .exit)) (now (pool .exit)) r ⌝ }
 {
     let n = t[Table::ITEMS];
+    if n < FEW {
+        return from;
+    }
     let mut end = from;
     let mut idle: u32 = 0;
     let mut i: u32 = 0;

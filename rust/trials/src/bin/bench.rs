@@ -190,8 +190,8 @@ fn orders(runs: usize) -> Result<(), String> {
 const TEXTS: &str = "\
 All begin with the sheet's bytes and check them, the last but for rules 9 to 12. The
 plain writers are one pass; the service leaves the buffer as it was where the text has
-no room. The stored sheet has a buffer of 262,144 bytes, the others have one as long
-as the longest of their texts. Medians, in brackets the 10th and 90th percentile.";
+no room. All write into one buffer: the stored sheet has one of 262,144 bytes, the
+others have one as long as the longest of their texts. Medians, in brackets the 10th and 90th percentile.";
 
 fn texts(runs: usize) -> Result<(), String> {
     let one = |sheet| vec![encode(&sheet)];
@@ -241,22 +241,22 @@ fn texts(runs: usize) -> Result<(), String> {
             length += text;
             room = room.max(text);
         }
-        let [proved, rust, without_rules] = [(); 3].map(|()| RefCell::new(vec![0; room]));
+        let buffer = RefCell::new(vec![0; room]);
         let proved = || {
             for sheet in &sheets {
-                let buffer = &mut proved.borrow_mut();
+                let buffer = &mut buffer.borrow_mut();
                 let _ = black_box(bridgetext::write(black_box(sheet), buffer));
             }
         };
         let rust = || {
             for sheet in &sheets {
-                let buffer = &mut rust.borrow_mut();
+                let buffer = &mut buffer.borrow_mut();
                 let _ = black_box(plain::write(black_box(sheet), buffer));
             }
         };
         let without_rules = || {
             for sheet in &sheets {
-                let buffer = &mut without_rules.borrow_mut();
+                let buffer = &mut buffer.borrow_mut();
                 let _ = black_box(plain::write_without_rules(black_box(sheet), buffer));
             }
         };
