@@ -25,8 +25,8 @@ const LONGEST: usize = 64;
 // After so many functions in a row that bring no type the rest are taken to bring none.
 const IDLE: u32 = 8;
 
-// Of fewer items no types are kept: the short types of three functions take less than the 512 bytes of a sheet whose text
-// has one pass.
+// Of fewer items no types are kept: where a text has two passes, the sheet has more than 512 bytes, and the short types
+// of three functions take less.
 const FEW: u32 = 4;
 
 // ---- a type
