@@ -14,7 +14,6 @@ ghost use mathlib.Core.List.{[], _++_};
 ghost use mathlib.Core.Bool.{true};
 ghost use Rattle.lexical.specs.Bytes.{bytes};
 ghost use Rattle.lexical.specs.Decimal.{pickText};
-ghost use Rattle.format.specs.Decoding.{type};
 ghost use Rattle.bridge.specs.Write.{shape as shapeOf, slotType, callBegin, callEnd, slotReturn};
 ghost use Rattle.sink.specs.Sink.{sink, Wrote};
 ghost use Rattle.cursor.specs.Checking.{Limited};

@@ -15,7 +15,6 @@ use tables::Table;
 use view::FunctionView;
 use view::ItemView;
 ghost use mathlib.Core.Path.{_≡_};
-ghost use Rattle.format.specs.Decoding.{type};
 ghost use Rattle.syntax.specs.Items.{itemAt};
 ghost use Rattle.bridge.specs.Write.{indirectReturn, shape as shapeOf, directReturn, externReturn};
 ghost use Rattle.bridge.specs.Write.{functionDecl, layoutDecl, layoutDefinition};

@@ -22,7 +22,6 @@ ghost use mathlib.Core.Bool.{false};
 ghost use mathlib.Core.List.{map};
 ghost use Prim.Native.Nat.{_<_, _≤_};
 ghost use lib.ListN.{length};
-ghost use Rattle.format.specs.Decoding.{type};
 ghost use Rattle.bridge.specs.Write.{commas, indirectReturn, shape as shapeOf, externArgType, externArg};
 ghost use Rattle.bridge.specs.Write.{receiver, slot, externParameters};
 ghost use Rattle.sink.specs.Sink.{sink, Wrote};

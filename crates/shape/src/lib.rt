@@ -21,7 +21,7 @@ ghost use mathlib.Core.Path.{_≡_};
 ghost use mathlib.Core.Bool.{_||_};
 ghost use lib.Dec.{ltb};
 ghost use lib.ListN.{length};
-ghost use Rattle.format.specs.Decoding.{typeAt, type, formOf};
+ghost use Rattle.format.specs.Decoding.{typeAt, formOf};
 ghost use Rattle.rules.specs.Rules.{isMethod};
 ghost use Rattle.bridge.specs.WriteType.{writeType, writeTypeSpace};
 ghost use Rattle.bridge.specs.Write.{indirectReturn, writePointer, shape as shapeOf, slotType};

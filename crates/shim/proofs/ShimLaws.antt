@@ -7,10 +7,9 @@ use lib.ListN.{length}
 use Rattle.lexical.specs.Bytes.{bytes}
 use Rattle.lexical.specs.Decimal.{pickText}
 use Rattle.lexical.proofs.BoolLaws.{by-cases, both}
-use Rattle.format.specs.Decode.{many}
 use Rattle.format.specs.Types.{Ty}
 use Rattle.format.specs.Sheet.{Function, Item, Sheet}
-use Rattle.format.specs.Decoding.{type, argument, formOf}
+use Rattle.format.specs.Decoding.{type, formOf}
 use Rattle.syntax.specs.Mangle.{externFn}
 use Rattle.rules.specs.Rules.{gather}
 use Rattle.bridge.specs.Write.{shape, slotType, slot, direct, heldLocal, callBegin, callEnd, commas, operands}
@@ -18,7 +17,7 @@ use Rattle.bridge.specs.Write.{indirectReturn, slotReturn, isFree, shimDecl, sh
 use Rattle.sink.specs.Sink.{Sink, Wrote}
 use Rattle.sink.proofs.SinkLaws.{_▷_, wrote-nil, wrote-as}
 use Rattle.view.specs.declared.FunctionView.{FunctionView}
-use Rattle.view.specs.Values.{valueOr, nextOf, Yields, namesAt, itemsAt, functionAt, typeHere}
+use Rattle.view.specs.Values.{valueOr, Yields, itemsAt, functionAt, typeHere}
 use Rattle.view.specs.Views.{commentLines, FunctionAt}
 use Rattle.cursor.proofs.YieldLaws.{yielded}
 use Rattle.shape.proofs.FunctionLaws.{returned, indirect-returns, slot-some, slot-empty, direct-some, direct-slot, direct-none}

@@ -25,7 +25,7 @@ ghost use Rattle.out.specs.State.{contentOf};
 ghost use Rattle.sections.specs.Runs.{Representing, Runs, sheetOf};
 ghost use Rattle.write.specs.Passes.{declareItem, defineItem, Begins, Ends};
 ghost use Rattle.summary.specs.Summaries.{Summaries};
-ghost use Rattle.tables.specs.Tables.{namesIn, itemsIn, itemsOf, Item, Lent};
+ghost use Rattle.tables.specs.Tables.{namesIn, itemsIn, itemsOf, Lent};
 
 // ---- the two passes
 
