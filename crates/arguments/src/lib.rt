@@ -24,7 +24,7 @@ use names::{name_is, same_name};
 use types::{Levels, kind_of, walk_type};
 
 // How many arguments a function has.
-#[derive(Drop)]
+#[derive(Clone, Copy)]
 pub struct Count {
     pub arguments: usize,
 }
@@ -156,7 +156,7 @@ fn judge_argument(
 }
 
 // An argument that was walked past: the index of its name, and the position behind it or the refusal, by one number.
-#[derive(Drop)]
+#[derive(Clone, Copy)]
 pub struct Passed {
     pub name: u32,
     pub next: u32,

@@ -11,7 +11,7 @@ use cursor::{Cursor, Field, Step, end_of, extract, extract_wide, read};
 use refusal::Refusal;
 
 // A line of a comment, by its number of characters.
-#[derive(Drop)]
+#[derive(Clone, Copy)]
 pub struct CommentLine {
     pub length: usize,
 }

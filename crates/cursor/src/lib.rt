@@ -1,4 +1,5 @@
 // Fields of a sheet at bit positions (document 01, "The sheet").
+#![tactic(auto)]
 ghost use Rattle.std.specs.Prelude.{◌≡◌, ◌+◌, ◌*◌, ◌≤◌, ◌<◌, length, get_or};
 ghost use Rattle.format.specs.Limits.{most_bytes, most_bits};
 ghost use Rattle.format.specs.Bits.{bit_at, bits_at, bits, width_of, index};
@@ -7,7 +8,7 @@ ghost use Rattle.cursor.specs.Checking.{Limited, ReadsField, Checks, refusal_of,
 use refusal::Refusal;
 
 // A bit position.
-#[derive(Drop)]
+#[derive(Clone, Copy)]
 pub struct Cursor {
     pub at: u32,
 }
@@ -34,14 +35,14 @@ impl Cursor {
 }
 
 // A field that was read and the position behind it, or the end of the sheet before it was whole.
-#[derive(Drop)]
+#[derive(Clone, Copy)]
 pub enum Field {
     Value(u32, Cursor),
     Cut,
 }
 
 // A checker's answer: the position behind what it checked, or the refusal.
-#[derive(Drop)]
+#[derive(Clone, Copy)]
 pub enum Step {
     At(Cursor),
     Fault(Refusal),
@@ -253,7 +254,7 @@ pub fn check_index(s: &[u8], c: Cursor, n: u32) -> Step
 }
 
 // The value of a field, and the position behind it.
-#[derive(Drop)]
+#[derive(Clone, Copy)]
 pub struct Found {
     pub value: u32,
     pub next: Cursor,

@@ -80,7 +80,7 @@ fn begin_length(
 // ---- arguments
 
 // Places in the three lists, or their lengths.
-#[derive(Drop)]
+#[derive(Clone, Copy)]
 pub struct Lengths {
     pub args: usize,
     pub types: usize,

@@ -18,7 +18,7 @@ use names::check_names;
 use refusal::Refusal;
 
 // The answer to a sheet.
-#[derive(Drop)]
+#[derive(Clone, Copy)]
 pub enum Decoded {
     Whole(Outline),
     Refused(Refusal),

@@ -17,7 +17,7 @@ use put_name::put_chars;
 use sink::{put_bytes, put_when};
 
 // Where a writer is: in the text, and behind the line that it has written.
-#[derive(Drop)]
+#[derive(Clone, Copy)]
 struct WrittenLine {
     at: usize,
     next: Cursor,

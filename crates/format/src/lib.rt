@@ -2,7 +2,7 @@
 // "The sheet"). The definitions of specs/ and the code that reads sheets share them.
 
 // syntax/atom.rs, in its order.
-#[derive(Drop)]
+#[derive(Clone, Copy)]
 pub enum Atom {
     Bool,
     Char,
@@ -23,7 +23,7 @@ pub enum Atom {
 }
 
 // The types of syntax/mod.rs that are spelled as a template of one type.
-#[derive(Drop)]
+#[derive(Clone, Copy)]
 pub enum Template {
     RustBox,
     RustVec,
@@ -34,7 +34,7 @@ pub enum Template {
 }
 
 // The types that have a mutable bit before the inner type.
-#[derive(Drop)]
+#[derive(Clone, Copy)]
 pub enum Pointer {
     Ref,
     Ptr,
@@ -42,7 +42,7 @@ pub enum Pointer {
 }
 
 // What a type's 4-bit kind says; Bad is refused.
-#[derive(Drop)]
+#[derive(Clone, Copy)]
 pub enum TypeKind {
     Atom,
     Named,
@@ -55,7 +55,7 @@ pub enum TypeKind {
 }
 
 // What an item's 3-bit kind says; Bad is refused.
-#[derive(Drop)]
+#[derive(Clone, Copy)]
 pub enum ItemKind {
     Struct,
     Enum,
@@ -79,7 +79,7 @@ impl ItemKind {
 }
 
 // What a decoded sheet begins with, and how much it has.
-#[derive(Drop)]
+#[derive(Clone, Copy)]
 pub struct Outline {
     pub header: bool,
     pub doxygen: bool,

@@ -22,7 +22,7 @@ use types::kind_of;
 use view::{ItemView, is_named, item, kind_at, past_type};
 
 // What a field holds by its name: a struct's number if it is one, and the position behind the field.
-#[derive(Drop)]
+#[derive(Clone, Copy)]
 pub struct FieldView {
     pub found: bool,
     pub number: u8,

@@ -5,7 +5,7 @@ ghost use Rattle.rules.specs.Rules.{any, twice};
 ghost use Rattle.marks.specs.Keys.{one_if, count_of};
 ghost use Rattle.marks.specs.Marking.{mark, mark_if};
 
-#[derive(Drop)]
+#[derive(Clone, Copy)]
 pub struct Mark {
     pub place: usize,
 }

@@ -21,7 +21,7 @@ use walk::walk;
 use words::{State, Words, equal, verdict};
 
 // A name whose characters stand in the front of a buffer: how many there are.
-#[derive(Drop)]
+#[derive(Clone, Copy)]
 pub struct Name {
     pub length: usize,
 }
@@ -75,7 +75,7 @@ fn window_bits(left: u32) -> u32
 // ---- a walk over the names
 
 // The digest of a name, or that the characters are none.
-#[derive(Drop)]
+#[derive(Clone, Copy)]
 pub enum Judged {
     Good(u32),
     Bad,
@@ -107,7 +107,7 @@ fn judge_name(t: &[u16; Words::SIZE], s: &[u8], at: u32, n: u32, edition: u32) -
 }
 
 // A name's digest and the position behind it, or the refusal.
-#[derive(Drop)]
+#[derive(Clone, Copy)]
 pub enum Digested {
     At(u32, Cursor),
     Fault(Refusal),

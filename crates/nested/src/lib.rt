@@ -18,7 +18,7 @@ use view::{ItemView, depth_at, item, kind_at, namespace};
 // ---- items that need a forward declaration
 
 // An enum: the number of its atom, and whether C++ owns it.
-#[derive(Drop)]
+#[derive(Clone, Copy)]
 pub struct EnumView {
     pub atom: u32,
     pub owned: bool,

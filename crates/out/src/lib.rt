@@ -27,7 +27,7 @@ use view::ItemView;
 // ---- block.rs
 
 // A namespace holds the index of its name.
-#[derive(Drop)]
+#[derive(Clone, Copy)]
 pub enum Block {
     UserDefinedNamespace(u32),
     ExternC,
@@ -108,7 +108,7 @@ fn same_block(s: &[u8], names: &[u32], digests: &[u32], a: Block, b: Block) -> b
 
 // ---- out.rs
 
-#[derive(Drop)]
+#[derive(Clone, Copy)]
 pub enum Boundary {
     Begin(Block),
     End(Block),
@@ -116,7 +116,7 @@ pub enum Boundary {
 
 // An entry of the pending boundaries, as one number: twice its block's number, and one more for an end. The number of
 // extern "C" is 0, and that of a namespace is the index of its name and one.
-#[derive(Drop)]
+#[derive(Clone, Copy)]
 pub struct Pending {
     pub code: u16,
 }
@@ -420,7 +420,7 @@ pub fn set_namespace(
 // ---- flush_blocks
 
 // The place behind the text, and whether a section is pending.
-#[derive(Drop)]
+#[derive(Clone, Copy)]
 pub struct Flushed {
     pub at: usize,
     pub section: bool,

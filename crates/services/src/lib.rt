@@ -3,7 +3,7 @@
 use refusal::Refusal;
 
 // The number of bytes written, or the refusal.
-#[derive(Drop)]
+#[derive(Clone, Copy)]
 pub enum Written {
     Length(usize),
     Refused(Refusal),

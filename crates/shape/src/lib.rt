@@ -23,7 +23,7 @@ use write_chain::write_chain;
 
 // ---- shapes
 
-#[derive(Drop)]
+#[derive(Clone, Copy)]
 pub enum ShapeKind {
     RustBox,
     UniquePtr,
@@ -34,7 +34,7 @@ pub enum ShapeKind {
 }
 
 // A type's shape; where it has an inner type, whether that is mutable and where it stands.
-#[derive(Drop)]
+#[derive(Clone, Copy)]
 pub struct ShapeView {
     pub kind: ShapeKind,
     pub mutable: bool,

@@ -14,7 +14,7 @@ use tables::{Pool, Table, copy_words, fill_arguments, function, item};
 use view::{FunctionView, ItemView, is_function};
 
 // The summary of one function: a word for each argument and five more.
-#[derive(Drop)]
+#[derive(Clone, Copy)]
 pub struct Words {
     pub place: usize,
 }

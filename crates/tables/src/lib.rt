@@ -28,7 +28,7 @@ use view::{FunctionView, ItemView, argument_entry, skip_type};
 // The table: the positions of the names and behind them their number, the same of the items, and then for each name and
 // for each item one word that says where its text is in the pool, or is 0. Behind them the positions of types and the
 // words of their texts, and then what is kept of types that arguments have.
-#[derive(Drop)]
+#[derive(Clone, Copy)]
 pub struct Table {
     pub place: usize,
 }
@@ -66,7 +66,7 @@ impl Table {
 
 // The pool: names, one behind the other, behind them full names, and then types. It is lent the bytes that held the
 // edges of the structs.
-#[derive(Drop)]
+#[derive(Clone, Copy)]
 pub struct Pool {
     pub place: usize,
 }

@@ -1,11 +1,12 @@
 // The order of structs: each after those that it holds (toposort.rs).
+#![tactic(auto)]
 ghost use Rattle.std.specs.Prelude.{◌≡◌, ◌<◌, length, replicate};
 ghost use Rattle.toposort.specs.Adjacency.{item_numbers, graph_of, Adjacency, Room, Visited, VisitedAll, Sorted};
 
 use format::{ItemKind, Outline};
 
 // How a traversal ends: with the end of the order so far, or at a ring.
-#[derive(Drop)]
+#[derive(Clone, Copy)]
 pub enum Traversal {
     Done(usize),
     Cycle,

@@ -17,7 +17,7 @@ use marks::{Mark, set_mark};
 use refusal::Refusal;
 
 // The levels that a type may still have.
-#[derive(Drop)]
+#[derive(Clone, Copy)]
 pub struct Levels {
     pub left: u32,
 }

@@ -23,7 +23,7 @@ use types::check_type;
 // ---- items
 
 // An item by its number: its kind, its namespaces, the index of its C++ name, and where its body stands.
-#[derive(Drop)]
+#[derive(Clone, Copy)]
 pub struct ItemView {
     pub number: u32,
     pub kind: ItemKind,
@@ -125,7 +125,7 @@ pub fn pointer_bit(s: &[u8], names: &[u32], items: &[u32], i: u32) -> bool
 // ---- functions
 
 // A function's form by its number, the number of its self type's item, and the position behind both.
-#[derive(Drop)]
+#[derive(Clone, Copy)]
 pub struct FormView {
     pub form: u32,
     pub owner: u32,
@@ -223,7 +223,7 @@ fn past_return(s: &[u8], c: Cursor, returns: bool, items: u32) -> Cursor
 
 // A function by its item's number: the index of its Rust name, its form, its self type's item, its two bits, where
 // the type that it returns stands, and where the first of its arguments does.
-#[derive(Drop)]
+#[derive(Clone, Copy)]
 pub struct FunctionView {
     pub number: u32,
     pub rust: u32,
@@ -289,7 +289,7 @@ pub fn skip_comment(s: &[u8], c: Cursor) -> Cursor
 }
 
 // What a C++ function has behind its comment: its unwind bit and its elided bit.
-#[derive(Drop)]
+#[derive(Clone, Copy)]
 pub struct CxxView {
     pub unwind: bool,
     pub elided: bool,
@@ -311,7 +311,7 @@ pub fn cxx_bits(s: &[u8], c: Cursor) -> CxxView
 
 // An argument: the index of its name, where its type stands, whether that is a RustBox (1), a UniquePtr (2) or
 // another (0), whether it needs an indirect ABI, and whether it is RustString.
-#[derive(Drop)]
+#[derive(Clone, Copy)]
 pub struct ArgumentView {
     pub name: u32,
     pub of: Cursor,

@@ -12,7 +12,7 @@ use words::{Shape, State, Words, step_shape, step_word};
 // ---- the word
 
 // A state without its shape.
-#[derive(Drop)]
+#[derive(Clone, Copy)]
 pub struct Place {
     pub word: u8,
     pub matched: u8,

@@ -1,5 +1,6 @@
 // The name rule of documents 01 and 02 as a walk over the characters of a name: the table of words that are no names,
 // the state, its steps and its verdict (specs/Walking.antt).
+#![tactic(auto)]
 ghost use Rattle.std.specs.Prelude.{◌≡◌, [], ◌∷◌, ◌-◌, ◌≤◌, ◌<◌, length, get_or};
 ghost use Rattle.lexical.specs.Bytes.{within, same};
 ghost use Rattle.lexical.specs.Names.{letter};
@@ -52,7 +53,7 @@ fn is_letter(c: u8) -> bool
 // ---- the table of words
 
 // The table of words, which a service makes once and lends: a constant is built anew in each call that looks into it.
-#[derive(Drop)]
+#[derive(Clone, Copy)]
 pub struct Words {
     pub count: u8,
 }
@@ -83,7 +84,7 @@ impl Words {
 // ---- the state
 
 // What the characters of a name up to here are.
-#[derive(Drop)]
+#[derive(Clone, Copy)]
 pub enum Shape {
     Empty,
     Leading,
@@ -94,7 +95,7 @@ pub enum Shape {
 }
 
 // The number of the first word that begins with them, how many characters it was searched for, and the shape.
-#[derive(Drop)]
+#[derive(Clone, Copy)]
 pub struct State {
     pub word: u8,
     pub matched: u8,
@@ -227,7 +228,7 @@ fn to_u16(b: u8) -> u16
 }
 
 // What a word has behind its first characters, as many as matched: c, a larger character, or neither.
-#[derive(Drop)]
+#[derive(Clone, Copy)]
 pub enum Compared {
     Same,
     Larger,

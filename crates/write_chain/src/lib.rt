@@ -112,7 +112,7 @@ pub fn code_of(k: u32, m: u32) -> usize
 
 // An inner type that is reached: where it stands, its kind, the levels left, the codes of what stands behind it, and
 // the place for its text.
-#[derive(Drop)]
+#[derive(Clone, Copy)]
 struct Entered {
     at: u32,
     kind: u32,

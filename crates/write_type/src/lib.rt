@@ -19,7 +19,7 @@ use write_atom::{
 };
 
 // Where a speller is: in the text, and behind the type that it has written.
-#[derive(Drop)]
+#[derive(Clone, Copy)]
 pub struct Walked {
     pub at: usize,
     pub next: Cursor,

@@ -5,7 +5,7 @@ use Prim.Native.Nat.{◌≤◌, ◌-◌}
 use mathlib.Core.Path.{◌≡◌, refl}
 use lib.ListN.{length}
 use Rattle.tables.specs.Tables.{Filled}
-use Rattle.mangle.proofs.FullLaws.{filled-same, item-left, filled_next}
+use Rattle.mangle.proofs.FullLaws.{filled_same, item_left, filled_next}
 use Rattle.mangle.proofs.full.fill_full_names.Statement.{statement}
 use Rattle.mangle.proofs.full.fill_full_names.Tie as tie
 
@@ -16,10 +16,10 @@ abbrev decreases-loop : tie.decreases-loop
 decreases-loop s t₀ pool₀ from n text₀ end₀ i₀ t pool text end i = n - i
 
 loop-holds : tie.Need-loop-init invariant-loop decreases-loop
-loop-holds c = (omega arith, refl, filled-same _ c.before.before.before.requires.0 c.before.before.before.requires.1)
+loop-holds c = (omega arith, refl, filled_same _ c.before.before.before.requires.0 c.before.before.before.requires.1)
 
 fill-full-name-requires : tie.Need-fill-full-name-requires invariant-loop decreases-loop
-fill-full-name-requires c κs = (c.before.before.before.before.loop.invariant.2.lent, c.before.before.before.before.loop.invariant.2.room, item-left c.before.before.before.before.loop.invariant.2 c.before.before.before.before.before.before.before.before.requires.0.tabled (omega arith), c.before.before.before.before.loop.invariant.1)
+fill-full-name-requires c κs = (c.before.before.before.before.loop.invariant.2.lent, c.before.before.before.before.loop.invariant.2.room, item_left c.before.before.before.before.loop.invariant.2 c.before.before.before.before.before.before.before.before.requires.0.tabled (omega arith), c.before.before.before.before.loop.invariant.1)
 
 add-i : tie.Need-overflow-add-i invariant-loop decreases-loop
 add-i c = omega (arith, c.before.before.before.before.before.before.before.before.before.before.requires.0.tabled.items)
@@ -28,7 +28,7 @@ loop-again : tie.Need-loop-preserved invariant-loop decreases-loop
 loop-again c = (omega arith, search (rules, c.before.before.before.before.before.before.loop.invariant.1), filled_next c.before.before.before.before.before.before.loop.invariant.2 c.before.fill-full-name.ensures)
 
 returns : tie.Need-returns invariant-loop decreases-loop
-returns c = filled-same _ c.before.before.requires.0 c.before.before.requires.1
+returns c = filled_same _ c.before.before.requires.0 c.before.before.requires.1
 
 returns-2 : tie.Need-returns-2 invariant-loop decreases-loop
 returns-2 c = c.before.loop.invariant.2

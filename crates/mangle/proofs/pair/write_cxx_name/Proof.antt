@@ -1,6 +1,6 @@
 -- Written by tools/proofkit from answers/pair/write_cxx_name.tpl (462ed230 5147370b).
 use borrow.Author.Rules.{rules}
-use Rattle.mangle.proofs.NameLaws.{cxx-name}
+use Rattle.mangle.proofs.NameLaws.{cxx_name_lem}
 use Rattle.mangle.proofs.pair.write_cxx_name.Statement.{statement}
 use Rattle.mangle.proofs.pair.write_cxx_name.Tie as tie
 
@@ -8,7 +8,7 @@ put-name-of-requires : tie.Need-put-name-of-requires
 put-name-of-requires c κs = (c.before.before.before.before.before.requires.0, c.before.item.ensures.1.view.named)
 
 returns : tie.Need-returns
-returns c = cxx-name c.before.before.before.before.item.ensures.1 c.before.before.before.before.item.ensures.0 c.before.before.put-name-of.ensures
+returns c = cxx_name_lem c.before.before.before.before.item.ensures.1 c.before.before.before.before.item.ensures.0 c.before.before.put-name-of.ensures
 
 pub write-cxx-name-spec : {M : Type 1} → statement M
 write-cxx-name-spec =

@@ -2,7 +2,7 @@
 use borrow.Author.Rules.{rules}
 use native.Mathlib.Omega.{arith}
 use Rattle.sink.proofs.SinkLaws.{wrote_as}
-use Rattle.mangle.proofs.NameLaws.{full-name}
+use Rattle.mangle.proofs.NameLaws.{full_name_lem}
 use Rattle.mangle.proofs.pair.write_full_name.Statement.{statement}
 use Rattle.mangle.proofs.pair.write_full_name.Tie as tie
 
@@ -16,7 +16,7 @@ put-name-of-requires : tie.Need-put-name-of-requires
 put-name-of-requires c κs = (c.before.before.before.before.before.before.before.before.before.before.before.before.before.before.before.before.before.before.requires.0, c.before.before.before.before.before.before.before.before.before.before.before.before.item.ensures.1.view.named)
 
 returns-2 : tie.Need-returns-2
-returns-2 c = full-name c.before.before.before.before.before.before.before.before.before.before.before.before.before.before.before.item.ensures.1 c.before.before.before.before.before.before.before.before.before.before.before.before.before.before.before.item.ensures.0 c.before.before.before.before.before.before.before.before.before.before.before.write-namespace.ensures c.before.before.before.before.before.before.put-bytes.ensures c.before.before.put-name-of.ensures
+returns-2 c = full_name_lem c.before.before.before.before.before.before.before.before.before.before.before.before.before.before.before.item.ensures.1 c.before.before.before.before.before.before.before.before.before.before.before.before.before.before.before.item.ensures.0 c.before.before.before.before.before.before.before.before.before.before.before.write-namespace.ensures c.before.before.before.before.before.before.put-bytes.ensures c.before.before.put-name-of.ensures
 
 pub write-full-name-spec : {M : Type 1} → statement M
 write-full-name-spec =

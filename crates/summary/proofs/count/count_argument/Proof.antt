@@ -1,12 +1,12 @@
 -- Written by tools/proofkit from answers/count/count_argument.tpl (ba63e576 e5a0ae4c).
 use Rattle.std.proofs.Common.{refl, arith, rules}
-use Rattle.shape.proofs.TypeLaws.{here-yields}
-use Rattle.shape.proofs.ArgumentLaws.{argument-at}
-use Rattle.count_type.proofs.CountLaws.{wrote-counted}
-use Rattle.shape.proofs.ExternLaws.{argument-written, parameter-written}
-use Rattle.summary.proofs.HeldLaws.{held-is, local-passed, operand-written}
-use Rattle.summary.proofs.LengthLaws.{positive, passed, ahead, within, later, near, passed-near, passed_none}
-use Rattle.summary.proofs.LengthLaws.{passed-all}
+use Rattle.shape.proofs.TypeLaws.{here_yields}
+use Rattle.shape.proofs.ArgumentLaws.{argument_at_lem}
+use Rattle.count_type.proofs.CountLaws.{wrote_counted}
+use Rattle.shape.proofs.ExternLaws.{argument_written, parameter_written}
+use Rattle.summary.proofs.HeldLaws.{held_is, local_passed, operand_written}
+use Rattle.summary.proofs.LengthLaws.{positive, passed, ahead, within, later, near, passed_near, passed_none}
+use Rattle.summary.proofs.LengthLaws.{passed_all}
 use Rattle.summary.proofs.count.count_argument.Statement.{statement}
 use Rattle.summary.proofs.count.count_argument.Tie as tie
 
@@ -15,22 +15,22 @@ argument-requires c κs = omega arith
 
 type-length-requires : tie.Need-type-length-requires
 type-length-requires c κs =
-    let a = argument-at c.before.before.before.requires.1 c.before.before.before.requires.2 c.argument.ensures in
-    (c.before.before.before.requires.0, here-yields _ _ _ a.0.of)
+    let a = argument_at_lem c.before.before.before.requires.1 c.before.before.before.requires.2 c.argument.ensures in
+    (c.before.before.before.requires.0, here_yields _ _ _ a.0.of)
 
 returns : tie.Need-returns
 returns c = passed_none refl
 
 name-length-requires : tie.Need-name-length-requires
 name-length-requires c κs =
-    let a = argument-at c.before.before.before.before.before.requires.1 c.before.before.before.before.before.requires.2 c.before.before.argument.ensures in
+    let a = argument_at_lem c.before.before.before.before.before.requires.1 c.before.before.before.before.before.requires.2 c.before.before.argument.ensures in
     (c.before.before.before.before.before.requires.0, a.0.named)
 
 declared-type-requires : tie.Need-declared-type-requires
 declared-type-requires c κs =
-    let a = argument-at c.before.before.before.before.before.before.before.before.before.requires.1 c.before.before.before.before.before.before.before.before.before.requires.2 c.before.before.before.before.before.before.argument.ensures in (
+    let a = argument_at_lem c.before.before.before.before.before.before.before.before.before.requires.1 c.before.before.before.before.before.before.before.before.before.requires.2 c.before.before.before.before.before.before.argument.ensures in (
       c.before.before.before.before.before.before.before.before.before.requires.0,
-      here-yields _ _ _ a.0.of,
+      here_yields _ _ _ a.0.of,
       a.1.owner,
       c.before.before.before.before.before.type-length.ensures,
       positive c.before.before.before.before.if1.false,
@@ -39,24 +39,24 @@ declared-type-requires c κs =
 
 returns-2 : tie.Need-returns-2
 returns-2 c =
-    let a = argument-at c.before.before.before.before.before.before.before.before.before.before.before.before.before.before.before.before.before.before.requires.1 c.before.before.before.before.before.before.before.before.before.before.before.before.before.before.before.before.before.before.requires.2 c.before.before.before.before.before.before.before.before.before.before.before.before.before.before.before.argument.ensures in
-    let h = held-is a.1 c.before.before.before.before.before.before.before.before.before.before.before.is_held_lem.ensures in
+    let a = argument_at_lem c.before.before.before.before.before.before.before.before.before.before.before.before.before.before.before.before.before.before.requires.1 c.before.before.before.before.before.before.before.before.before.before.before.before.before.before.before.before.before.before.requires.2 c.before.before.before.before.before.before.before.before.before.before.before.before.before.before.before.argument.ensures in
+    let h = held_is a.1 c.before.before.before.before.before.before.before.before.before.before.before.is_held_lem.ensures in
     let q = c.before.before.before.before.before.before.before.before.before.before.before.before.before.before.before.before.before.before.requires.4 in
     let typed = later c.before.before.before.before.before.before.before.before.declared-type.ensures q.exts.0 q.exts.1 in
-    passed-all
-    (argument-written _ a.0 a.1.indirect c.before.before.before.before.before.before.before.before.declared-type.ensures
+    passed_all
+    (argument_written _ a.0 a.1.indirect c.before.before.before.before.before.before.before.before.declared-type.ensures
     (passed c.before.before.before.before.before.before.before.before.before.before.star-length.ensures.0 typed (near c.before.before.before.before.before.before.before.before.declared-type.ensures q.exts.1) c.before.before.before.before.before.before.before.advance.ensures)
-    (passed-near c.before.before.before.before.before.before.before.before.before.before.before.before.name-length.ensures (ahead _ _ c.before.before.before.before.before.before.before.advance.ensures typed)
+    (passed_near c.before.before.before.before.before.before.before.before.before.before.before.before.name-length.ensures (ahead _ _ c.before.before.before.before.before.before.before.advance.ensures typed)
     (within _ _ c.before.before.before.before.before.before.before.advance.ensures) c.before.before.before.advance5.ensures))
-    (parameter-written _ a.0
-    (wrote-counted q.pars.0 c.before.before.before.before.before.before.before.before.before.before.before.before.before.before.type-length.ensures (positive c.before.before.before.before.before.before.before.before.before.before.before.before.before.if1.false) q.pars.1 c.before.before.before.before.before.before.advance2.ensures)
-    (passed-near c.before.before.before.before.before.before.before.before.before.before.before.before.name-length.ensures (ahead _ _ c.before.before.before.before.before.before.advance2.ensures q.pars.0)
+    (parameter_written _ a.0
+    (wrote_counted q.pars.0 c.before.before.before.before.before.before.before.before.before.before.before.before.before.before.type-length.ensures (positive c.before.before.before.before.before.before.before.before.before.before.before.before.before.if1.false) q.pars.1 c.before.before.before.before.before.before.advance2.ensures)
+    (passed_near c.before.before.before.before.before.before.before.before.before.before.before.before.name-length.ensures (ahead _ _ c.before.before.before.before.before.before.advance2.ensures q.pars.0)
     (within _ _ c.before.before.before.before.before.before.advance2.ensures) c.before.before.advance6.ensures))
-    (local-passed _ a.0 h c.before.before.before.before.before.before.before.before.before.before.before.before.before.before.type-length.ensures (positive c.before.before.before.before.before.before.before.before.before.before.before.before.before.if1.false) c.before.before.before.before.before.before.before.before.before.before.before.before.name-length.ensures
+    (local_passed _ a.0 h c.before.before.before.before.before.before.before.before.before.before.before.before.before.before.type-length.ensures (positive c.before.before.before.before.before.before.before.before.before.before.before.before.before.if1.false) c.before.before.before.before.before.before.before.before.before.before.before.before.name-length.ensures
     q.locals.0 q.locals.1 c.before.behind-local.ensures)
-    (operand-written _ a.0 h a.1.owner a.1.indirect
+    (operand_written _ a.0 h a.1.owner a.1.indirect
     (passed c.before.before.before.before.before.before.before.before.before.before.star-length.ensures.1 q.operands.0 q.operands.1 c.before.before.before.before.before.advance3.ensures)
-    (passed-near c.before.before.before.before.before.before.before.before.before.before.before.before.name-length.ensures (ahead _ _ c.before.before.before.before.before.advance3.ensures q.operands.0)
+    (passed_near c.before.before.before.before.before.before.before.before.before.before.before.before.name-length.ensures (ahead _ _ c.before.before.before.before.before.advance3.ensures q.operands.0)
     (within _ _ c.before.before.before.before.before.advance3.ensures) c.before.before.before.before.advance4.ensures)
     (passed c.before.before.before.before.before.before.before.before.before.end-length.ensures (ahead _ _ c.before.before.before.before.advance4.ensures (ahead _ _ c.before.before.before.before.before.advance3.ensures q.operands.0))
     (within _ _ c.before.before.before.before.advance4.ensures) c.advance7.ensures))

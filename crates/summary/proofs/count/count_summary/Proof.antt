@@ -1,7 +1,7 @@
 -- Written by tools/proofkit from answers/count/count_summary.tpl (0ee29367 878d993d).
 use Rattle.std.proofs.Common.{arith, length-set, rules}
-use Rattle.summary.proofs.LengthLaws.{later, counted-word}
-use Rattle.summary.proofs.SummaryLaws.{summary-stored}
+use Rattle.summary.proofs.LengthLaws.{later, counted_word}
+use Rattle.summary.proofs.SummaryLaws.{summary_stored}
 use Rattle.summary.proofs.count.count_summary.Statement.{statement}
 use Rattle.summary.proofs.count.count_summary.Tie as tie
 
@@ -9,16 +9,16 @@ returns : tie.Need-returns
 returns c = c.before.before.before.before.before.before.requires.2
 
 length-word-requires : tie.Need-length-word-requires
-length-word-requires c κs = later (c.before.before.before.count-arguments.ensures.declaredTo c.before.if1.false) (omega arith) (omega arith)
+length-word-requires c κs = later (c.before.before.before.count-arguments.ensures.declared_to c.before.if1.false) (omega arith) (omega arith)
 
 length-word-requires-2 : tie.Need-length-word-requires-2
-length-word-requires-2 c κs = later (c.before.before.before.before.count-arguments.ensures.definedTo c.before.before.if1.false) (omega arith) (omega arith)
+length-word-requires-2 c κs = later (c.before.before.before.before.count-arguments.ensures.defined_to c.before.before.if1.false) (omega arith) (omega arith)
 
 length-word-requires-3 : tie.Need-length-word-requires-3
-length-word-requires-3 c κs = later (c.before.before.before.before.before.count-arguments.ensures.heldTo c.before.before.before.if1.false) (omega arith) (omega arith)
+length-word-requires-3 c κs = later (c.before.before.before.before.before.count-arguments.ensures.held_to c.before.before.before.if1.false) (omega arith) (omega arith)
 
 length-word-requires-4 : tie.Need-length-word-requires-4
-length-word-requires-4 c κs = later (c.before.before.before.before.before.before.count-arguments.ensures.operandsTo c.before.before.before.before.if1.false) (omega arith) (omega arith)
+length-word-requires-4 c κs = later (c.before.before.before.before.before.before.count-arguments.ensures.operands_to c.before.before.before.before.if1.false) (omega arith) (omega arith)
 
 slice-write-words : tie.Need-slice-write-words
 slice-write-words c = omega (arith, c.before.before.before.before.before.before.before.before.requires.2.room)
@@ -35,11 +35,11 @@ slice-write-words-4 c = simp length-set (omega (arith, c.before.before.before.be
 returns-2 : tie.Need-returns-2
 returns-2 c =
     let r = c.before.before.before.before.before.before.before.count-arguments.ensures in
-    summary-stored c.before.before.before.before.before.before.before.before.before.before.before.requires.2
-    (counted-word (r.declaredTo c.before.before.before.before.before.if1.false) c.before.before.before.length-word.ensures)
-    (counted-word (r.definedTo c.before.before.before.before.before.if1.false) c.before.before.length-word2.ensures)
-    (counted-word (r.heldTo c.before.before.before.before.before.if1.false) c.before.length-word3.ensures)
-    (counted-word (r.operandsTo c.before.before.before.before.before.if1.false) c.length-word4.ensures)
+    summary_stored c.before.before.before.before.before.before.before.before.before.before.before.requires.2
+    (counted_word (r.declared_to c.before.before.before.before.before.if1.false) c.before.before.before.length-word.ensures)
+    (counted_word (r.defined_to c.before.before.before.before.before.if1.false) c.before.before.length-word2.ensures)
+    (counted_word (r.held_to c.before.before.before.before.before.if1.false) c.before.length-word3.ensures)
+    (counted_word (r.operands_to c.before.before.before.before.before.if1.false) c.length-word4.ensures)
 
 pub count-summary-spec : {M : Type 1} → statement M
 count-summary-spec =

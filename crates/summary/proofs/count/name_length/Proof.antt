@@ -1,9 +1,9 @@
 -- Written by tools/proofkit from answers/count/name_length.tpl (356dcfc1 6e113b4c).
 use Rattle.std.proofs.Common.{length, ap, arith, rules}
-use Rattle.sink.proofs.SinkLaws.{wrote_as, wrote-place}
+use Rattle.sink.proofs.SinkLaws.{wrote_as, wrote_place}
 use Rattle.view.specs.Values.{name_at}
 use Rattle.tables.proofs.PoolLaws.{place_is}
-use Rattle.summary.proofs.LengthLaws.{name-spelled}
+use Rattle.summary.proofs.LengthLaws.{name_spelled}
 use Rattle.summary.proofs.count.name_length.Statement.{statement}
 use Rattle.summary.proofs.count.name_length.Tie as tie
 
@@ -15,10 +15,10 @@ put-name-requires c κs =
 returns : tie.Need-returns
 returns c =
     let p = wrote_as c.before.put-name.ensures (ap (name_at _) (place_is c.before.before.before.before.before.before.before.requires.0.tabled _ c.before.before.before.before.before.before.before.requires.1)) in
-    omega (arith, wrote-place p (omega arith))
+    omega (arith, wrote_place p (omega arith))
 
 returns-2 : tie.Need-returns-2
-returns-2 c = name-spelled _ c.before.before.before.requires.0 c.before.before.before.requires.1 c.if1.false
+returns-2 c = name_spelled _ c.before.before.before.requires.0 c.before.before.before.requires.1 c.if1.false
 
 pub name-length-spec : {M : Type 1} → statement M
 name-length-spec =

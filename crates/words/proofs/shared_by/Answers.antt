@@ -1,0 +1,12 @@
+use native.Mathlib.Omega.{arith}
+use Rattle.words.proofs.TableLaws.{shared_is}
+use Rattle.words.proofs.shared_by.Goals as goal
+
+pub overflow_add-result : goal.overflow_add-result
+overflow_add-result c = omega arith
+
+pub bounds-t-w : goal.bounds-t-w
+bounds-t-w c = omega arith
+
+pub returns : goal.returns
+returns c = shared_is c.requires.0 _ c.requires.1 c.requires.2
