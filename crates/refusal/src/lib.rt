@@ -1,5 +1,6 @@
 // The refusals of documents 01 and 02, in their order. `number_of` of specs/Refusal.antt gives each its number.
 
+#![tactic(auto)]
 ghost use Rattle.std.specs.Prelude.{◌≡◌};
 ghost use Rattle.refusal.specs.Refusal.{number_of};
 
