@@ -1,5 +1,6 @@
 // The items of a sheet, checked; names are the positions of the sheet's names, items is the number of its items. The
 // walk marks what rules 9 to 11, 14 and 15 ask for.
+#![tactic(auto)]
 ghost use Rattle.std.specs.Prelude.{◌≡◌, List, Bool, ◌&&◌, false, ℕ, ◌≤◌, length};
 ghost use Rattle.format.specs.Decode.{got, after, many};
 ghost use Rattle.format.specs.Bits.{index};
