@@ -36,8 +36,8 @@ extern "C" {
 #endif
 
 /* Why a service refuses. Excess length comes first. Then 1 to 8: the first
- * field at fault in sheet order, the lower number at one field. Then 9 to 12, 14
- * and 15, lowest number, then 13. Nothing else is refused. */
+ * field at fault in sheet order, the lower number at one field. Then 9 to 12,
+ * lowest number, then 13. Nothing else is refused. */
 enum bridgetext_refusal {
   /* over 32,768 bytes, or ends before a field is whole */
   BRIDGETEXT_CUT_SHEET = 1,
@@ -48,7 +48,7 @@ enum bridgetext_refusal {
   BRIDGETEXT_BAD_NAME = 3,
   /* no such entry */
   BRIDGETEXT_LOOSE_INDEX = 4,
-  /* item 6 or 7, type 12 or 15, enum atom outside 2 to 11 */
+  /* item 5 to 7, type 12 or 15, enum atom outside 2 to 11 */
   BRIDGETEXT_BAD_KIND = 5,
   /* a type at depth 9 */
   BRIDGETEXT_TOO_DEEP = 6,
@@ -62,17 +62,13 @@ enum bridgetext_refusal {
    * name; two functions with the same symbol; two equal argument names in a
    * function */
   BRIDGETEXT_TAKEN = 10,
-  /* kind 10 as argument; `self` in a method; `error` in a throwing Rust function,
-   * if its type is indirect and not RustString */
+  /* kind 10 as argument; `self` in a method; `error` in a throwing function, if
+   * its type is indirect and not RustString */
   BRIDGETEXT_UNFIT_ARGUMENT = 11,
   /* a struct holds itself by named fields, over any number of structs */
   BRIDGETEXT_RING = 12,
   /* the answer is longer than the buffer */
-  BRIDGETEXT_OVERRUN = 13,
-  /* the throws bit and the unwind bit of a C++ function are both set */
-  BRIDGETEXT_TWO_WAYS_OUT = 14,
-  /* kind 11 as argument of a C++ function */
-  BRIDGETEXT_BARE_CALLBACK = 15
+  BRIDGETEXT_OVERRUN = 13
 };
 
 /* Checks a sheet: 0 if it is accepted, else the refusal's number negated, which

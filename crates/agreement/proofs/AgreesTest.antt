@@ -16,23 +16,23 @@ use Rattle.agreement.specs.Agreement.{head_parts, fitting, only, Matches, MatchA
 
 -- ---- lists compared part by part
 
-abbrev pub same_by : {A : Type 0} → (A → A → Bool) → List A → List A → Bool
+abbrev same_by : {A : Type 0} → (A → A → Bool) → List A → List A → Bool
 same_by test [] [] = true
 same_by test [] (y ∷ ys) = false
 same_by test (x ∷ xs) [] = false
 same_by test (x ∷ xs) (y ∷ ys) = test x y && same_by test xs ys
 
-pub same_by_refl : {A : Type 0} (test : A → A → Bool) → ((x : A) → test x x ≡ true) → (xs : List A) → same_by test xs xs ≡ true
+same_by_refl : {A : Type 0} (test : A → A → Bool) → ((x : A) → test x x ≡ true) → (xs : List A) → same_by test xs xs ≡ true
 same_by_refl test h [] = refl
 same_by_refl test h (x ∷ xs) = rw (h x) (same_by_refl test h xs)
 
-pub name_told : (x y : Name) → x ≡ y → same x y ≡ true
+name_told : (x y : Name) → x ≡ y → same x y ≡ true
 name_told x y e = rw e (same_refl y)
 
-abbrev pub same_names : List Name → List Name → Bool
+abbrev same_names : List Name → List Name → Bool
 same_names xs ys = same_by same xs ys
 
-pub names_told : (xs ys : List Name) → xs ≡ ys → same_names xs ys ≡ true
+names_told : (xs ys : List Name) → xs ≡ ys → same_names xs ys ≡ true
 names_told xs ys e = rw e (same_by_refl same same_refl ys)
 
 -- an operand's form and name

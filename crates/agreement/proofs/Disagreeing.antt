@@ -8,7 +8,7 @@ use Rattle.format.specs.declared.Template.TheVariants.{RustBox, RustVec, UniqueP
 use Rattle.format.specs.declared.Pointer.TheVariants.{Ref}
 use Rattle.format.specs.Types.{Ty, atom, template, pointer, str, array, none, gives}
 use Rattle.format.specs.Types as Types
-use Rattle.format.specs.Sheet.{Name, const_method, rust, rust_type, function, Argument, Item}
+use Rattle.format.specs.Sheet.{Name, const_method, rust_type, function, Argument, Item}
 use Rattle.format.specs.Sheet as Sheet
 use Rattle.syntax.specs.Items.{item_at}
 use Rattle.syntax.specs.Symbol.{push_all, join}
@@ -32,10 +32,10 @@ computes = tt
 -- ---- the sheet: an opaque Rust type `Job` in `mill`, and there `fn run(&self, a: T, b: T) -> String` of it and
 -- `fn count(self: T)`, which is free and has an argument of that name
 
-abbrev pub mill : List Name
+abbrev mill : List Name
 mill = bytes "mill" ∷ []
 
-abbrev pub arguments : Ty → List Name → List Argument
+abbrev arguments : Ty → List Name → List Argument
 arguments t xs = map (λ x. record { name = x; type = t }) xs
 
 abbrev pub items : Ty → List Item
@@ -45,7 +45,6 @@ items t =
       namespace = mill;
       cxx = bytes "run";
       body = function (record {
-        lang = rust;
         rust = bytes "run";
         form = const_method 0;
         throws = false;
@@ -58,7 +57,6 @@ items t =
       namespace = mill;
       cxx = bytes "count";
       body = function (record {
-        lang = rust;
         rust = bytes "count";
         form = Sheet.free;
         throws = false;
@@ -71,7 +69,7 @@ items t =
 
 -- ---- trees from declarations and shims, each in the blocks around it
 
-abbrev pub within : List Name → (Body → Body) → Body → Body
+abbrev within : List Name → (Body → Body) → Body → Body
 within [] inside next = inside next
 within (x ∷ xs) inside next = block (namespace x) (within xs inside body_end) next
 

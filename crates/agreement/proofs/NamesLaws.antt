@@ -2,7 +2,7 @@
 use mathlib.Core.Path.{◌≡◌, refl}
 use mathlib.Core.List.{List, [], ◌∷◌, ◌++◌}
 use mathlib.Core.Bool.{Bool, true, false, ◌&&◌, not, false≢true}
-use Prim.Native.Nat.{ℕ, suc, ◌+◌}
+use Prim.Native.Nat.{ℕ, suc}
 use lib.Dec.{leb, ltb}
 use lib.ListN.{length}
 use Rattle.lexical.specs.Bytes.{within, every}
@@ -11,30 +11,23 @@ use Rattle.lexical.proofs.BoolLaws.{both}
 use Rattle.lexical.proofs.ByteLaws.{each_true, every_append}
 use Rattle.rules.specs.Rules.{gather}
 use Rattle.rules.proofs.EveryLaws.{every_gather}
-use Rattle.grammar.specs.Types.{Name, box, vec, unique_ptr, CxxType, suffixed, Base, atom, str, full, template, slice}
-use Rattle.grammar.specs.Types.{array, void_fn, fn, CxxTypes, nil, cons}
+use Rattle.grammar.specs.Types.{Name, box, unique_ptr, CxxType, suffixed, Base, atom, str, full, template, slice, array}
+use Rattle.grammar.specs.Types.{void_fn, fn, CxxTypes, nil, cons}
 use Rattle.grammar.specs.Tree.{Result, void, ptr_len, fat, int, value, Parameter, named, slot, Declaration}
 use Rattle.grammar.specs.Tree.{LayoutDefinition, Head, free, method, Local, held, room, Operand, receiver, direct}
 use Rattle.grammar.specs.Tree.{into_raw, release, address, held_address, slot_address, CallForm, bare, error, returned}
 use Rattle.grammar.specs.Tree.{dereferenced, in_from_raw, in_unique_ptr, in_new_unchecked, in_slice, Call, Shim, Item}
-use Rattle.grammar.specs.Tree.{PointerLine, CxxOperand, plain_operand, from_raw_operand, unique_ptr_operand, string_operand}
-use Rattle.grammar.specs.Tree.{vec_operand, moved_operand, CxxCall, CxxValue, plain_value, address_value, into_raw_value}
-use Rattle.grammar.specs.Tree.{release_value, repr_value, CxxStatement, plain_statement, return_statement, new_statement}
-use Rattle.grammar.specs.Tree.{CxxShim, cxx_shim}
 use Rattle.grammar.specs.Tree.{declares, defines, shim, namespace, extern_c, Body, body_end, item, block, Line}
 use Rattle.grammar.specs.Tree.{struct_line, enum_line, using_line, Forward, forward_end, line, bare_namespace, Text, text}
 use Rattle.grammar.specs.Rules.{max_namespaces, max_levels, max_declared_levels, max_arguments, max_fn_arguments, array_lengths}
 use Rattle.grammar.specs.Rules.{is_symbol, full_name_ok, levels, type_count, parts_ok, base_ok, all_parts_ok, type_ok, result_ok}
 use Rattle.grammar.specs.Rules.{is_root_main, declared_ok, declaration_ok, layout_ok, head_ok, argument_ok, local_ok, operand_ok}
 use Rattle.grammar.specs.Rules.{form_ok, call_ok, comments_ok, shim_ok, item_ok, body_ok, forward_line_ok, forward_ok, text_ok}
-use Rattle.grammar.specs.Rules.{few_arguments, is_self_of, is_slot, path_ok, pointer_result_ok, class_ok, pointer_ok}
-use Rattle.grammar.specs.Rules.{cxx_operand_ok, cxx_call_ok, value_ok, statement_ok, cxx_shim_ok}
 use Rattle.grammar.specs.Reading.{Reading}
 use Rattle.agreement.specs.Agreement.{head_parts}
 use Rattle.agreement.specs.Names.{names_of_type, names_of_base, names_of_types, names_of_result, names_of_parameter}
 use Rattle.agreement.specs.Names.{names_of_declaration, names_of_layout, names_of_local, names_of_operand, names_of_form}
-use Rattle.agreement.specs.Names.{names_of_call, names_of_shim, names_of_pointer, names_of_cxx_operand, names_of_cxx_call}
-use Rattle.agreement.specs.Names.{names_of_value, names_of_statement, names_of_cxx_shim, names_of_item, names_of_body, names_of_line}
+use Rattle.agreement.specs.Names.{names_of_call, names_of_shim, names_of_item, names_of_body, names_of_line}
 use Rattle.agreement.specs.Names.{names_of_forward, names_of, ReadingUnder}
 
 record Named (names : List Name) : Type 0 where
@@ -182,83 +175,6 @@ shim_names depth s h =
     let locals = gather_names local_ok names_of_local local_names s.locals l.0 in
     join (join (join head parameters) locals) (call_names s.call l.1)
 
--- ---- C++ shims
-
-pointer_result_names : (r : Result) → pointer_result_ok r ≡ true → Named (names_of_result r)
-unfolding pointer_result_ok
-pointer_result_names void h = none
-pointer_result_names ptr_len h = none
-pointer_result_names fat h = none
-pointer_result_names int h = none
-pointer_result_names (value x) h = ok_names max_levels x h
-
-class_names : (class : List Name) → class_ok class ≡ true → Named class
-unfolding class_ok
-class_names [] h = none
-class_names (s ∷ path) h = path_names (s ∷ path) h
-
-pointed_names : (path : List Name) → path_ok path ≡ true → Named path
-unfolding path_ok
-pointed_names path h =
-    let q = both (within 1 (max_namespaces + 2) (length path)) _ h in
-    record { is = (both (every is_name path) _ q.1).0 }
-
-pointer_names : (p : PointerLine) → pointer_ok p ≡ true → Named (names_of_pointer p)
-unfolding names_of_pointer pointer_ok
-pointer_names p h =
-    let r = both (pointer_result_ok p.result) _ h in
-    let c = both (class_ok p.class) _ r.1 in
-    let l = both (is_name p.local) _ c.1 in
-    let t = both (every (type_ok max_levels) p.types) _ l.1 in
-    let path = (both (leb (length p.types) max_arguments) _ t.1).1 in
-    let types = gather_names (type_ok max_levels) names_of_type (ok_names max_levels) p.types t.0 in
-    let class = join (pointer_result_names p.result r.0) (class_names p.class c.0) in
-    join (join (join class (one p.local l.0)) types) (pointed_names p.path path)
-
-cxx_operand_names : (o : CxxOperand) → cxx_operand_ok o ≡ true → Named (names_of_cxx_operand o)
-unfolding names_of_type cxx_operand_ok
-cxx_operand_names (plain_operand x) h = one x h
-cxx_operand_names (from_raw_operand t x) h = name_behind max_levels (suffixed (template box t) []) x h
-cxx_operand_names (unique_ptr_operand t x) h = name_behind max_levels (suffixed (template unique_ptr t) []) x h
-cxx_operand_names (string_operand x) h = one x h
-cxx_operand_names (vec_operand t x) h = name_behind max_levels (suffixed (template vec t) []) x h
-cxx_operand_names (moved_operand x) h = one x h
-
-cxx_call_names : (c : CxxCall) → cxx_call_ok c ≡ true → Named (names_of_cxx_call c)
-unfolding names_of_cxx_call cxx_call_ok
-cxx_call_names c h =
-    parts (is_name c.local) _ h (one c.local)
-    (λ e. gather_names cxx_operand_ok _ cxx_operand_names c.operands (both (every cxx_operand_ok c.operands) _ e).0)
-
-value_names : (v : CxxValue) → value_ok v ≡ true → Named (names_of_value v)
-unfolding value_ok
-value_names plain_value h = none
-value_names address_value h = none
-value_names into_raw_value h = none
-value_names release_value h = none
-value_names (repr_value t) h = ok_names max_levels t h
-
-statement_names : (s : CxxStatement) → statement_ok s ≡ true → Named (names_of_statement s)
-unfolding statement_ok
-statement_names plain_statement h = none
-statement_names return_statement h = none
-statement_names (new_statement t) h = ok_names max_levels t h
-
-cxx_shim_names : (depth : ℕ) (s : CxxShim) → cxx_shim_ok depth s ≡ true → Named (names_of_cxx_shim s)
-unfolding names_of_cxx_shim cxx_shim_ok
-cxx_shim_names depth s h =
-    let r = both (result_ok (is_root_main depth (free s.symbol)) s.result) _ (both (is_symbol s.symbol) _ h).1 in
-    let p = both (every declared_ok s.parameters) _ r.1 in
-    let few = both (few_arguments (is_self_of s.pointer.class) is_slot s.parameters) _ p.1 in
-    let l = both (pointer_ok s.pointer) _ few.1 in
-    let t = both (statement_ok s.statement) _ l.1 in
-    let v = both (value_ok s.value) _ t.1 in
-    let parameters = gather_names declared_ok names_of_parameter declared_names s.parameters p.0 in
-    let head = join (result_names _ s.result r.0) parameters in
-    let pointer = join head (pointer_names s.pointer l.0) in
-    let statement = join pointer (statement_names s.statement t.0) in
-    join (join statement (value_names s.value v.0)) (cxx_call_names s.call v.1)
-
 -- ---- the body
 
 item_names_lem : (depth : ℕ) (in_extern_c : Bool) (i : Item) → item_ok depth in_extern_c i ≡ true → Named (names_of_item i)
@@ -266,7 +182,6 @@ unfolding item_ok
 item_names_lem depth in_extern_c (declares d) h = declaration_names depth d (both in_extern_c _ h).1
 item_names_lem depth in_extern_c (defines d) h = layout_names d (both (not in_extern_c) _ h).1
 item_names_lem depth in_extern_c (shim s) h = shim_names depth s (both (not in_extern_c) _ h).1
-item_names_lem depth in_extern_c (cxx_shim s) h = cxx_shim_names depth s (both in_extern_c _ h).1
 
 body_names_lem : (depth : ℕ) (in_extern_c : Bool) (b : Body) → body_ok depth in_extern_c b ≡ true → Named (names_of_body b)
 unfolding names_of_body body_ok

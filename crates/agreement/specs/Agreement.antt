@@ -1,19 +1,22 @@
--- What demand 3 says of Rust functions: each, in sheet order, has exactly one declaration and one shim, both in its
--- namespace, and the shim calls the declared symbol with operands that fit the parameters one by one. The sentences
--- quoted are those of document 01, "The grammar", last paragraph.
+-- Demand 3: the text of a sheet has exactly one reading, and in it each Rust function, in sheet order, has exactly one
+-- declaration and one shim, both in its namespace, and the shim calls the declared symbol with operands that fit the
+-- parameters one by one. The sentences quoted are those of document 01, "The grammar", last paragraph.
 use Rattle.std.specs.Prelude.{◌≡◌, List, [], ◌∷◌, ◌++◌, map, Bool, not, ◌&&◌, ℕ}
 use Rattle.lexical.specs.Bytes.{bytes, same, member}
 use Rattle.format.specs.Decode.{pick}
 use Rattle.format.specs.declared.Template.{Template}
 use Rattle.format.specs.declared.Template.TheVariants.{RustBox, RustVec, UniquePtr, SharedPtr, WeakPtr, CxxVector}
 use Rattle.format.specs.Types.{Ty, atom, named, template, pointer, str, fn, array, Ret, none, gives}
-use Rattle.format.specs.Sheet.{Name, Argument, is_rust, Function, Body, struct, enum, cxx_type, rust_type, function, Item}
+use Rattle.format.specs.Sheet.{Name, Argument, Function, Body, struct, enum, cxx_type, rust_type, function, Item}
+use Rattle.format.specs.Sheet.{Sheet}
 use Rattle.syntax.specs.Items.{item_at, self_type}
 use Rattle.syntax.specs.Mangle.{extern_fn}
 use Rattle.syntax.specs.Types.{needs_indirect_abi, is_rust_string}
 use Rattle.rules.specs.Rules.{is_method, argument_names}
 use Rattle.grammar.specs.Tree as Tree
 use Rattle.grammar.specs.Tree.{Parameter, Operand, Declaration, Shim, Head}
+use Rattle.grammar.specs.Reading.{OneReading}
+use Rattle.bridge.specs.Write.{text}
 
 -- ---- the Rust functions of a sheet
 
@@ -27,8 +30,7 @@ rust_function x (struct p ts) = []
 rust_function x (enum p a c) = []
 rust_function x (cxx_type p) = []
 rust_function x (rust_type p) = []
-rust_function x (function f) =
-    pick (is_rust f.lang) (record { namespace = x.namespace; cxx = x.cxx; function = f } ∷ []) []
+rust_function x (function f) = record { namespace = x.namespace; cxx = x.cxx; function = f } ∷ []
 
 -- in sheet order
 unfoldable pub rust_functions : List Item → List RustFunction
@@ -72,18 +74,16 @@ declarations ns Tree.body_end = []
 declarations ns (Tree.item (Tree.declares d) next) = record { namespace = ns; declaration = d } ∷ declarations ns next
 declarations ns (Tree.item (Tree.defines d) next) = declarations ns next
 declarations ns (Tree.item (Tree.shim s) next) = declarations ns next
-declarations ns (Tree.item (Tree.cxx_shim s) next) = declarations ns next
 declarations ns (Tree.block (Tree.namespace x) inside next) =
     declarations (ns ++ (x ∷ [])) inside ++ declarations ns next
 declarations ns (Tree.block Tree.extern_c inside next) = declarations ns inside ++ declarations ns next
 
--- "Outside extern "C"": the grammar has no such shim inside
+-- "Outside extern "C"": the grammar has no shim inside
 unfoldable pub shims : List Name → Tree.Body → List Defined
 shims ns Tree.body_end = []
 shims ns (Tree.item (Tree.declares d) next) = shims ns next
 shims ns (Tree.item (Tree.defines d) next) = shims ns next
 shims ns (Tree.item (Tree.shim s) next) = record { namespace = ns; shim = s } ∷ shims ns next
-shims ns (Tree.item (Tree.cxx_shim s) next) = shims ns next
 shims ns (Tree.block (Tree.namespace x) inside next) = shims (ns ++ (x ∷ [])) inside ++ shims ns next
 shims ns (Tree.block Tree.extern_c inside next) = shims ns inside ++ shims ns next
 
@@ -185,3 +185,8 @@ abbrev pub Agrees : List Item → Tree.Text → Type 0
 Agrees items (Tree.text forward body) =
     MatchAll items (rust_functions items)
     (of_functions (map (function_symbol items) (rust_functions items)) (declarations [] body)) (shims [] body)
+
+-- demand 3 of a sheet, due for every accepted one with header bit 0
+pub record Demand3 (s : Sheet) : Type 0 where
+  pub reading : OneReading (text s)
+  pub agrees : Agrees s.items reading.tree

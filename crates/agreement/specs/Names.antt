@@ -9,16 +9,11 @@ use Rattle.grammar.specs.Tree.{Result, void, ptr_len, fat, int, value, Parameter
 use Rattle.grammar.specs.Tree.{LayoutDefinition, Local, held, room, Operand, receiver, direct}
 use Rattle.grammar.specs.Tree.{into_raw, release, address, held_address, slot_address, CallForm, bare, error, returned}
 use Rattle.grammar.specs.Tree.{dereferenced, in_from_raw, in_unique_ptr, in_new_unchecked, in_slice, Call, Shim, Item}
-use Rattle.grammar.specs.Tree.{PointerLine, CxxOperand, plain_operand, from_raw_operand, unique_ptr_operand, string_operand}
-use Rattle.grammar.specs.Tree.{vec_operand, moved_operand, CxxCall, CxxValue, plain_value, address_value, into_raw_value}
-use Rattle.grammar.specs.Tree.{release_value, repr_value, CxxStatement, plain_statement, return_statement, new_statement}
-use Rattle.grammar.specs.Tree.{CxxShim, cxx_shim}
 use Rattle.grammar.specs.Tree.{declares, defines, shim, Block, namespace, extern_c, Body, body_end, item, block, Line}
 use Rattle.grammar.specs.Tree.{struct_line, enum_line, using_line, Forward, forward_end, line, bare_namespace, Text, text}
 use Rattle.grammar.specs.Reading.{Reading}
-use Rattle.bridge.specs.Text as Bridge
+use Rattle.bridge.specs.Write as Bridge
 use Rattle.agreement.specs.Agreement.{head_parts, Agrees}
-use Rattle.agreement.specs.CxxAgreement.{CxxAgrees}
 
 -- ---- what stands where the grammar (docs/GRAMMAR.md) has a NAME, or a NAME before `$`; symbols and comments are none
 
@@ -88,43 +83,10 @@ names_of_shim s =
     names_of_result s.result ++ head_parts s.head ++ gather names_of_parameter s.parameters
     ++ gather names_of_local s.locals ++ names_of_call s.call
 
-unfoldable pub names_of_pointer : PointerLine → List Name
-names_of_pointer p =
-    names_of_result p.result ++ p.class ++ (p.local ∷ []) ++ gather names_of_type p.types ++ p.path
-
-abbrev pub names_of_cxx_operand : CxxOperand → List Name
-names_of_cxx_operand (plain_operand x) = x ∷ []
-names_of_cxx_operand (from_raw_operand t x) = names_of_type t ++ (x ∷ [])
-names_of_cxx_operand (unique_ptr_operand t x) = names_of_type t ++ (x ∷ [])
-names_of_cxx_operand (string_operand x) = x ∷ []
-names_of_cxx_operand (vec_operand t x) = names_of_type t ++ (x ∷ [])
-names_of_cxx_operand (moved_operand x) = x ∷ []
-
-unfoldable pub names_of_cxx_call : CxxCall → List Name
-names_of_cxx_call c = c.local ∷ gather names_of_cxx_operand c.operands
-
-abbrev pub names_of_value : CxxValue → List Name
-names_of_value plain_value = []
-names_of_value address_value = []
-names_of_value into_raw_value = []
-names_of_value release_value = []
-names_of_value (repr_value t) = names_of_type t
-
-abbrev pub names_of_statement : CxxStatement → List Name
-names_of_statement plain_statement = []
-names_of_statement return_statement = []
-names_of_statement (new_statement t) = names_of_type t
-
-unfoldable pub names_of_cxx_shim : CxxShim → List Name
-names_of_cxx_shim s =
-    names_of_result s.result ++ gather names_of_parameter s.parameters ++ names_of_pointer s.pointer
-    ++ names_of_statement s.statement ++ names_of_value s.value ++ names_of_cxx_call s.call
-
 abbrev pub names_of_item : Item → List Name
 names_of_item (declares d) = names_of_declaration d
 names_of_item (defines d) = names_of_layout d
 names_of_item (shim s) = names_of_shim s
-names_of_item (cxx_shim s) = names_of_cxx_shim s
 
 abbrev pub names_of_block : Block → List Name
 names_of_block (namespace x) = x ∷ []
@@ -164,4 +126,3 @@ pub record OneReadingUnder (rule : Name → Bool) (bytes : List ℕ) : Type 0 wh
 pub record Demand3Under (rule : Name → Bool) (s : Sheet) : Type 0 where
   pub reading : OneReadingUnder rule (Bridge.text s)
   pub agrees : Agrees s.items reading.tree
-  pub cxx_agrees : CxxAgrees s.items reading.tree

@@ -1,13 +1,12 @@
 -- Laws of what rule 11 wants of a type, by its outermost kind.
 use mathlib.Core.Path.{◌≡◌, refl, sym, ap, ◌∙◌}
 use mathlib.Core.List.{List}
-use mathlib.Core.Bool.{Bool, true, false, not, ◌&&◌, false≢true}
-use Prim.Native.Nat.{ℕ, zero, suc, ◌+◌, ◌*◌, ◌<◌, ◌≤◌}
+use mathlib.Core.Bool.{Bool, true, false, false≢true}
+use Prim.Native.Nat.{ℕ, zero, suc, ◌+◌, ◌*◌, ◌≤◌}
 use native.Mathlib.Omega.{arith}
-use lib.ListN.{length, get_or-eq_default}
+use lib.ListN.{length}
 use lib.Dec.{eqb, ltb}
-use borrow.Author.Tests.{eqb-true, eqb-false, ne_eqb, ltb-true, ltb-false}
-use Rattle.lexical.proofs.BoolLaws.{both, by_cases}
+use borrow.Author.Tests.{ne_eqb}
 use Rattle.format.specs.Decode.{got}
 use Rattle.format.specs.Bits.{bits_at, bits, width_of, index}
 use Rattle.format.specs.Types.{Ty, atom, named, template, pointer, str, fn, array}
@@ -15,10 +14,10 @@ use Rattle.format.specs.declared.Atom.{Atom}
 use Rattle.format.specs.declared.Template.{Template}
 use Rattle.format.specs.declared.TypeKind.{TypeKind}
 use Rattle.format.specs.declared.TypeKind.TheVariants as Kind
-use Rattle.format.specs.Decoding.{kinds, kind_of, atom_of, type_body, type_at, type}
+use Rattle.format.specs.Decoding.{kind_of, atom_of, type_body, type_at, type}
 use Rattle.syntax.specs.Types.{is_indirect_template}
 use Rattle.syntax.proofs.AtomLaws.{atom_number_lem}
-use Rattle.rules.specs.Rules.{is_cxx_vector, is_fn}
+use Rattle.rules.specs.Rules.{is_cxx_vector}
 use Rattle.cursor.specs.Yielding.{next_of, Yields}
 use Rattle.cursor.proofs.FieldLaws.{field_lt}
 use Rattle.cursor.proofs.WidthLaws.{index_field}
@@ -27,7 +26,7 @@ use Rattle.types.specs.Kinds.{kind_of_type}
 use Rattle.types.proofs.KindLaws.{behind_kind}
 use Rattle.marks.specs.Gathering.{each}
 use Rattle.marks.specs.Marking.{unfit_at, error_at, mark, mark_if}
-use Rattle.arguments.specs.Arguments.{is_vector_kind, is_fn_kind, judge_error}
+use Rattle.arguments.specs.Arguments.{is_vector_kind, judge_error}
 
 pub vector_type : (t : Ty) → is_vector_kind (kind_of_type t) ≡ is_cxx_vector t
 vector_type (atom a) = refl
@@ -38,60 +37,25 @@ vector_type str = refl
 vector_type (fn r ts) = refl
 vector_type (array t n) = refl
 
-pub fn_type : (t : Ty) → is_fn_kind (kind_of_type t) ≡ is_fn t
-fn_type (atom a) = refl
-fn_type (named i) = refl
-fn_type (template k t) = refl
-fn_type (pointer k m t) = refl
-fn_type str = refl
-fn_type (fn r ts) = refl
-fn_type (array t n) = refl
-
--- ---- the kinds by their numbers
-
-alike : Bool → Bool → Bool
-alike true b = b
-alike false b = not b
-
-alike_eq : (a b : Bool) → alike a b ≡ true → a ≡ b
-unfolding alike
-alike_eq true b e = sym e
-alike_eq false true e = absurd (false≢true e)
-alike_eq false false e = refl
-
--- of the first m kinds that of number n passes the test, and no other
-only : (TypeKind → Bool) → ℕ → ℕ → Bool
-only test n zero = true
-only test n (suc m) = only test n m && alike (eqb m n) (test (kind_of m))
-
-module _ (test : TypeKind → Bool) (n : ℕ) where
-  only_below : (m k : ℕ) → k < m → only test n m ≡ true → eqb k n ≡ test (kind_of k)
-  unfolding only
-  only_below zero k l e = absurd (omega arith)
-  only_below (suc m) k l e =
-      let b = both (only test n m) (alike (eqb m n) (test (kind_of m))) e in
-      by_cases (eqb k m)
-      (λ h. let z : k ≡ m = eqb-true k m h in rw z (alike_eq (eqb m n) (test (kind_of m)) b.1))
-      (λ h. only_below m k (omega (arith, eqb-false k m h)) b.0)
-
-  kind_past : (k : ℕ) → 16 ≤ k → kind_of k ≡ Kind.Bad
-  unfolding kind_of
-  kind_past k l = get_or-eq_default kinds _ l
-
-  only_number : n < 16 → test Kind.Bad ≡ false → only test n 16 ≡ true → (k : ℕ) → eqb k n ≡ test (kind_of k)
-  only_number l bad e k =
-      by_cases (ltb k 16) (λ h. only_below 16 k (ltb-true k 16 h) e)
-      (λ h.
-      let j : 16 ≤ k = ltb-false k 16 h in
-      rw (kind_past k j, bad) (ne_eqb k n (λ z. absurd (omega arith))))
-
 pub vector_number : (k : ℕ) → eqb k 10 ≡ is_vector_kind (kind_of k)
-unfolding only alike kind_of
-vector_number k = only_number is_vector_kind 10 (omega arith) refl refl k
-
-pub fn_number : (k : ℕ) → eqb k 11 ≡ is_fn_kind (kind_of k)
-unfolding only alike kind_of
-fn_number k = only_number is_fn_kind 11 (omega arith) refl refl k
+unfolding kind_of
+vector_number zero = refl
+vector_number (suc zero) = refl
+vector_number (suc (suc zero)) = refl
+vector_number (suc (suc (suc zero))) = refl
+vector_number (suc (suc (suc (suc zero)))) = refl
+vector_number (suc (suc (suc (suc (suc zero))))) = refl
+vector_number (suc (suc (suc (suc (suc (suc zero)))))) = refl
+vector_number (suc (suc (suc (suc (suc (suc (suc zero))))))) = refl
+vector_number (suc (suc (suc (suc (suc (suc (suc (suc zero)))))))) = refl
+vector_number (suc (suc (suc (suc (suc (suc (suc (suc (suc zero))))))))) = refl
+vector_number (suc (suc (suc (suc (suc (suc (suc (suc (suc (suc zero)))))))))) = refl
+vector_number (suc (suc (suc (suc (suc (suc (suc (suc (suc (suc (suc zero))))))))))) = refl
+vector_number (suc (suc (suc (suc (suc (suc (suc (suc (suc (suc (suc (suc zero)))))))))))) = refl
+vector_number (suc (suc (suc (suc (suc (suc (suc (suc (suc (suc (suc (suc (suc zero))))))))))))) = refl
+vector_number (suc (suc (suc (suc (suc (suc (suc (suc (suc (suc (suc (suc (suc (suc zero)))))))))))))) = refl
+vector_number (suc (suc (suc (suc (suc (suc (suc (suc (suc (suc (suc (suc (suc (suc (suc zero))))))))))))))) = refl
+vector_number (suc (suc (suc (suc (suc (suc (suc (suc (suc (suc (suc (suc (suc (suc (suc (suc k)))))))))))))))) = ne_eqb (suc (suc (suc (suc (suc (suc (suc (suc (suc (suc (suc (suc (suc (suc (suc (suc k)))))))))))))))) 10 (λ e. absurd (omega arith))
 
 -- ---- kinds that say all
 

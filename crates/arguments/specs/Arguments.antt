@@ -1,5 +1,5 @@
 -- The arguments of a function: what is told of their types by the kind, and what a walk past them leaves behind.
-use Rattle.std.specs.Prelude.{◌≡◌, List, [], ◌∷◌, ◌++◌, map, Bool, true, false, ℕ, ◌<◌, ◌≤◌, length, get_or}
+use Rattle.std.specs.Prelude.{◌≡◌, List, [], ◌∷◌, ◌++◌, map, Bool, false, ℕ, ◌<◌, ◌≤◌, length, get_or}
 use Rattle.format.specs.Limits.{most_bits}
 use Rattle.format.specs.Decode.{Got, got}
 use Rattle.format.specs.Types.{Ty}
@@ -27,16 +27,6 @@ is_vector_kind Kind.Fn = false
 is_vector_kind Kind.Array = false
 is_vector_kind Kind.Bad = false
 
-abbrev pub is_fn_kind : TypeKind → Bool
-is_fn_kind Kind.Fn = true
-is_fn_kind Kind.Atom = false
-is_fn_kind Kind.Named = false
-is_fn_kind (Kind.Template k) = false
-is_fn_kind (Kind.Pointer k) = false
-is_fn_kind Kind.Str = false
-is_fn_kind Kind.Array = false
-is_fn_kind Kind.Bad = false
-
 -- what rule 11 wants of the type of an argument `error` of a throwing function
 unfoldable pub judge_error : Ty → List ℕ → List ℕ
 judge_error t u = each mark_error (named_item t) (mark_if (is_indirect_now t) unfit_at u)
@@ -48,9 +38,9 @@ abbrev pub argument_of : List ℕ → List ℕ → ℕ → ℕ → ℕ → Argum
 argument_of s names items name of = record { name = name_at s (get_or names name 0); type = type_here items s of }
 
 -- the argument of the decoder's p was marked: u and v are the marks before and after, r tells of its name and its end
-pub record Passes (method throws cxx : Bool) (s names : List ℕ) (p : Got Argument) (u : List ℕ) (r : Passed)
-    (v : List ℕ) : Type 0 where
-  pub marks : Gathers (mark_argument method throws cxx) p u (step_in r.next) v
+pub record Passes (method throws : Bool) (s names : List ℕ) (p : Got Argument) (u : List ℕ) (r : Passed) (v : List ℕ)
+    : Type 0 where
+  pub marks : Gathers (mark_argument method throws) p u (step_in r.next) v
   pub there : r.next ≤ most_bits → r.name < length names
   pub name : (x : Argument) (m : ℕ) → p ≡ got x m → name_at s (get_or names r.name 0) ≡ x.name
 
@@ -70,11 +60,11 @@ pub record Numbered (s names numbers keys : List ℕ) : Type 0 where
   pub digests : keys ≡ map digest (names_of s names numbers)
 
 -- the marks with one argument more, and the names
-unfoldable pub note : Bool → Bool → Bool → Argument → List ℕ × List Name → List ℕ × List Name
-note method throws cxx a n = (mark_argument method throws cxx a n.0, n.1 ++ (a.name ∷ []))
+unfoldable pub note : Bool → Bool → Argument → List ℕ × List Name → List ℕ × List Name
+note method throws a n = (mark_argument method throws a n.0, n.1 ++ (a.name ∷ []))
 
 -- the arguments of the decoder's p were marked: u and v are the marks before and after, r the answer
-pub record Notes (method throws cxx : Bool) (s names : List ℕ) (p : Got (List Argument)) (u : List ℕ) (r : ℕ)
+pub record Notes (method throws : Bool) (s names : List ℕ) (p : Got (List Argument)) (u : List ℕ) (r : ℕ)
     (numbers keys v : List ℕ) : Type 0 where
-  pub noted : Gathers (each (note method throws cxx)) p (u, []) (step_in r) (v, names_of s names numbers)
+  pub noted : Gathers (each (note method throws)) p (u, []) (step_in r) (v, names_of s names numbers)
   pub numbered : r ≤ most_bits → Numbered s names numbers keys

@@ -1,6 +1,4 @@
-// The arguments of one function, walked past and looked at on the way: what rules 9 to 11 and 15 want of them is
-// marked.
-#![tactic(auto)]
+// The arguments of one function, walked past and looked at on the way: what rules 9 to 11 want of them is marked.
 ghost use Rattle.std.specs.Prelude.{◌≡◌, ◌&&◌, ◌<◌, ◌≤◌, length, get_or, take};
 ghost use Rattle.lexical.specs.Bytes.{same};
 ghost use Rattle.format.specs.Limits.{most_arguments, most_bits};
@@ -14,13 +12,13 @@ ghost use Rattle.names.specs.Naming.{name_at, names_at, Named};
 ghost use Rattle.names.specs.Digests.{digests_at};
 ghost use Rattle.types.specs.Kinds.{type_here, kind_of_type};
 ghost use Rattle.marks.specs.Gathering.{Gathers};
-ghost use Rattle.marks.specs.Marking.{judge_argument, mark_arguments};
-ghost use Rattle.arguments.specs.Arguments.{is_vector_kind, is_fn_kind, judge_error, argument_of, Passes};
+ghost use Rattle.marks.specs.Marking.{mark_if, judge_argument, mark_arguments};
+ghost use Rattle.arguments.specs.Arguments.{is_vector_kind, judge_error, argument_of, Passes};
 ghost use Rattle.arguments.specs.Arguments.{names_of, Indexes, Notes};
 
 use cursor::{Cursor, end_of, extract, width};
 use format::{Template, TypeKind};
-use marks::{Mark, mark_if, repeats, set_mark};
+use marks::{Mark, repeats, set_mark};
 use names::{name_is, same_name};
 use types::{Levels, kind_of, walk_type};
 
@@ -35,6 +33,16 @@ impl Count {
     pub const MOST: usize = 31;
 }
 
+// Marks a place where the test holds.
+fn mark_if(marks: &mut [u8], yes: bool, place: usize)
+    ensures { marks.new ≡ mark_if yes place marks.old }
+{
+    if !yes {
+        return;
+    }
+    set_mark(marks, place);
+}
+
 // ---- one argument
 
 // Whether the kind of this number is a vector.
@@ -42,16 +50,6 @@ fn is_vector(k: u32) -> bool
     ensures { result ≡ is_vector_kind (kind_of k) }
 {
     k == 10
-}
-
-// Whether the kind of this number is that of a Fn; asked of a C++ function.
-fn is_bare(cxx: bool, k: u32) -> bool
-    ensures { result ≡ (cxx && is_fn_kind (kind_of k)) }
-{
-    if cxx {
-        return k == 11;
-    }
-    false
 }
 
 fn is_indirect_template(k: Template) -> bool
@@ -122,8 +120,7 @@ fn judge_error(s: &[u8], items: u32, at: u32, kind: TypeKind, marks: &mut [u8])
     }
 }
 
-// Marks what rules 11 and 15 want of the argument with the name of this index, whose type stands at `of`; throws says
-// that the function is a throwing Rust function, cxx that it is a C++ function.
+// Marks what rule 11 wants of the argument with the name of this index, whose type stands at `of`.
 fn judge_argument(
     s: &[u8],
     names: &[u32],
@@ -133,17 +130,14 @@ fn judge_argument(
     of: u32,
     method: bool,
     throws: bool,
-    cxx: bool,
     marks: &mut [u8],
 )
     requires { Named s.now names.now × (digests.now ≡ digests_at s.now names.now) ×
         (name < length names.now) × Yields (type items s.now of) (type_here items s.now of) }
-    ensures { marks.new ≡ judge_argument method throws cxx
+    ensures { marks.new ≡ judge_argument method throws
         (argument_of s.now names.now items name of) marks.old }
 {
     let k = extract(s, of, 4);
-    let bare = is_bare(cxx, k);
-    mark_if(marks, bare, Mark::BARE);
     let vector = is_vector(k);
     mark_if(marks, vector, Mark::UNFIT);
     let receiver = name_when(s, names, digests, method, name, b"self");
@@ -172,11 +166,10 @@ fn check_argument(
     items: u32,
     method: bool,
     throws: bool,
-    cxx: bool,
     marks: &mut [u8],
 ) -> Passed
     requires { Named s.now names.now × (digests.now ≡ digests_at s.now names.now) × (at ≤ most_bits) }
-    ensures { Passes method throws cxx s.now names.now
+    ensures { Passes method throws s.now names.now
         (argument (names_at s.now names.now) items s.now at)
         marks.old result marks.new }
 {
@@ -196,9 +189,7 @@ fn check_argument(
     if Cursor::LAST < next {
         return Passed { name, next };
     }
-    judge_argument(
-        s, names, digests, items, name, of, method, throws, cxx, marks,
-    );
+    judge_argument(s, names, digests, items, name, of, method, throws, marks);
     Passed { name, next }
 }
 
@@ -214,21 +205,20 @@ fn check_each(
     n: u32,
     method: bool,
     throws: bool,
-    cxx: bool,
     numbers: &mut [u32],
     keys: &mut [u32],
     marks: &mut [u8],
 ) -> u32
     requires { Named s.now names.now × (digests.now ≡ digests_at s.now names.now) × (at ≤ most_bits) ×
         (n ≤ length numbers.old) × (n ≤ length keys.old) }
-    ensures { Notes method throws cxx s.now names.now
+    ensures { Notes method throws s.now names.now
         (many n (argument (names_at s.now names.now) items) s.now at)
         marks.old result (take n numbers.new) (take n keys.new) marks.new }
 {
     let mut next = at;
     let mut i: u32 = 0;
     while i < n {
-        let a = check_argument(s, names, digests, next, items, method, throws, cxx, marks);
+        let a = check_argument(s, names, digests, next, items, method, throws, marks);
         let behind = a.next;
         if Cursor::LAST < behind {
             return behind;
@@ -277,12 +267,11 @@ pub fn check_arguments(
     n: u32,
     method: bool,
     throws: bool,
-    cxx: bool,
     marks: &mut [u8],
 ) -> u32
     requires { Named s.now names.now × (digests.now ≡ digests_at s.now names.now) × (at ≤ most_bits) ×
         (n ≤ most_arguments) }
-    ensures { Gathers (mark_arguments method throws cxx)
+    ensures { Gathers (mark_arguments method throws)
         (many n (argument (names_at s.now names.now) items) s.now at)
         marks.old (step_in result) marks.new }
 {
@@ -297,7 +286,6 @@ pub fn check_arguments(
         n,
         method,
         throws,
-        cxx,
         &mut numbers,
         &mut keys,
         marks,

@@ -3,5 +3,3 @@ pub mod Out
 pub mod Nested
 pub mod WriteType
 pub mod Write
-pub mod Cxx
-pub mod Text

@@ -1,5 +1,5 @@
--- bridge/write.rs: forward declarations, and the declarations and definitions of Rust functions and opaque types. Names
--- are those of write.rs.
+-- bridge/write.rs: `write_forward_declarations`, then `write_functions` without its Struct and CxxFunction arms and
+-- without `write_std_specializations`, then `flush`. Names are those of write.rs.
 use Rattle.std.specs.Prelude.{ℕ, zero, suc, ◌+◌, ◌*◌, Bool, true, false, not, ◌&&◌, ◌||◌, List, [], ◌∷◌, ◌++◌, map, length, replicate, ◌==◌}
 use Rattle.lexical.specs.Bytes.{bytes, same}
 use Rattle.lexical.specs.Decimal.{pick_text}
@@ -17,7 +17,7 @@ use Rattle.syntax.specs.Mangle.{extern_fn, operator}
 use Rattle.syntax.specs.Types.{needs_indirect_abi, is_rust_string}
 use Rattle.rules.specs.Rules.{gather, is_method}
 use Rattle.bridge.specs.Block.{extern_c}
-use Rattle.bridge.specs.Out.{Content, next_section, begin_block, end_block, set_namespace, write}
+use Rattle.bridge.specs.Out.{Content, new, next_section, begin_block, end_block, set_namespace, write, flush}
 use Rattle.bridge.specs.Nested.{filter, direct_content, nested_content, nested_names}
 use Rattle.bridge.specs.WriteType.{write_atom, const_unless, space_after_type, write_type, write_type_space}
 use Rattle.bridge.specs.WriteType.{write_return_type}
@@ -118,14 +118,10 @@ abbrev pub direct_return_of : List Item → Ret → List ℕ
 direct_return_of items none = bytes "void "
 direct_return_of items (gives t) = direct_return items t (shape t)
 
--- `write_extern_return_type_space`, where it is known whether the return is indirect
-abbrev pub extern_return_by : List Item → Function → Bool → List ℕ
-extern_return_by items f indirect =
-    pick_text f.throws (bytes "::rust::repr::PtrLen ")
-    (pick_text indirect (bytes "void ") (direct_return_of items f.return))
-
 unfoldable pub extern_return : List Item → Function → List ℕ
-extern_return items f = extern_return_by items f (indirect_return items f f.return)
+extern_return items f =
+    pick_text f.throws (bytes "::rust::repr::PtrLen ")
+    (pick_text (indirect_return items f f.return) (bytes "void ") (direct_return_of items f.return))
 
 -- `write_extern_arg` without the name; a sheet has no CxxVector argument
 abbrev pub extern_arg_type : List Item → Ty → Shape → List ℕ
@@ -330,3 +326,38 @@ function_shim s x f =
 unfoldable pub write_rust_function_shim : Sheet → Item → Function → Content → Content
 write_rust_function_shim s x f c =
     write (pick_text (s.header && not (is_free f.form)) [] (function_shim s x f)) (set_namespace x.namespace c)
+
+-- ---- the text
+
+-- the first pass of `write_functions`
+abbrev pub declare : List Item → Item → Body → Content → Content
+declare items x (struct p ts) c = c
+declare items x (enum p a cxx) c = c
+declare items x (cxx_type p) c = c
+declare items x (rust_type p) c = write_opaque_type_layout_decls x c
+declare items x (function f) c = write_rust_function_decl items x f c
+
+-- the second pass
+abbrev pub define : Sheet → Item → Body → Content → Content
+define s x (struct p ts) c = c
+define s x (enum p a cxx) c = c
+define s x (cxx_type p) c = c
+define s x (rust_type p) c = write_opaque_type_layout s.header x c
+define s x (function f) c = write_rust_function_shim s x f (next_section c)
+
+-- one item after the other
+unfoldable pub for_each : (Item → Content → Content) → List Item → Content → Content
+for_each one [] c = c
+for_each one (x ∷ xs) c = for_each one xs (one x c)
+
+unfoldable pub write_functions : Sheet → Content → Content
+write_functions s c =
+    for_each (λ x. define s x x.body) s.items
+    (pick s.header c (for_each (λ x. declare s.items x x.body) s.items c))
+
+unfoldable pub content : Sheet → Content
+content s = flush (write_functions s (write (forward_declarations s.items) (next_section new)))
+
+-- the text of a sheet
+unfoldable pub text : Sheet → List ℕ
+text s = (content s).text

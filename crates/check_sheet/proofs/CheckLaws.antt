@@ -1,4 +1,4 @@
--- The answer to a sheet, from its decoding and the rules on its items.
+-- The answer to a sheet, from its decoding and the rules 9 to 12 on its items.
 use mathlib.Core.Path.{◌≡◌, refl, sym, ap, ◌∙◌}
 use mathlib.Core.List.{List}
 use mathlib.Core.Bool.{Bool, true, false}
@@ -6,10 +6,10 @@ use Prim.Native.Nat.{ℕ, ◌≤◌}
 use native.Mathlib.Nat.{le_trans}
 use lib.ListN.{length, take, replicate}
 use Rattle.refusal.specs.declared.Refusal.{Refusal}
-use Rattle.refusal.specs.declared.Refusal.TheVariants.{WrongPart, Taken, UnfitArgument, Ring, TwoWaysOut, BareCallback}
+use Rattle.refusal.specs.declared.Refusal.TheVariants.{WrongPart, Taken, UnfitArgument, Ring}
 use Rattle.format.specs.Limits.{most_names, most_items}
 use Rattle.format.specs.Decode.{fault, got, pick}
-use Rattle.format.specs.Sheet.{Item, Sheet}
+use Rattle.format.specs.Sheet.{Sheet}
 use Rattle.format.specs.Decoding.{decode}
 use Rattle.format.specs.declared.Outline.{Outline}
 use Rattle.decode.specs.Tables.{Tables}
@@ -20,41 +20,30 @@ use Rattle.view.specs.Values.{items_at, Ready}
 use Rattle.view.proofs.WholeLaws.{ready, items_are_lem}
 use Rattle.rules.specs.declared.Checked.{Checked}
 use Rattle.rules.specs.declared.Checked.TheVariants.{Accepted, Refused}
-use Rattle.rules.specs.Rules.{wrong_part, taken, unfit_argument, ring, two_ways_out, bare_callback}
+use Rattle.rules.specs.Rules.{wrong_part, taken, unfit_argument, ring}
 use Rattle.rules.specs.Judge as Judge
 use Rattle.rules.specs.Judge.{ruled, checked_of, check}
-use Rattle.check_sheet.specs.Ruled.{else_checked, ruled_parts, ringed, ruled_calls, ruled_items}
+use Rattle.check_sheet.specs.Ruled.{else_checked, ruled_parts, ruled_items}
 
 pub check_refused : (s : List ℕ) {e : Refusal} → decode s ≡ fault e → Refused e ≡ check s
 unfolding check Judge.judge
 check_refused s h = rw h
 
--- where rules 9 to 11 hold
-pub behind_parts : (items : List Item) {p r : Checked} {b : Bool} → p ≡ ruled_parts items → p ≡ Accepted → b ≡ ring items →
-    r ≡ else_checked (ringed b) (ruled_calls items) → r ≡ ruled_items items
-unfolding ruled_items
-behind_parts items e a h k =
-    k ∙ ap (λ (c : Bool). else_checked (ringed c) (ruled_calls items)) h ∙ rw (sym e ∙ a) refl
-
-by_rules : (a b c d f g : Bool) (x : Sheet) →
-    checked_of (pick a (Judge.refused WrongPart) (pick b (Judge.refused Taken) (pick c (Judge.refused UnfitArgument)
-    (pick d (Judge.refused Ring)
-    (pick f (Judge.refused TwoWaysOut) (pick g (Judge.refused BareCallback) (Judge.accepted x))))))) ≡
+by_rules : (a b c d : Bool) (x : Sheet) →
+    checked_of (pick a (Judge.refused WrongPart) (pick b (Judge.refused Taken)
+    (pick c (Judge.refused UnfitArgument) (pick d (Judge.refused Ring) (Judge.accepted x))))) ≡
     else_checked (pick a (Refused WrongPart) (pick b (Refused Taken) (pick c (Refused UnfitArgument) Accepted)))
-    (else_checked (pick d (Refused Ring) Accepted) (pick f (Refused TwoWaysOut) (pick g (Refused BareCallback) Accepted)))
-by_rules true b c d f g x = refl
-by_rules false true c d f g x = refl
-by_rules false false true d f g x = refl
-by_rules false false false true f g x = refl
-by_rules false false false false true g x = refl
-by_rules false false false false false true x = refl
-by_rules false false false false false false x = refl
+    (pick d (Refused Ring) Accepted)
+by_rules true b c d x = refl
+by_rules false true c d x = refl
+by_rules false false true d x = refl
+by_rules false false false true x = refl
+by_rules false false false false x = refl
 
 pub check_decoded : (s : List ℕ) {x : Sheet} {m : ℕ} → decode s ≡ got x m → check s ≡ ruled_items x.items
-unfolding check Judge.judge ruled ruled_items ruled_parts ruled_calls
+unfolding check Judge.judge ruled ruled_items ruled_parts
 check_decoded s {x} h =
-    rw h (by_rules (wrong_part x.items) (taken x.items) (unfit_argument x.items) (ring x.items)
-    (two_ways_out x.items) (bare_callback x.items) x)
+    rw h (by_rules (wrong_part x.items) (taken x.items) (unfit_argument x.items) (ring x.items) x)
 
 -- a decoded sheet's items are those that its tables give
 module _ (s : List ℕ) {o : Outline} {names items digests marks : List ℕ}

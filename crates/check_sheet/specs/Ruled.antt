@@ -1,11 +1,11 @@
--- Rules 9 to 12, 14 and 15 on the items of a decoded sheet: "lowest number".
+-- Rules 9 to 12 on the items of a decoded sheet: "lowest number".
 use Rattle.std.specs.Prelude.{List, Bool}
-use Rattle.refusal.specs.declared.Refusal.TheVariants.{WrongPart, Taken, UnfitArgument, Ring, TwoWaysOut, BareCallback}
+use Rattle.refusal.specs.declared.Refusal.TheVariants.{WrongPart, Taken, UnfitArgument, Ring}
 use Rattle.format.specs.Decode.{pick}
 use Rattle.format.specs.Sheet.{Item}
 use Rattle.rules.specs.declared.Checked.{Checked}
 use Rattle.rules.specs.declared.Checked.TheVariants.{Accepted, Refused}
-use Rattle.rules.specs.Rules.{wrong_part, taken, unfit_argument, ring, two_ways_out, bare_callback}
+use Rattle.rules.specs.Rules.{wrong_part, taken, unfit_argument, ring}
 
 -- rules 9 to 11
 unfoldable pub ruled_parts : List Item → Checked
@@ -18,10 +18,8 @@ ruled_parts items =
 abbrev pub ringed : Bool → Checked
 ringed b = pick b (Refused Ring) Accepted
 
--- rules 14 and 15
-unfoldable pub ruled_calls : List Item → Checked
-ruled_calls items =
-    pick (two_ways_out items) (Refused TwoWaysOut) (pick (bare_callback items) (Refused BareCallback) Accepted)
+abbrev pub ruled_ring : List Item → Checked
+ruled_ring items = ringed (ring items)
 
 -- a refusal, else the next answer
 abbrev pub else_checked : Checked → Checked → Checked
@@ -29,4 +27,4 @@ else_checked (Refused e) next = Refused e
 else_checked Accepted next = next
 
 unfoldable pub ruled_items : List Item → Checked
-ruled_items items = else_checked (ruled_parts items) (else_checked (ringed (ring items)) (ruled_calls items))
+ruled_items items = else_checked (ruled_parts items) (ruled_ring items)

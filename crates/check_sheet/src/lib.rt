@@ -6,12 +6,12 @@ ghost use Rattle.decode.specs.Tables.{Tables, Answers};
 ghost use Rattle.marks.specs.Marking.{places};
 ghost use Rattle.judge.specs.Marked.{Marked};
 ghost use Rattle.rules.specs.Judge.{check as checkOf};
-ghost use Rattle.view.specs.Values.{items_at, Whole, Ready};
-ghost use Rattle.check_sheet.specs.Ruled.{ruled_parts, ringed, ruled_calls, else_checked, ruled_items};
+ghost use Rattle.view.specs.Values.{items_at, Ready};
+ghost use Rattle.check_sheet.specs.Ruled.{ruled_parts, ringed, ruled_items};
 
 use decode::{Decoded, decode};
 use format::Outline;
-use judge::{bare_callback, two_ways_out, unfit_argument, wrong_part};
+use judge::{unfit_argument, wrong_part};
 use marks::Mark;
 use order::{ring, ring_in};
 use refusal::Refusal;
@@ -46,41 +46,17 @@ pub fn judge_parts(
     Checked::Accepted
 }
 
-// Rules 14 and 15, the lowest number first.
-pub fn judge_calls(s: &[u8], names: &[u32], items: &[u32], marks: &[u8; Mark::PLACES]) -> Checked
-    requires { Whole s.now names.now items.now × Marked s.now names.now items.now marks.now }
-    ensures { result ≡ ruled_calls (items_at s.now names.now items.now) }
-{
-    let both = two_ways_out(s, names, items, marks);
-    let bare = bare_callback(s, names, items, marks);
-    if both {
-        return Checked::Refused(Refusal::TwoWaysOut);
-    }
-    if bare {
-        return Checked::Refused(Refusal::BareCallback);
-    }
-    Checked::Accepted
-}
-
-// Rule 12, where it is known whether there is a ring; then 14 and 15.
-fn judge_ring(
-    s: &[u8],
-    names: &[u32],
-    items: &[u32],
-    marks: &[u8; Mark::PLACES],
-    ring: bool,
-) -> Checked
-    requires { Whole s.now names.now items.now × Marked s.now names.now items.now marks.now }
-    ensures { result ≡ else_checked (ringed ring)
-        (ruled_calls (items_at s.now names.now items.now)) }
+// Rule 12, where it is known whether there is a ring.
+fn judge_ring(ring: bool) -> Checked
+    ensures { result ≡ ringed ring }
 {
     if ring {
         return Checked::Refused(Refusal::Ring);
     }
-    judge_calls(s, names, items, marks)
+    Checked::Accepted
 }
 
-// Rules 9 to 12, 14 and 15, the lowest number first.
+// Rules 9 to 12, the lowest number first.
 pub fn judge(
     s: &[u8],
     names: &[u32],
@@ -97,7 +73,7 @@ pub fn judge(
         Checked::Refused(e) => Checked::Refused(e),
         Checked::Accepted => {
             let found = ring(s, names, items);
-            judge_ring(s, names, items, marks, found)
+            judge_ring(found)
         }
     }
 }
@@ -120,7 +96,7 @@ pub fn judge_in(
         Checked::Refused(e) => Checked::Refused(e),
         Checked::Accepted => {
             let found = ring_in(s, names, items, held);
-            judge_ring(s, names, items, marks, found)
+            judge_ring(found)
         }
     }
 }

@@ -1,7 +1,7 @@
 -- The names of a decoded sheet's items keep the name rule.
-use mathlib.Core.Path.{◌≡◌, refl, ap, ◌∙◌}
+use mathlib.Core.Path.{◌≡◌, refl, sym, ap, ◌∙◌}
 use mathlib.Core.List.{List, [], ◌∷◌}
-use mathlib.Core.Bool.{true}
+use mathlib.Core.Bool.{true, false, false≢true}
 use Prim.Native.Nat.{ℕ, zero, suc, ◌<◌}
 use lib.Dec.{eqb}
 use lib.ListN.{length, get_or}
@@ -11,17 +11,33 @@ use Rattle.lexical.specs.Names.{is_name}
 use Rattle.lexical.proofs.BoolLaws.{by_cases}
 use Rattle.format.specs.Decode.{got, many}
 use Rattle.format.specs.Bits.{bits, index}
-use Rattle.format.specs.Sheet.{Name, Form, Function, function, Item}
-use Rattle.format.specs.Decoding.{name_by, name, name_of, form_of, form, part_of}
+use Rattle.format.specs.Sheet.{Name, Form, Function, Body, struct, enum, cxx_type, rust_type, function, Item}
+use Rattle.format.specs.Decoding.{name_by, name, name_of, form_of, form, part_of, item_body}
+use Rattle.format.specs.declared.ItemKind.{ItemKind}
+use Rattle.format.specs.declared.ItemKind.TheVariants.{Struct, Enum, CxxType, RustType, RustFunction, Bad}
 use Rattle.syntax.specs.Items.{item_at, is_function}
 use Rattle.cursor.proofs.WidthLaws.{index_lt}
 use Rattle.view.specs.Values.{name_at, names_at, items_at, function_in, Whole, item_no}
-use Rattle.view.specs.Views.{is_function_kind}
+use Rattle.view.specs.Views.{kind_of_body, is_function_kind}
 use Rattle.cursor.proofs.YieldLaws.{in_turn, passed, test_passed, got_value}
-use Rattle.view.proofs.PartLaws.{lang_of_kind, kind_is, ItemParts, item_parts, FunctionParts, function_parts, body_kind}
-use Rattle.view.proofs.FunctionLaws.{function_body_lem}
+use Rattle.view.proofs.PartLaws.{ItemParts, item_parts, FunctionParts, function_parts, body_kind}
 use Rattle.names.proofs.NameLaws.{indexed}
 use Rattle.clash.specs.Clashes.{owner_names}
+
+pub function_kind : (k : ItemKind) → is_function_kind k ≡ true → k ≡ RustFunction
+function_kind RustFunction h = refl
+function_kind Struct h = absurd (false≢true h)
+function_kind Enum h = absurd (false≢true h)
+function_kind CxxType h = absurd (false≢true h)
+function_kind RustType h = absurd (false≢true h)
+function_kind Bad h = absurd (false≢true h)
+
+pub kind_is : (b : Body) → is_function_kind (kind_of_body b) ≡ is_function b
+kind_is (struct p ts) = refl
+kind_is (enum p a c) = refl
+kind_is (cxx_type p) = refl
+kind_is (rust_type p) = refl
+kind_is (function f) = refl
 
 -- the item's names are names
 pub record Proper (items : List Item) (x : Item) : Type 0 where
@@ -81,13 +97,14 @@ module _ {s names items : List ℕ} (whole : Whole s names items) where
 
   module _ (i : ℕ) (l : i < length items) (f : is_function (item_at all i).body ≡ true) where
     function_parts_of : (g : Function) × ((item_at all i).body ≡ function g) ×
-        FunctionParts table (length items) s (lang_of_kind (part_of (parts i l).number)) (parts i l).body_at g
+        FunctionParts table (length items) s (parts i l).body_at g
     function_parts_of =
         let p = parts i l in
         let k = body_kind table (length items) s p.body_at (part_of p.number) p.body in
-        function_parts table (length items) s (lang_of_kind (part_of p.number)) p.body_at
-        (function_body_lem (part_of p.number) table (length items) s p.body_at
-        (ap is_function_kind k ∙ kind_is (item_at all i).body ∙ f) ∙ p.body)
+        let z : part_of p.number ≡ RustFunction =
+        function_kind (part_of p.number) (ap is_function_kind k ∙ kind_is (item_at all i).body ∙ f) in
+        function_parts table (length items) s p.body_at
+        (ap (λ (j : ItemKind). item_body j table (length items) s p.body_at) (sym z) ∙ p.body)
 
     rust_ok : is_name (function_in (item_at all i).body).rust ≡ true
     rust_ok = let q = function_parts_of in rw q.1 (index_ok (parts i l).body_at q.2.rust)

@@ -23,8 +23,7 @@ use Rattle.view.proofs.FunctionLaws.{function_there}
 use Rattle.view.specs.Views.{is_function_kind, ItemAt, FunctionAt}
 use Rattle.clash.specs.Clashes.{same_names, owner_names, item_symbol, clashes, own_name, Keyed}
 use Rattle.clash.proofs.NameLaws.{names_turn, names_differ, names_end, names_unlike}
-use Rattle.view.proofs.PartLaws.{kind_is}
-use Rattle.clash.proofs.ItemLaws.{Proper, proper}
+use Rattle.clash.proofs.ItemLaws.{function_kind, kind_is, Proper, proper}
 use Rattle.clash.proofs.SameLaws.{full_name_same, symbol_same, keys_differ}
 
 and_nothing : (b : Bool) → (b && true) ≡ b
@@ -49,7 +48,7 @@ module _ {s names items : List ℕ} {v : ItemView} {i : ℕ} (a : ItemAt s names
       (r.value < length names) × (name_at s (get_or names r.value 0) ≡ own_name (item_no s names items i))
   unfolding own_name function_at
   own_function {w} {r} h z f =
-      let t = function_there a h in
+      let t = function_there a (function_kind v.kind h) in
       let q = name_read s names v.body.at t.1.rust (rw z at f) in
       (q.there, rw (callable h) (rw (← e) q.name))
 

@@ -1,8 +1,8 @@
 // The comment lines of a sheet: the line rule, and lines that are checked.
-#![tactic(auto)]
-ghost use Rattle.std.specs.Prelude.{◌≡◌, ◌+◌, ◌*◌, ◌≤◌, length};
+ghost use Rattle.std.specs.Prelude.{◌≡◌, List, ℕ, ◌+◌, ◌*◌, ◌≤◌, length};
 ghost use Rattle.lexical.specs.Bytes.{within, every};
 ghost use Rattle.format.specs.Decode.{many};
+ghost use Rattle.format.specs.Sheet.{Body};
 ghost use Rattle.format.specs.Decoding.{line_ok, line};
 ghost use Rattle.cursor.specs.Checking.{Limited, Checks};
 ghost use Rattle.text.specs.Text.{chars_at};
@@ -126,7 +126,7 @@ fn check_lines(s: &[u8], c: Cursor, n: u32) -> Step
 // Past a comment's count and lines.
 pub fn check_comment(s: &[u8], c: Cursor) -> Step
     requires { Limited s.now }
-    ensures { Checks (comment s.now c.at) result }
+    ensures { (make : List (List ℕ) → Body) → Checks (comment make s.now c.at) result }
 {
     let f = read(s, c, 5);
     match f {

@@ -5,7 +5,7 @@ use Rattle.format.specs.Types.{Ty, Ret}
 use Rattle.format.specs.Sheet.{Function, Item}
 use Rattle.syntax.specs.Items.{item_at}
 use Rattle.syntax.specs.Mangle.{extern_fn}
-use Rattle.bridge.specs.Write.{commas, indirect_return, shape, direct_return, extern_return_by, extern_return}
+use Rattle.bridge.specs.Write.{commas, indirect_return, shape, direct_return, direct_return_of, extern_return}
 use Rattle.bridge.specs.Write.{extern_parameters, function_decl}
 use Rattle.sink.specs.Sink.{Sink, Wrote}
 use Rattle.sink.proofs.SinkLaws.{◌▷◌, wrote_as}
@@ -35,7 +35,21 @@ module _ (s names items : List ℕ) (at : ℕ) where
 
 -- ---- the return type
 
-module _ {s names items : List ℕ} {f : FunctionView} (a : FunctionAt s names items f) (b : Bool) where
+throwing : (items : List Item) (f : Function) → f.throws ≡ true → extern_return items f ≡ bytes "::rust::repr::PtrLen "
+unfolding extern_return
+throwing items f e = rw e
+
+indirect : (items : List Item) (f : Function) → f.throws ≡ false → indirect_return items f f.return ≡ true →
+    extern_return items f ≡ bytes "void "
+unfolding extern_return
+indirect items f e h = rw (h, e)
+
+direct : (items : List Item) (f : Function) → f.throws ≡ false → indirect_return items f f.return ≡ false →
+    extern_return items f ≡ direct_return_of items f.return
+unfolding extern_return
+direct items f e h = rw (h, e)
+
+module _ {s names items : List ℕ} {f : FunctionView} (a : FunctionAt s names items f) where
   abbrev this : Function
   this = function_at s names items f.number
 
@@ -45,31 +59,31 @@ module _ {s names items : List ℕ} {f : FunctionView} (a : FunctionAt s names i
   abbrev result : Ty
   result = type_here (length items) s f.result.at
 
-  pub return_throws : f.throws ≡ true → bytes "::rust::repr::PtrLen " ≡ extern_return_by all this b
-  return_throws e = rw (← a.view.throws, e)
+  pub return_throws : f.throws ≡ true → bytes "::rust::repr::PtrLen " ≡ extern_return all this
+  return_throws e = sym (throwing all this (sym a.view.throws ∙ e))
 
-  module _ (e : f.throws ≡ false) where
-    pub return_indirect : b ≡ true → bytes "void " ≡ extern_return_by all this b
-    return_indirect q = rw (← a.view.throws, e, q)
+  module _ (e : f.throws ≡ false) {b : Bool} (h : b ≡ indirect_return all this this.return) where
+    pub return_indirect : b ≡ true → bytes "void " ≡ extern_return all this
+    return_indirect q = sym (indirect all this (sym a.view.throws ∙ e) (sym h ∙ q))
 
-    pub return_direct : b ≡ false → f.returns ≡ true →
-        direct_return all result (shape result) ≡ extern_return_by all this b
-    return_direct q z = rw (← a.view.throws, e, q, (returned a z).0)
+    directly : b ≡ false → extern_return all this ≡ direct_return_of all this.return
+    directly q = direct all this (sym a.view.throws ∙ e) (sym h ∙ q)
 
-    pub return_none : b ≡ false → f.returns ≡ false → bytes "void " ≡ extern_return_by all this b
-    return_none q z = rw (← a.view.throws, e, q, returned_none a z)
+    pub return_direct : b ≡ false → f.returns ≡ true → direct_return all result (shape result) ≡ extern_return all this
+    return_direct q z = sym (directly q ∙ ap (λ (y : Ret). direct_return_of all y) (returned a z).0)
+
+    pub return_none : b ≡ false → f.returns ≡ false → bytes "void " ≡ extern_return all this
+    return_none q z = sym (directly q ∙ ap (λ (y : Ret). direct_return_of all y) (returned_none a z))
 
 -- ---- the declaration
 
 module _ (s names items : List ℕ) {i k : ℕ} (e : k ≡ i) where
-  pub declared : {b : Bool} {r t u v w z : Sink} →
-      b ≡ indirect_return (items_at s names items) (function_at s names items k) (function_at s names items k).return →
-      Wrote r (extern_return_by (items_at s names items) (function_at s names items k) b) t →
+  pub declared : {r t u v w z : Sink} → Wrote r (extern_return (items_at s names items) (function_at s names items k)) t →
       Wrote t (extern_fn (items_at s names items) (item_at (items_at s names items) i).namespace
       (function_at s names items k)) u →
       Wrote u (bytes "(") v →
       Wrote v (commas false (extern_parameters (items_at s names items) (function_at s names items k))) w →
       Wrote w (bytes ") noexcept;\n") z →
       Wrote r (function_decl (items_at s names items) (item_at (items_at s names items) i) (function_at s names items i)) z
-  unfolding function_decl extern_return
-  declared q a b c d h = wrote_as (a ▷ b ▷ c ▷ d ▷ h) (rw (q, e))
+  unfolding function_decl
+  declared a b c d h = wrote_as (a ▷ b ▷ c ▷ d ▷ h) (rw e)

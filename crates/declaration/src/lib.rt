@@ -1,7 +1,7 @@
 // `write_rust_function_decl_impl` of bridge/write.rs, and the layout functions of an opaque type.
 ghost use Rattle.std.specs.Prelude.{◌≡◌};
 ghost use Rattle.syntax.specs.Items.{item_at};
-ghost use Rattle.bridge.specs.Write.{shape as shape_of, direct_return, extern_return_by};
+ghost use Rattle.bridge.specs.Write.{indirect_return, shape as shape_of, direct_return, extern_return};
 ghost use Rattle.bridge.specs.Write.{function_decl, layout_decl, layout_definition};
 ghost use Rattle.sink.specs.Sink.{sink, Wrote};
 ghost use Rattle.summary.specs.Summaries.{Summary};
@@ -46,7 +46,7 @@ fn write_direct_return(
 }
 
 // `write_extern_return_type_space`
-pub fn write_extern_return(
+fn write_extern_return(
     s: &[u8],
     t: &[u32; Table::PLACES],
     pool: &[u8; Pool::BYTES],
@@ -55,10 +55,13 @@ pub fn write_extern_return(
     out: &mut [u8],
     at: usize,
 ) -> usize
-    requires { Lent s.now t.now pool.now × Function s.now t.now f }
+    requires { Lent s.now t.now pool.now × Function s.now t.now f ×
+        (indirect ≡ indirect_return (items_of s.now t.now)
+        (function_of s.now t.now f.number)
+        (function_of s.now t.now f.number).return) }
     ensures { Wrote (sink out.old at)
-        (extern_return_by (items_of s.now t.now)
-        (function_of s.now t.now f.number) indirect)
+        (extern_return (items_of s.now t.now)
+        (function_of s.now t.now f.number))
         (sink out.new result) }
 {
     if f.throws {

@@ -9,12 +9,12 @@ use lib.ListN.{length}
 use Rattle.lexical.specs.Bytes.{within}
 use Rattle.lexical.specs.Names.{table_of, sheet_name}
 use Rattle.refusal.specs.declared.Refusal.{Refusal}
-use Rattle.refusal.specs.declared.Refusal.TheVariants.{CutSheet, Edition, WrongPart, Taken, UnfitArgument, Ring, TwoWaysOut, BareCallback}
+use Rattle.refusal.specs.declared.Refusal.TheVariants.{CutSheet, Edition, WrongPart, Taken, UnfitArgument, Ring}
 use Rattle.format.specs.Limits.{last_edition, most_bytes}
 use Rattle.format.specs.Decode.{Got, fault, got, pick}
 use Rattle.format.specs.Sheet.{Sheet}
 use Rattle.format.specs.Decoding.{edition_of, decode}
-use Rattle.rules.specs.Rules.{wrong_part, taken, unfit_argument, ring, two_ways_out, bare_callback}
+use Rattle.rules.specs.Rules.{wrong_part, taken, unfit_argument, ring}
 use Rattle.rules.specs.Judge.{Judged, refused, accepted, ruled, judged, judge}
 use Rattle.decoded.specs.Fits.{sheet_fits}
 use Rattle.decoded.specs.Names.{names_keep}
@@ -32,8 +32,6 @@ pub record Accepted (s : List ℕ) (x : Sheet) : Type 0 where
   pub not_taken : taken x.items ≡ false
   pub fit_arguments : unfit_argument x.items ≡ false
   pub no_ring : ring x.items ≡ false
-  pub one_way_out : two_ways_out x.items ≡ false
-  pub no_callback : bare_callback x.items ≡ false
 
 pick_accepted : {x : Sheet} (b : Bool) (e : Refusal) (j : Judged) → pick b (refused e) j ≡ accepted x →
     (b ≡ false) × (j ≡ accepted x)
@@ -45,8 +43,6 @@ record Ruled (x y : Sheet) : Type 0 where
   not_taken : taken x.items ≡ false
   fit_arguments : unfit_argument x.items ≡ false
   no_ring : ring x.items ≡ false
-  one_way_out : two_ways_out x.items ≡ false
-  no_callback : bare_callback x.items ≡ false
   value : x ≡ y
 
 ruled_accepted : (x y : Sheet) → ruled x ≡ accepted y → Ruled x y
@@ -56,17 +52,7 @@ ruled_accepted x y q =
     let b = pick_accepted (taken x.items) Taken _ a.1 in
     let c = pick_accepted (unfit_argument x.items) UnfitArgument _ b.1 in
     let d = pick_accepted (ring x.items) Ring _ c.1 in
-    let f = pick_accepted (two_ways_out x.items) TwoWaysOut _ d.1 in
-    let g = pick_accepted (bare_callback x.items) BareCallback _ f.1 in
-    record {
-      right_parts = a.0;
-      not_taken = b.0;
-      fit_arguments = c.0;
-      no_ring = d.0;
-      one_way_out = f.0;
-      no_callback = g.0;
-      value = (let e = g.1 in cc);
-    }
+    record { right_parts = a.0; not_taken = b.0; fit_arguments = c.0; no_ring = d.0; value = (let e = d.1 in cc) }
 
 pub judge_accepted : (s : List ℕ) (x : Sheet) → judge s ≡ accepted x → Accepted s x
 unfolding judge
@@ -87,8 +73,6 @@ judge_accepted s x q = go (decode s) refl q
           not_taken = rw r.value at r.not_taken;
           fit_arguments = rw r.value at r.fit_arguments;
           no_ring = rw r.value at r.no_ring;
-          one_way_out = rw r.value at r.one_way_out;
-          no_callback = rw r.value at r.no_callback;
         }
 
 -- ---- editions

@@ -23,9 +23,9 @@ use Rattle.format.specs.Limits.{last_edition, most_bytes}
 use Rattle.format.specs.Decode.{Got, fault, got, Dec, pick, after, pure}
 use Rattle.format.specs.Bits.{bits}
 use Rattle.format.specs.Types.{Ty, atom, named, template, pointer, str, fn, array, Ret, none, gives, Tys, tys}
-use Rattle.format.specs.Sheet.{Name, Argument, Lang, rust, Body, Item, Sheet}
+use Rattle.format.specs.Sheet.{Name, Argument, Body, Item, Sheet}
 use Rattle.format.specs.Decoding.{name_by, name_of, kind_of, optional, type_body, type_at, type, line_ok, line, argument}
-use Rattle.format.specs.Decoding.{form_of, form, function_body, cxx_lang, struct_body, enum_body, part_of, item_body, is_bad, namespace}
+use Rattle.format.specs.Decoding.{form_of, form, function_body, struct_body, enum_body, part_of, item_body, is_bad, namespace}
 use Rattle.format.specs.Decoding.{item, tail, item_table, name_table, behind_edition, edition, edition_of, sheet, decode}
 use Rattle.rules.specs.Rules.{gather}
 use Rattle.decoded.specs.Fits.{depth, depth_ret, depth_tys, count, parts_fit, parts_fit_ret, parts_fit_tys, type_fits}
@@ -240,32 +240,27 @@ module _ (rule : Name → Bool) (items : ℕ) where
         then_extends (name_of_passes rule names named)
         (λ n h. then_extends (type_passes items) (λ t g. pure_extends (rw (base n h, g, h))))
 
-    function_passes : {any : Lang → Type 0} (lang : Dec Lang) → Extends any lang lang →
-        Passes body_keeps (function_body lang names items)
+    function_passes : Passes body_keeps (function_body names items)
     unfolding every function_body function_fits body_fits gather body_names
-    function_passes lang spoken =
+    function_passes =
         then_extends (name_of_passes rule names named) (λ n h. then_extends (form_passes items)
         (λ f g. then_extends any_bit (λ t u. then_extends (return_passes items)
         (λ r k. then_extends (bits_extends 5) (λ a l. then_extends (many_extends argument_keeps a argument_passes)
         (λ xs q. then_extends (bits_extends 5) (λ c m. then_extends (many_extends comment_fits c line_passes)
-        (λ ls p. then_extends spoken
-        (λ j o. let few = at_most {limit = 31} q.0 (omega arith) in
+        (λ ls p. let few = at_most {limit = 31} q.0 (omega arith) in
         let few_lines = at_most {limit = 31} p.0 (omega arith) in
         let fitting = every_weaken argument_keeps (argument_fits items) (λ a e. (both (argument_fits items a) _ e).0) xs q.1 in
         let ruled = every_map argument_keeps rule (λ a. a.name) (λ a e. (both (argument_fits items a) _ e).1) xs q.1 in
         pure_extends (rw (base n h, g, k, few, fitting, few_lines, p.1, h)
-        (every_append rule (map (λ a. a.name) xs) [] ruled refl)))))))))))
+        (every_append rule (map (λ a. a.name) xs) [] ruled refl))))))))))
 
     body_passes : (k : ItemKind) → Passes body_keeps (item_body k names items)
-    unfolding every body_fits gather body_names cxx_lang
+    unfolding every body_fits gather body_names
     body_passes Part.Struct = struct_passes
     body_passes Part.Enum = enum_passes
     body_passes Part.CxxType = then_extends any_bit (λ p u. pure_extends refl)
     body_passes Part.RustType = then_extends any_bit (λ p u. pure_extends refl)
-    body_passes Part.RustFunction = function_passes (pure rust) (pure_extends {P = λ l. Unit {0}} tt)
-    body_passes Part.CxxFunction =
-        function_passes cxx_lang
-        (then_extends any_bit (λ u p. then_extends any_bit (λ e q. pure_extends {P = λ l. Unit {0}} tt)))
+    body_passes Part.RustFunction = function_passes
     body_passes Part.Bad = refuse_extends
 
     namespace_passes : Passes (λ ns. leb (length ns) 7 && every rule ns) (namespace names)

@@ -1,3 +1,1 @@
 // What holds of every accepted sheet's value. Definitions and theorems alone: see specs/ and proofs/.
-
-#![tactic(auto)]

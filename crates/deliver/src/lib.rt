@@ -1,6 +1,6 @@
 // The text into the lent buffer: once where it is short, else measured first; or 13.
 ghost use Rattle.std.specs.Prelude.{◌≡◌};
-ghost use Rattle.bridge.specs.Text.{text};
+ghost use Rattle.bridge.specs.Write.{text};
 ghost use Rattle.names.specs.Digests.{digests_at};
 ghost use Rattle.tables.specs.Tables.{names_in, items_of, Lent};
 ghost use Rattle.summary.specs.Summaries.{Summaries};

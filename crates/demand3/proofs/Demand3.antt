@@ -4,24 +4,22 @@ use mathlib.Core.List.{List}
 use mathlib.Core.Bool.{true, false}
 use Prim.Native.Nat.{ℕ}
 use lib.ListN.{length}
+use Rattle.lexical.specs.Bytes.{every}
 use Rattle.lexical.proofs.ByteLaws.{Each, each_of, every_of}
-use Rattle.format.specs.Sheet.{Lang, rust, cxx, Function, Body, struct, enum, cxx_type, rust_type, function, Item, Sheet}
+use Rattle.format.specs.Sheet.{Body, struct, enum, cxx_type, rust_type, function, Item, Sheet}
 use Rattle.rules.specs.Judge.{accepted, judge}
 use Rattle.decoded.proofs.Accepted.{judge_accepted}
-use Rattle.decoded.proofs.Kept.{ItemKept, FunctionKept, accepted_kept}
+use Rattle.decoded.proofs.Kept.{ItemKept, accepted_kept}
 use Rattle.grammar.specs.Tree.{size, align}
-use Rattle.agreement.specs.Demand3.{Demand3}
+use Rattle.agreement.specs.Agreement.{Demand3}
 use Rattle.spelling.specs.DeclarationTree.{declaration_of, layout_declaration_of, layout_definition_of}
 use Rattle.spelling.specs.ShimTree.{shim_tree}
-use Rattle.spelling.specs.CxxTree.{cxx_shim_tree}
 use Rattle.spelling.proofs.Pieces.{declaration_laid, declaration_keeps, layout_declaration_laid, layout_declaration_keeps}
 use Rattle.spelling.proofs.Pieces.{layout_definition_laid, layout_definition_keeps, shim_laid, shim_keeps}
-use Rattle.spelling.proofs.Pieces.{cxx_shim_laid, cxx_shim_keeps}
 use Rattle.spelling.proofs.Matching.{function_matches}
-use Rattle.spelling.proofs.CxxMatching.{cxx_shim_matches}
 use Rattle.pieces.proofs.ForwardTree.{item_named}
-use Rattle.pieces.proofs.SheetEntries.{Trees, SpelledBy, Spelled, RulesKeptBy, RulesKept}
-use Rattle.pieces.proofs.SheetAgreement.{MatchedBy, Matched, TreesFit, demand_3}
+use Rattle.pieces.proofs.SheetEntries.{Trees, Spelled, RulesKept}
+use Rattle.pieces.proofs.SheetAgreement.{Matched, TreesFit, demand_3}
 
 -- the trees of a sheet's items
 abbrev pub trees_of : Sheet → Trees
@@ -31,7 +29,6 @@ trees_of s =
       function_declared = declaration_of s.items;
       layout_defined = layout_definition_of;
       function_defined = shim_tree s;
-      cxx_defined = cxx_shim_tree s.items;
     }
 
 named : {items : List Item} (x : Item) → ItemKept items x → item_named x ≡ true
@@ -40,20 +37,6 @@ named x k = rw (k.shallow, k.namespace_names, k.cxx_name, k.unreserved)
 
 module _ (s : Sheet) (no_header : s.header ≡ false) (kept : Each (ItemKept s.items) s.items) where
   module _ (x : Item) (k : ItemKept s.items x) where
-    module _ (f : Function) (g : FunctionKept s.items f) where
-      spelled_by : (l : Lang) → SpelledBy (trees_of s) s x f l
-      spelled_by rust =
-          (record { laid = declaration_laid s kept x k f g }, record { laid = shim_laid s kept x k f g no_header })
-      spelled_by (cxx unwind elided) = record { laid = cxx_shim_laid s kept x k f g unwind elided }
-
-      rules_kept_by : (l : Lang) → RulesKeptBy (trees_of s) x f l
-      rules_kept_by rust = (declaration_keeps s kept x k f g (length x.namespace), shim_keeps s kept x k f g)
-      rules_kept_by (cxx unwind elided) = cxx_shim_keeps s kept x k f g unwind elided (length x.namespace)
-
-      matched_by : (l : Lang) → f.lang ≡ l → MatchedBy (trees_of s) s.items x f l
-      matched_by rust e = (g.rust_name, function_matches s x f g)
-      matched_by (cxx unwind elided) e = cxx_shim_matches s.items x f g unwind elided e
-
     spelled : (b : Body) → x.body ≡ b → Spelled (trees_of s) s x b
     spelled (struct p ts) e = tt
     spelled (enum p a c) e = tt
@@ -64,7 +47,9 @@ module _ (s : Sheet) (no_header : s.header ≡ false) (kept : Each (ItemKept s.i
       record { laid = layout_definition_laid s kept x k size },
       record { laid = layout_definition_laid s kept x k align },
     )
-    spelled (function f) e = spelled_by f (k.function f e) f.lang
+    spelled (function f) e =
+        let g = k.function f e in
+        (record { laid = declaration_laid s kept x k f g }, record { laid = shim_laid s kept x k f g no_header })
 
     rules_kept : (b : Body) → x.body ≡ b → RulesKept (trees_of s) x b
     rules_kept (struct p ts) e = tt
@@ -77,14 +62,16 @@ module _ (s : Sheet) (no_header : s.header ≡ false) (kept : Each (ItemKept s.i
           layout_definition_keeps s kept x k size depth,
           layout_definition_keeps s kept x k align depth,
         )
-    rules_kept (function f) e = rules_kept_by f (k.function f e) f.lang
+    rules_kept (function f) e =
+        let g = k.function f e in
+        (declaration_keeps s kept x k f g (length x.namespace), shim_keeps s kept x k f g)
 
     matched : (b : Body) → x.body ≡ b → Matched (trees_of s) s.items x b
     matched (struct p ts) e = tt
     matched (enum p a c) e = tt
     matched (cxx_type p) e = tt
     matched (rust_type p) e = (refl, refl)
-    matched (function f) e = matched_by f (k.function f e) f.lang refl
+    matched (function f) e = let g = k.function f e in (g.rust_name, function_matches s x f g)
 
   pub trees_fit : TreesFit s (trees_of s)
   trees_fit = record {

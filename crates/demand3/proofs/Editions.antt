@@ -6,7 +6,7 @@ use Rattle.format.specs.Sheet.{Sheet}
 use Rattle.rules.specs.Judge.{accepted, judge}
 use Rattle.decoded.specs.Editions.{SameButEdition}
 use Rattle.decoded.proofs.Accepted.{same_value}
-use Rattle.bridge.specs.Text.{text}
+use Rattle.bridge.specs.Write.{text}
 
 -- "The text of a sheet accepted in both is the same"
 pub same_text : (s t : List ℕ) → SameButEdition s t → (x y : Sheet) → judge s ≡ accepted x → judge t ≡ accepted y →

@@ -10,8 +10,7 @@ use Rattle.lexical.specs.Names.{table_of}
 use Rattle.lexical.specs.Names.{double_underscore, underscore_capital, reserved_shape, sheet_name}
 use Rattle.lexical.proofs.ByteLaws.{Each, each_of, every_of, every_snoc}
 use Rattle.lexical.proofs.NameLaws.{sheet_name_free, by_edition}
-use Rattle.format.specs.Sheet.{Name, Lang, rust, cxx, Function, Body, struct, enum, cxx_type, rust_type, function, Item}
-use Rattle.format.specs.Sheet.{Sheet}
+use Rattle.format.specs.Sheet.{Name, Body, struct, enum, cxx_type, rust_type, function, Item, Sheet}
 use Rattle.rules.specs.Judge.{accepted, judge}
 use Rattle.rules.proofs.EveryLaws.{every_gather}
 use Rattle.format.specs.Decoding.{edition_of}
@@ -20,12 +19,12 @@ use Rattle.decoded.proofs.Accepted.{judge_accepted}
 use Rattle.decoded.proofs.Kept.{ItemKept, accepted_kept, KeptUnder, each_kept_under, names_weaken}
 use Rattle.grammar.specs.Tree.{Text, size, align}
 use Rattle.grammar.specs.Reading.{Reading}
-use Rattle.bridge.specs.Text.{text}
+use Rattle.bridge.specs.Write.{text}
 use Rattle.agreement.specs.Names.{names_of, Demand3Under}
-use Rattle.spelling.proofs.TreeNames.{item_named_lem, declaration_names, shim_names, cxx_shim_names_lem}
-use Rattle.spelling.proofs.TreeNames.{layout_declaration_names, layout_definition_names}
+use Rattle.spelling.proofs.TreeNames.{item_named_lem, declaration_names, shim_names, layout_declaration_names}
+use Rattle.spelling.proofs.TreeNames.{layout_definition_names}
 use Rattle.spelling.proofs.Reserved.{ordinary, function_ordinary, layout_ordinary}
-use Rattle.pieces.proofs.SheetNames.{NamesKeptBy, NamesKept, reading_names}
+use Rattle.pieces.proofs.SheetNames.{NamesKept, reading_names}
 use Rattle.demand3.specs.Symbols.{item_symbols, symbols_of}
 use Rattle.demand3.proofs.Demand3.{trees_of, trees_fit, accepted_demand_3}
 
@@ -37,14 +36,6 @@ module _ (rule : Name → Bool) (self : rule (bytes "self") ≡ true) (s : Sheet
   path_kept x k =
       let n = item_named_lem rule x k.names in every_snoc rule x.namespace x.cxx n.namespace n.cxx
 
-  names_kept_by : (x : Item) → KeptUnder rule s.items x → (f : Function) → x.body ≡ function f → (l : Lang) →
-      NamesKeptBy rule (trees_of s) x f l
-  names_kept_by x k f e rust =
-      let g = k.kept.function f e in
-      (declaration_names rule self s all x k.names f e g, shim_names rule self s all x k.names f e g)
-  names_kept_by x k f e (cxx unwind elided) =
-      cxx_shim_names_lem rule self s all x k.names f e (k.kept.function f e) unwind elided
-
   names_kept : (x : Item) → KeptUnder rule s.items x → (b : Body) → x.body ≡ b → NamesKept rule (trees_of s) x b
   names_kept x k (struct p ts) e = tt
   names_kept x k (enum p a c) e = tt
@@ -55,7 +46,9 @@ module _ (rule : Name → Bool) (self : rule (bytes "self") ≡ true) (s : Sheet
     layout_definition_names rule x k.names size,
     layout_definition_names rule x k.names align,
   )
-  names_kept x k (function f) e = names_kept_by x k f e f.lang
+  names_kept x k (function f) e =
+      let g = k.kept.function f e in
+      (declaration_names rule self s all x k.names f e g, shim_names rule self s all x k.names f e g)
 
   -- every name of a reading of the text keeps a rule that the sheet's names and `self` keep
   pub text_names : (tree : Text) → Reading tree (text s) → every rule (names_of tree) ≡ true
@@ -93,7 +86,6 @@ accepted_demand_3_under sheet s e no_header =
         equal = λ a b p q. d.reading.equal a b p.reads q.reads;
       };
       agrees = d.agrees;
-      cxx_agrees = d.cxx_agrees;
     }
 
 -- ---- symbols

@@ -14,7 +14,7 @@ use Rattle.lexical.specs.Names.{table_of, sheet_name}
 use Rattle.refusal.specs.declared.Refusal.{Refusal}
 use Rattle.refusal.specs.declared.Refusal.TheVariants.{CutSheet, Edition, BadName, LooseIndex, BadKind, TooDeep}
 use Rattle.refusal.specs.declared.Refusal.TheVariants.{BadComment, Tail, WrongPart, Taken, UnfitArgument, Ring}
-use Rattle.refusal.specs.declared.Refusal.TheVariants.{Overrun, TwoWaysOut, BareCallback}
+use Rattle.refusal.specs.declared.Refusal.TheVariants.{Overrun}
 use Rattle.refusal.specs.Refusal.{number_of}
 use Rattle.format.specs.Decode.{pick}
 use Rattle.format.specs.Sheet.{Sheet}
@@ -22,11 +22,10 @@ use Rattle.format.specs.Decoding.{edition_of}
 use Rattle.rules.specs.Judge.{Judged, refused, accepted, judge}
 use Rattle.decoded.specs.Editions.{SameButEdition}
 use Rattle.decoded.proofs.Accepted.{older_accepted}
-use Rattle.bridge.specs.Text.{text}
+use Rattle.bridge.specs.Write.{text}
 use Rattle.grammar.specs.Tree.{Text}
 use Rattle.grammar.specs.Reading.{Reading, OneReading}
 use Rattle.agreement.specs.Agreement.{Agrees}
-use Rattle.agreement.specs.CxxAgreement.{CxxAgrees}
 use Rattle.agreement.specs.Names.{names_of}
 use Rattle.services.specs.declared.Written.{Written}
 use Rattle.services.specs.declared.Written.TheVariants as Written
@@ -66,11 +65,10 @@ module _ {sheet buffer after : List ℕ} {n : ℕ} {s : Sheet} (w : Writes sheet
           )
       go false a b = absurd (let z : ◌≡◌ {A = ℕ} 0 1 = cc in omega arith)
 
-  front : s.header ≡ false →
-      (r : OneReading (take n after)) × Agrees s.items r.tree × CxxAgrees s.items r.tree
+  front : s.header ≡ false → (r : OneReading (take n after)) × Agrees s.items r.tree
   front h =
       let d = accepted_demand_3 sheet s e h in
-      rw (written_text w e) (d.reading, d.agrees, d.cxx_agrees)
+      rw (written_text w e) (d.reading, d.agrees)
 
   front_names : s.header ≡ false → (tree : Text) → Reading tree (take n after) →
       every (sheet_name (table_of (edition_of sheet))) (names_of tree) ≡ true
@@ -111,8 +109,6 @@ refusal_negative Taken = (9, refl)
 refusal_negative UnfitArgument = (10, refl)
 refusal_negative Ring = (11, refl)
 refusal_negative Overrun = (12, refl)
-refusal_negative TwoWaysOut = (13, refl)
-refusal_negative BareCallback = (14, refl)
 
 -- a number that is not negative is a length
 length_of_lem : (w : Written) {n : ℕ} → pos n ≡ written_code w → Written.Length n ≡ w

@@ -10,7 +10,7 @@ use Rattle.rules.specs.Judge.{judge, check, checked_number}
 use Rattle.bridge.specs.WriteType.{write_type}
 use Rattle.services.specs.declared.Written.TheVariants.{Length}
 use Rattle.services.specs.Services.{answer_of}
-use Rattle.bridge.specs.Text.{text}
+use Rattle.bridge.specs.Write.{text}
 use Rattle.examples.proofs.Computing.{computes}
 
 -- the number of a check

@@ -12,7 +12,7 @@ use Rattle.examples.proofs.Sheets.{text_of}
 -- ---- a sheet's bytes
 
 -- the bits of a field
-abbrev pub field : ℕ → ℕ → List ℕ
+abbrev field : ℕ → ℕ → List ℕ
 field zero v = []
 field (suc n) v = v / 2 ^ n % 2 ∷ field n v
 
@@ -23,7 +23,7 @@ value_of (suc n) [] = 0
 value_of (suc n) (b ∷ bs) = b * 2 ^ n + value_of n bs
 
 -- so many bytes
-abbrev pub packed : ℕ → List ℕ → List ℕ
+abbrev packed : ℕ → List ℕ → List ℕ
 packed zero bs = []
 packed (suc n) bs = value_of 8 bs ∷ packed n (drop 8 bs)
 

@@ -4,8 +4,5 @@ pub mod Reserved
 pub mod Mill
 pub mod Sheets
 pub mod Editions
-pub mod CxxRefusals
 pub mod MillReading
-pub mod Kernels
-pub mod KernelsReading
 pub mod TreeNames

@@ -4,11 +4,11 @@ use Rattle.lexical.specs.Bytes.{bytes}
 use Rattle.format.specs.declared.Atom.TheVariants.{U32}
 use Rattle.format.specs.declared.Pointer.TheVariants.{Ref}
 use Rattle.format.specs.Types.{atom, named, pointer, gives}
-use Rattle.format.specs.Sheet.{free, Argument, rust, rust_type, function, Item, Sheet}
+use Rattle.format.specs.Sheet.{free, Argument, rust_type, function, Item, Sheet}
 use Rattle.rules.specs.Judge.{accepted, judge}
 use Rattle.decoded.specs.Editions.{SameButEdition}
 use Rattle.decoded.proofs.Extends.{same_but_edition}
-use Rattle.bridge.specs.Text.{text}
+use Rattle.bridge.specs.Write.{text}
 use Rattle.examples.proofs.Computing.{computes}
 
 -- in an edition
@@ -24,7 +24,6 @@ mill_items more =
       namespace = bytes "mill" ∷ [];
       cxx = bytes "count";
       body = function (record {
-        lang = rust;
         rust = bytes "count";
         form = free;
         throws = false;

@@ -8,10 +8,8 @@ use Rattle.format.specs.Sheet.{Item}
 use Rattle.grammar.specs.Tree.{Operand, direct}
 use Rattle.grammar.specs.Reading.{Reading}
 use Rattle.grammar.proofs.Examples.{worked, worked_tree, worked_reads, worked_once, swapped, swapped_tree, swapped_reads}
-use Rattle.bridge.specs.Text.{text}
-use Rattle.agreement.specs.Agreement.{Agrees}
-use Rattle.agreement.specs.CxxAgreement.{CxxAgrees}
-use Rattle.agreement.specs.Demand3.{Demand3}
+use Rattle.bridge.specs.Write.{text}
+use Rattle.agreement.specs.Agreement.{Agrees, Demand3}
 use Rattle.examples.proofs.Computing.{computes}
 use Rattle.examples.proofs.Mill.{mill_items, value}
 
@@ -35,11 +33,6 @@ mill_agrees = (
   tt,
 )
 
--- it has no C++ function
-mill_cxx_agrees : CxxAgrees value.items worked_tree
-unfolding computes
-mill_cxx_agrees = tt
-
 pub mill_demand3 : Demand3 value
 mill_demand3 = record {
   reading = record {
@@ -49,7 +42,6 @@ mill_demand3 = record {
         (subst (λ (s : List ℕ). Reading b s) mill_is_worked q);
   };
   agrees = mill_agrees;
-  cxx_agrees = mill_cxx_agrees;
 }
 
 -- the same function with one more argument

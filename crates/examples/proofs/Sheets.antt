@@ -2,7 +2,7 @@
 use Rattle.std.proofs.Common.{◌≡◌, ℕ, List, [], ◌∷◌, ◌++◌, refl}
 use Rattle.lexical.specs.Bytes.{bytes}
 use Rattle.rules.specs.Judge.{Judged, refused, accepted, judge}
-use Rattle.bridge.specs.Text.{text}
+use Rattle.bridge.specs.Write.{text}
 use Rattle.examples.proofs.Computing.{computes}
 
 -- the text of an accepted sheet

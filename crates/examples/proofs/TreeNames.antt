@@ -11,14 +11,13 @@ use Rattle.grammar.specs.Tree.{Result, void, value, Parameter, named, slot, size
 use Rattle.grammar.specs.Tree.{Operand, receiver, direct, into_raw, release, address, held_address, slot_address, CallForm}
 use Rattle.grammar.specs.Tree.{bare, error, in_from_raw, in_unique_ptr, in_new_unchecked, in_slice, no_return, Item, declares}
 use Rattle.grammar.specs.Tree.{defines, shim, namespace, extern_c, body_end, item, block, struct_line, enum_line, using_line}
-use Rattle.grammar.specs.Tree.{plain_operand, from_raw_operand, unique_ptr_operand, string_operand, vec_operand, moved_operand}
-use Rattle.grammar.specs.Tree.{repr_value, new_statement, cxx_shim, forward_end, line, bare_namespace, Text, text}
+use Rattle.grammar.specs.Tree.{forward_end, line, bare_namespace, Text, text}
 use Rattle.grammar.specs.Rules.{text_ok}
 use Rattle.grammar.proofs.Computing.{computes}
 use Rattle.grammar.proofs.Forms.{forms_tree}
 use Rattle.grammar.proofs.Examples.{worked_tree}
 use Rattle.agreement.specs.Names.{names_of_type, names_of_declaration, names_of_call, names_of_shim, names_of_body}
-use Rattle.agreement.specs.Names.{names_of_pointer, names_of_cxx_call, names_of_cxx_shim, names_of_forward, names_of}
+use Rattle.agreement.specs.Names.{names_of_forward, names_of}
 
 -- in the text's order
 pub worked_names : names_of worked_tree ≡ cut (bytes "mill Job mill mill Job job Job Job count mill Job job job")
@@ -66,35 +65,6 @@ defined result head parameters locals form operands =
 abbrev calls : String → CallForm → Item
 calls name form = defined void (free (bytes name)) [] [] form []
 
-abbrev cxx_defined : Item
-cxx_defined =
-    cxx_shim (record {
-      result = value (type "n62");
-      symbol = bytes "symbol";
-      parameters = argument (type "n63") "n64" ∷ slot (type "n65") ∷ [];
-      noexcept = true;
-      pointer = record {
-        result = value (type "n66");
-        class = cut (bytes "n67 n68");
-        local = bytes "n69";
-        types = type "n70" ∷ type "n71" ∷ [];
-        is_const = false;
-        address = true;
-        path = cut (bytes "n72 n73 n74");
-      };
-      caught = true;
-      statement = new_statement (type "n75");
-      value = repr_value (type "n76");
-      call = record {
-        of_member = true;
-        local = bytes "n77";
-        operands =
-            plain_operand (bytes "n78") ∷ from_raw_operand (type "n79") (bytes "n80")
-            ∷ unique_ptr_operand (type "n81") (bytes "n82") ∷ string_operand (bytes "n83")
-            ∷ vec_operand (type "n84") (bytes "n85") ∷ moved_operand (bytes "n86") ∷ [];
-      };
-    })
-
 abbrev pub names_tree : Text
 names_tree =
     text
@@ -133,7 +103,7 @@ names_tree =
     (item (calls "n56" (in_unique_ptr (type "n57")))
     (item (calls "n58" (in_new_unchecked (type "n59")))
     (item (calls "n60" (in_slice (type "n61")))
-    (block extern_c (item cxx_defined body_end) body_end))))))
+    body_end)))))
 
 pub names_tree_ok : text_ok names_tree ≡ true
 unfolding computes
@@ -142,7 +112,6 @@ names_tree_ok = refl
 pub distinct_names : names_of names_tree ≡
     cut (bytes "n0 n1 n2 n3 n4 n5 n6 n7 n8 n9 n10 n11 n12 n13 n14 n15 n16 n17 n18 n19 n20 n21 n22 n23 n24 " ++
     bytes "n25 n26 n27 n28 n29 n30 n31 n32 n33 n34 n35 n36 n37 n38 n39 n40 n41 n42 n43 n44 n45 n46 n47 n48 n49 " ++
-    bytes "n50 n51 n52 n53 n54 n55 n56 n57 n58 n59 n60 n61 n62 n63 n64 n65 n66 n67 n68 n69 n70 n71 n72 n73 n74 " ++
-    bytes "n75 n76 n77 n78 n79 n80 n81 n82 n83 n84 n85 n86")
-unfolding gather names_of_type names_of_declaration names_of_call names_of_shim names_of_pointer names_of_cxx_call names_of_cxx_shim names_of_body names_of_forward names_of
+    bytes "n50 n51 n52 n53 n54 n55 n56 n57 n58 n59 n60 n61")
+unfolding gather names_of_type names_of_declaration names_of_call names_of_shim names_of_body names_of_forward names_of
 distinct_names = refl

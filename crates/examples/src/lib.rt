@@ -1,3 +1,1 @@
 // Worked examples of the definitions: see proofs/.
-
-#![tactic(auto)]

@@ -29,8 +29,8 @@ pub negated_read : (n : ℕ) → n < 2 ^ 63 → {k : ℕ} → n ≡ k → to_z w
 negated_read n h e = to_z-of_z (negated_fits n h) ∙ negated n h ∙ ap (λ (m : ℕ). neg_ℤ (pos m)) e
 
 -- a call's number, as it is handed on
-pub handed_on_lem : {z y : ℤ} → SFits w64 z → z ≡ y → to_z w64 (of_z w64 z) ≡ y
-handed_on_lem k e = to_z-of_z k ∙ e
+pub handed_on : {z y : ℤ} → SFits w64 z → z ≡ y → to_z w64 (of_z w64 z) ≡ y
+handed_on k e = to_z-of_z k ∙ e
 
 -- ---- the answer of a service that writes bytes
 
@@ -44,7 +44,7 @@ module _ {f : Sheet → List ℕ} {sheet buffer after : List ℕ} {w : Written} 
 
   pub serves_code : {code : ℤ} → SFits w64 code → code ≡ written_code w →
       Codes f sheet buffer (to_z w64 (of_z w64 code)) after
-  serves_code k e = record { answers = handed_on_lem k (e ∙ ap written_code v.answers); leaves = v.leaves }
+  serves_code k e = record { answers = handed_on k (e ∙ ap written_code v.answers); leaves = v.leaves }
 
 -- ---- a length as a number
 

@@ -4,7 +4,7 @@ use Rattle.format.specs.Sheet.{Sheet}
 use Rattle.rules.specs.Judge.{judge, check}
 use Rattle.services.specs.declared.Written.{Written}
 use Rattle.services.specs.declared.Written.TheVariants.{Length, Refused}
-use Rattle.bridge.specs.Text.{text}
+use Rattle.bridge.specs.Write.{text}
 use Rattle.services.specs.Services.{struct_order, answer_of, buffer_of, written_code, checked_code}
 
 -- check a sheet

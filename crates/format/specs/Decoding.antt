@@ -1,5 +1,5 @@
 -- From bytes to the value of a sheet, or to the first fault of 1 to 8 (document 01, "The sheet", rules 1 to 4;
--- document 02, order 1 of C++ functions, order 3 of names, order 13 of editions).
+-- document 02, order 3 of names, order 13 of editions).
 use Rattle.std.specs.Prelude.{List, [], ◌∷◌, Bool, true, false, not, ◌&&◌, ℕ, zero, suc, ◌-◌, ◌*◌, ◌%◌, length, get_or, leb, eqb}
 use Rattle.refusal.specs.declared.Refusal.{Refusal}
 use Rattle.refusal.specs.declared.Refusal.TheVariants.{CutSheet, Edition, BadName, BadKind, TooDeep, BadComment, Tail}
@@ -18,8 +18,8 @@ use Rattle.format.specs.Limits.{last_edition, most_bytes, most_levels}
 use Rattle.format.specs.Decode.{Got, fault, got, Dec, pick, after, ◌>>◌, pure, refuse, unless, many}
 use Rattle.format.specs.Bits.{bits_at, bits, bit, index}
 use Rattle.format.specs.Types.{Ty, atom, named, template, pointer, str, fn, array, Ret, none, gives, tys}
-use Rattle.format.specs.Sheet.{Name, Form, free, const_method, mut_method, associated, Argument, Lang, rust, cxx}
-use Rattle.format.specs.Sheet.{Body, struct, enum, cxx_type, rust_type, function, Item, Sheet}
+use Rattle.format.specs.Sheet.{Name, Form, free, const_method, mut_method, associated, Argument, Body}
+use Rattle.format.specs.Sheet.{struct, enum, cxx_type, rust_type, function, Item, Sheet}
 
 -- ---- names
 
@@ -115,16 +115,11 @@ form_of (suc (suc (suc k))) i = associated i
 unfoldable pub form : ℕ → Dec Form
 form items = bits 2 >> λ f. pick (eqb f 0) (pure free) (index items >> λ i. pure (form_of f i))
 
--- the fields of kind 4, and what stands behind the comment
-unfoldable pub function_body : Dec Lang → List Name → ℕ → Dec Body
-function_body lang names items =
+unfoldable pub function_body : List Name → ℕ → Dec Body
+function_body names items =
     name_of names >> λ n. form items >> λ f. bit >> λ t. optional (type items) >> λ r.
-    bits 5 >> λ a. many a (argument names items) >> λ xs. bits 5 >> λ c. many c line >> λ ls. lang >> λ l.
-    pure (function (record { lang = l; rust = n; form = f; throws = t; return = r; arguments = xs; comment = ls }))
-
--- "then an unwind bit (`CxxUnwind`) and a bit with the answer of `contains_elided_lifetime` for the return"
-unfoldable pub cxx_lang : Dec Lang
-cxx_lang = bit >> λ u. bit >> λ e. pure (cxx u e)
+    bits 5 >> λ a. many a (argument names items) >> λ xs. bits 5 >> λ c. many c line >> λ ls.
+    pure (function (record { rust = n; form = f; throws = t; return = r; arguments = xs; comment = ls }))
 
 unfoldable pub struct_body : ℕ → Dec Body
 struct_body items = bit >> λ p. bits 6 >> λ n. many n (type items) >> λ ts. pure (struct p ts)
@@ -133,9 +128,7 @@ unfoldable pub enum_body : Dec Body
 enum_body = bit >> λ p. bits 4 >> λ a. unless (within 2 11 a) BadKind (bit >> λ c. pure (enum p (atom_of a) c))
 
 abbrev pub parts : List ItemKind
-parts =
-    Part.Struct ∷ Part.Enum ∷ Part.CxxType ∷ Part.RustType ∷ Part.RustFunction ∷ Part.CxxFunction ∷ Part.Bad ∷
-    Part.Bad ∷ []
+parts = Part.Struct ∷ Part.Enum ∷ Part.CxxType ∷ Part.RustType ∷ Part.RustFunction ∷ Part.Bad ∷ Part.Bad ∷ Part.Bad ∷ []
 
 unfoldable pub part_of : ℕ → ItemKind
 part_of k = get_or parts k Part.Bad
@@ -146,8 +139,7 @@ item_body Part.Struct names items = struct_body items
 item_body Part.Enum names items = enum_body
 item_body Part.CxxType names items = bit >> λ p. pure (cxx_type p)
 item_body Part.RustType names items = bit >> λ p. pure (rust_type p)
-item_body Part.RustFunction names items = function_body (pure rust) names items
-item_body Part.CxxFunction names items = function_body cxx_lang names items
+item_body Part.RustFunction names items = function_body names items
 item_body Part.Bad names items = refuse BadKind
 
 abbrev pub is_bad : ItemKind → Bool
@@ -157,7 +149,6 @@ is_bad Part.Enum = false
 is_bad Part.CxxType = false
 is_bad Part.RustType = false
 is_bad Part.RustFunction = false
-is_bad Part.CxxFunction = false
 
 unfoldable pub namespace : List Name → Dec (List Name)
 namespace names = bits 3 >> λ d. many d (name_of names)

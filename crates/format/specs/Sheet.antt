@@ -1,5 +1,5 @@
 -- The value of a sheet. Names stand as their characters, wherever the name table has them.
-use Rattle.std.specs.Prelude.{List, Bool, true, false, ℕ}
+use Rattle.std.specs.Prelude.{List, Bool, ℕ}
 use Rattle.format.specs.declared.Atom.{Atom}
 use Rattle.format.specs.Types.{Ty, Ret}
 
@@ -17,26 +17,7 @@ pub record Argument : Type 0 where
   pub name : Name
   pub type : Ty
 
--- the language that has the function, as `ExternFn.lang`; a C++ function with its unwind bit (`CxxUnwind`) and the
--- answer of `contains_elided_lifetime` for its return
-pub data Lang : Type 0 where
-  rust : Lang
-  cxx : Bool → Bool → Lang
-
-abbrev pub is_rust : Lang → Bool
-is_rust rust = true
-is_rust (cxx u e) = false
-
-abbrev pub unwinds : Lang → Bool
-unwinds rust = false
-unwinds (cxx u e) = u
-
-abbrev pub elided : Lang → Bool
-elided rust = false
-elided (cxx u e) = e
-
 pub record Function : Type 0 where
-  pub lang : Lang
   pub rust : Name
   pub form : Form
   pub throws : Bool

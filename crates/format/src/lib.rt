@@ -2,7 +2,6 @@
 // "The sheet"). The definitions of specs/ and the code that reads sheets share them.
 
 // syntax/atom.rs, in its order.
-#![tactic(auto)]
 #[derive(Clone, Copy)]
 pub enum Atom {
     Bool,
@@ -63,7 +62,6 @@ pub enum ItemKind {
     CxxType,
     RustType,
     RustFunction,
-    CxxFunction,
     Bad,
 }
 

@@ -6,15 +6,15 @@ use Prim.Native.Nat.{ℕ}
 use Rattle.lexical.specs.Bytes.{bytes}
 use Rattle.sink.specs.Sink.{Sink, Wrote}
 use Rattle.sink.proofs.SinkLaws.{wrote_as}
-use Rattle.format.specs.Sheet.{Lang, rust, cxx, Body, struct, enum, cxx_type, rust_type, function, Item}
+use Rattle.format.specs.Sheet.{Body, struct, enum, cxx_type, rust_type, function, Item}
 use Rattle.format.specs.Decoding.{atom_of}
 use Rattle.format.specs.declared.ItemKind.{ItemKind}
-use Rattle.format.specs.declared.ItemKind.TheVariants.{Struct, Enum, CxxType, RustType, RustFunction, CxxFunction, Bad}
+use Rattle.format.specs.declared.ItemKind.TheVariants.{Struct, Enum, CxxType, RustType, RustFunction, Bad}
 use Rattle.syntax.specs.Items.{full_name}
 use Rattle.bridge.specs.WriteType.{write_atom}
 use Rattle.bridge.specs.Write.{forward_line}
 use Rattle.view.specs.declared.ItemView.{ItemView}
-use Rattle.view.specs.Views.{function_kind, kind_of_body, ItemAt}
+use Rattle.view.specs.Views.{kind_of_body, ItemAt}
 use Rattle.nested.specs.declared.EnumView.{EnumView}
 use Rattle.view.specs.Values.{item_no}
 use Rattle.nested.specs.Groups.{EnumOf}
@@ -31,7 +31,6 @@ kind_line x CxxType = bytes "using " ++ x.cxx ++ bytes " = " ++ full_name x ++ b
 kind_line x RustType = bytes "struct " ++ x.cxx ++ bytes ";\n"
 kind_line x Enum = []
 kind_line x RustFunction = []
-kind_line x CxxFunction = []
 kind_line x Bad = []
 
 body_line : (x : Item) (b : Body) → is_enum_kind (kind_of_body b) ≡ false → kind_line x (kind_of_body b) ≡ forward_line x b
@@ -39,11 +38,7 @@ body_line x (struct p ts) h = refl
 body_line x (enum p a c) h = absurd (false≢true (sym h))
 body_line x (cxx_type p) h = refl
 body_line x (rust_type p) h = refl
-body_line x (function f) h = by_lang f.lang
-  where
-    by_lang : (l : Lang) → kind_line x (function_kind l) ≡ []
-    by_lang rust = refl
-    by_lang (cxx u e) = refl
+body_line x (function f) h = refl
 
 pub line_written : {s names items : List ℕ} {v : ItemView} {k : ItemKind} {r t : Sink} → ItemAt s names items v →
     v.kind ≡ k → is_enum_kind k ≡ false → Wrote r (kind_line (item_no s names items v.number) k) t →

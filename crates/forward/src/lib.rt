@@ -106,7 +106,6 @@ fn write_line(
         ItemKind::CxxType => write_struct_using(s, t, pool, v, out, at),
         ItemKind::RustType => write_struct_decl(s, t, pool, v, out, at),
         ItemKind::RustFunction => at,
-        ItemKind::CxxFunction => at,
         ItemKind::Bad => at,
     }
 }

@@ -13,10 +13,6 @@ use Rattle.grammar.specs.Tree.{Measure, size, align, Head, free, method, Local, 
 use Rattle.grammar.specs.Tree.{Operand, receiver, direct, into_raw, release, address, held_address, slot_address}
 use Rattle.grammar.specs.Tree.{CallForm, bare, error, returned, dereferenced, in_from_raw, in_unique_ptr}
 use Rattle.grammar.specs.Tree.{in_new_unchecked, in_slice, Call, Ending, no_return, return_slot, move_slot, Item}
-use Rattle.grammar.specs.Tree.{PointerLine, CxxOperand, plain_operand, from_raw_operand, unique_ptr_operand}
-use Rattle.grammar.specs.Tree.{string_operand, vec_operand, moved_operand, CxxCall, CxxValue, plain_value}
-use Rattle.grammar.specs.Tree.{address_value, into_raw_value, release_value, repr_value, CxxStatement, plain_statement}
-use Rattle.grammar.specs.Tree.{return_statement, new_statement, cxx_shim}
 use Rattle.grammar.specs.Tree.{declares, defines, shim, Block, namespace, extern_c, Body, body_end, item, block}
 use Rattle.grammar.specs.Tree.{Line, struct_line, enum_line, using_line, Forward, forward_end, line, bare_namespace}
 use Rattle.grammar.specs.Tree.{Text, text}
@@ -25,16 +21,12 @@ use Rattle.grammar.specs.Tokens.{template_tokens, const_tokens, suffix_tokens, t
 use Rattle.grammar.specs.Tokens.{more_types_tokens, result_tokens, parameter_tokens, head_tokens, signature_tokens}
 use Rattle.grammar.specs.Tokens.{measure_tokens, operand_tokens, local_tokens}
 use Rattle.grammar.specs.Tokens.{form_tokens, close_tokens, call_tokens, error_test_tokens, ending_tokens, comment_tokens}
-use Rattle.grammar.specs.Tokens.{class_tokens, pointer_tokens, cxx_operand_tokens, callee_tokens, cxx_call_tokens}
-use Rattle.grammar.specs.Tokens.{value_tokens, statement_tokens, catch_tokens, caught_tokens}
 use Rattle.grammar.specs.Tokens.{item_tokens, block_tokens, BodyClosings, body_tokens, line_tokens}
 use Rattle.grammar.specs.Tokens.{forward_tokens, Closings, text_tokens}
-use Rattle.grammar.specs.Rules.{pointer_result_ok, pointer_ok, item_ok, body_ok, forward_ok, text_ok}
+use Rattle.grammar.specs.Rules.{item_ok, body_ok, forward_ok, text_ok}
 use Rattle.grammar.proofs.SameTokens.{same_token}
 use Rattle.grammar.proofs.Parser.{begins}
-use Rattle.grammar.proofs.HeadBack.{result_first}
-use Rattle.grammar.proofs.CxxBack.{pointer_readable, statement_first}
-use Rattle.grammar.proofs.ItemBack.{item_first, cxx_pointer}
+use Rattle.grammar.proofs.ItemBack.{item_first}
 use Rattle.grammar.proofs.TextBack.{block_rules, has_lines, forward_filled}
 
 -- no { has } right behind it
@@ -238,101 +230,20 @@ shim_content [] c r = form_content c.form c.symbol _
 shim_content (held x s ∷ ls) c r = refl
 shim_content (room x ∷ ls) c r = refl
 
--- C++ shims
-
-class_braceless : (c : List Name) → Braceless class_tokens c
+item_braceless : (i : Item) → Braceless item_tokens i
 unfolding same
-class_braceless [] r = refl
-class_braceless (s ∷ p) r = path_braceless p (quoted "::" r)
-
-address_braceless : (a : Bool) (r : List Token) → no_empty_braces (optional_tokens a (quoted "&" []) r) ≡ no_empty_braces r
-unfolding same
-address_braceless true r = refl
-address_braceless false r = refl
-
-pointer_braceless : (p : PointerLine) → Braceless pointer_tokens p
-unfolding same
-pointer_braceless p r =
-    result_braceless p.result _ ∙ class_braceless p.class _ ∙ list_braceless type_tokens type_braceless p.types _
-    ∙ const_braceless p.is_const _ ∙ address_braceless p.address _ ∙ path_braceless p.path _
-
-cxx_operand_braceless : (x : CxxOperand) → Braceless cxx_operand_tokens x
-unfolding same
-cxx_operand_braceless (plain_operand x) r = refl
-cxx_operand_braceless (from_raw_operand t x) r = type_braceless t _
-cxx_operand_braceless (unique_ptr_operand t x) r = type_braceless t _
-cxx_operand_braceless (string_operand x) r = refl
-cxx_operand_braceless (vec_operand t x) r = type_braceless t _
-cxx_operand_braceless (moved_operand x) r = refl
-
-callee_braceless : (b : Bool) (x : Name) (r : List Token) → no_empty_braces (callee_tokens b x r) ≡ no_empty_braces r
-unfolding same
-callee_braceless true x r = refl
-callee_braceless false x r = refl
-
-cxx_call_braceless : (c : CxxCall) → Braceless cxx_call_tokens c
-unfolding same
-cxx_call_braceless c r =
-    callee_braceless c.of_member c.local _ ∙ list_braceless cxx_operand_tokens cxx_operand_braceless c.operands _
-
-value_braceless : (v : CxxValue) (c : CxxCall) (r : List Token) → no_empty_braces (value_tokens v c r) ≡ no_empty_braces r
-unfolding same
-value_braceless plain_value c r = cxx_call_braceless c r
-value_braceless address_value c r = cxx_call_braceless c r
-value_braceless into_raw_value c r = cxx_call_braceless c _
-value_braceless release_value c r = cxx_call_braceless c _
-value_braceless (repr_value t) c r = type_braceless t _ ∙ cxx_call_braceless c _
-
-statement_braceless : (s : CxxStatement) (v : CxxValue) (c : CxxCall) (r : List Token) →
-    no_empty_braces (statement_tokens s v c r) ≡ no_empty_braces r
-unfolding same
-statement_braceless plain_statement v c r = value_braceless v c _
-statement_braceless return_statement v c r = value_braceless v c _
-statement_braceless (new_statement t) v c r = type_braceless t _ ∙ value_braceless v c _
-
--- neither brace stands before }
-statement_content : (s : CxxStatement) (v : CxxValue) (c : CxxCall) (r : List Token) →
-    begins "}" (statement_tokens s v c r) ≡ false
-unfolding same
-statement_content =
-    statement_first (λ r. begins "}" r ≡ false) (λ r. refl) (λ x r. refl) (λ r. refl) (λ r. refl) (λ r. refl) (λ r. refl)
-
-pointer_content : (p : PointerLine) → pointer_ok p ≡ true → (r : List Token) → begins "}" (pointer_tokens p r) ≡ false
-unfolding same pointer_ok
-pointer_content p o r =
-    result_first (λ r. begins "}" r ≡ false) (λ r. refl) (λ r. (refl, refl, refl, refl)) (λ r. (refl, refl)) p.result
-    (pointer_readable p.result (both (pointer_result_ok p.result) _ o).0) _
-
-catch_braceless : (b : Bool) (s : CxxStatement) (v : CxxValue) (c : CxxCall) (r : List Token) →
-    no_empty_braces (catch_tokens b (statement_tokens s v c r)) ≡ no_empty_braces r
-unfolding same
-catch_braceless true s v c r = rw (statement_content s v c r) (statement_braceless s v c r)
-catch_braceless false s v c r = statement_braceless s v c r
-
-caught_braceless : (b : Bool) → Braceless caught_tokens b
-unfolding same
-caught_braceless true r = refl
-caught_braceless false r = refl
-
-item_braceless : (i : Item) (depth : ℕ) (c : Bool) → item_ok depth c i ≡ true → Braceless item_tokens i
-unfolding same
-item_braceless (declares d) depth c o r = signature_braceless d.result (free d.symbol) d.parameters false d.noexcept (quoted ";" r)
-item_braceless (defines d) depth c o r = measured d.measure _
+item_braceless (declares d) r = signature_braceless d.result (free d.symbol) d.parameters false d.noexcept (quoted ";" r)
+item_braceless (defines d) r = measured d.measure _
   where
     measured : (m : Measure) → Braceless measure_tokens m
     measured size r = refl
     measured align r = refl
-item_braceless (shim s) depth c o r =
+item_braceless (shim s) r =
     each_braceless comment_tokens comment_braceless s.comments _
     ∙ signature_braceless s.result s.head s.parameters s.is_const s.noexcept _
     ∙ rw (shim_content s.locals s.call (error_test_tokens s.error_test (ending_tokens s.ending (quoted "}" r))))
     (each_braceless local_tokens local_braceless s.locals _ ∙ call_braceless s.call _
     ∙ error_test_braceless s.error_test _ ∙ ending_braceless s.ending _)
-item_braceless (cxx_shim s) depth c o r =
-    signature_braceless s.result (free s.symbol) s.parameters false s.noexcept _
-    ∙ rw (pointer_content s.pointer (cxx_pointer s depth c o) _)
-    (pointer_braceless s.pointer _ ∙ catch_braceless s.caught s.statement s.value s.call _
-    ∙ caught_braceless s.caught _)
 
 pub line_braceless : (l : Line) → Braceless line_tokens l
 unfolding same
@@ -386,8 +297,8 @@ body_braces : (b : Body) (cs : BodyClosings b) (depth : ℕ) (c : Bool) → body
 unfolding same body_ok
 body_braces body_end cs depth c o f r h = h
 body_braces (item i next) cs depth c o f r h =
-    let q = both (item_ok depth c i) (body_ok depth c next) o in
-    item_braceless i depth c q.0 (body_tokens next cs r) ∙ body_braces next cs depth c q.1 f r h
+    item_braceless i (body_tokens next cs r) ∙
+    body_braces next cs depth c (both (item_ok depth c i) (body_ok depth c next) o).1 f r h
 body_braces (block b inside next) cs depth c o f r h =
     let q = block_rules b inside next depth c o in
     let p = both (has_content inside) (body_filled inside && body_filled next) f in

@@ -6,5 +6,5 @@ use Rattle.grammar.specs.Rules
 use Rattle.grammar.proofs.Parser
 
 unfoldable pub computes : Unit {0}
-unfolding every same member digits decimal name_shape name_ok keywords alternative_tokens reserved Rules.is_symbol Rules.full_name_ok Rules.levels Rules.base_levels Rules.deepest Rules.type_count Rules.parts_ok Rules.base_ok Rules.all_parts_ok Rules.at_most_one Rules.few_arguments Rules.result_ok Rules.declared_ok Rules.is_self Rules.is_slot Rules.declaration_ok Rules.layout_ok Rules.head_ok Rules.argument_ok Rules.local_ok Rules.operand_ok Rules.is_receiver Rules.is_slot_address Rules.form_ok Rules.call_ok Rules.comments_ok Rules.shim_ok Rules.path_ok Rules.pointer_result_ok Rules.class_ok Rules.pointer_ok Rules.cxx_operand_ok Rules.cxx_call_ok Rules.value_ok Rules.statement_ok Rules.is_self_of Rules.cxx_shim_ok Rules.item_ok Rules.body_ok Rules.forward_line_ok Rules.forward_ok Rules.text_ok Parser.result_p Parser.parameter_p Parser.operand_p Parser.local_p Parser.form_p Parser.close_p Parser.call_p Parser.error_test_p Parser.ending_p Parser.shim_p Parser.dollar_p Parser.class_p Parser.pointer_p Parser.cxx_operand_p Parser.callee_p Parser.cxx_call_p Parser.value_p Parser.statement_p Parser.catch_p Parser.caught_p Parser.cxx_shim_p Parser.tail_p Parser.parameters_p Parser.item_p Parser.closing_p Parser.line_p Parser.text_p
+unfolding every same member digits decimal name_shape name_ok keywords alternative_tokens reserved Rules.is_symbol Rules.full_name_ok Rules.levels Rules.base_levels Rules.deepest Rules.type_count Rules.parts_ok Rules.base_ok Rules.all_parts_ok Rules.at_most_one Rules.few_arguments Rules.result_ok Rules.declared_ok Rules.is_self Rules.is_slot Rules.declaration_ok Rules.layout_ok Rules.head_ok Rules.argument_ok Rules.local_ok Rules.operand_ok Rules.is_receiver Rules.is_slot_address Rules.form_ok Rules.call_ok Rules.comments_ok Rules.shim_ok Rules.item_ok Rules.body_ok Rules.forward_line_ok Rules.forward_ok Rules.text_ok Parser.result_p Parser.parameter_p Parser.operand_p Parser.local_p Parser.form_p Parser.close_p Parser.call_p Parser.error_test_p Parser.ending_p Parser.tail_p Parser.parameters_p Parser.item_p Parser.closing_p Parser.line_p Parser.text_p
 computes = tt

@@ -2,13 +2,11 @@
 use Rattle.std.proofs.Common.{◌≡◌, ℕ, zero, suc, Bool, true, false, List, [], ◌∷◌, ◌++◌, refl, subst}
 use Rattle.lexical.specs.Bytes.{bytes, same}
 use Rattle.grammar.specs.Types.{Name, bool, usize, u32, box, reference, CxxType, suffixed, atom, full, template}
-use Rattle.grammar.specs.Token.{cut}
 use Rattle.grammar.specs.Types.{array, void_fn, CxxTypes, nil, cons}
 use Rattle.grammar.specs.Tree.{void, int, value, Parameter, named, slot, size, align, free, Operand, receiver, direct}
 use Rattle.grammar.specs.Tree.{slot_address, bare, returned, Call}
 use Rattle.grammar.specs.Tree.{in_from_raw, no_return, Item, declares, defines, shim, namespace, extern_c, Body, body_end}
-use Rattle.grammar.specs.Tree.{item, block, Forward, ptr_len, PointerLine, plain_operand, from_raw_operand}
-use Rattle.grammar.specs.Tree.{plain_value, repr_value, plain_statement, new_statement}
+use Rattle.grammar.specs.Tree.{item, block, Forward}
 use Rattle.grammar.specs.Tree.{struct_line, forward_end, line, bare_namespace, Text, text}
 use Rattle.grammar.specs.Rules
 use Rattle.grammar.specs.Reading.{Reading, OneReading}
@@ -16,7 +14,6 @@ use Rattle.grammar.specs.Tokens.{Closings}
 use Rattle.grammar.proofs.Checked.{closing, checked}
 use Rattle.grammar.proofs.Computing.{computes}
 use Rattle.grammar.proofs.Forms.{plain_shim, forms_tree, forms_closings, forms}
-use Rattle.grammar.proofs.CxxForms.{pointed, member, calls, cxx, plain_cxx, cxx_forms_tree, cxx_forms_closings, cxx_forms}
 use Rattle.grammar.proofs.Unique.{one_reading}
 
 -- document 01's worked text, over the parameters and operands of its function
@@ -184,24 +181,6 @@ DeclaredLimit within over = Limit (Rules.item_ok 0 true (declares_with within)) 
 abbrev CallLimit : List Operand → List Operand → Type 0
 CallLimit within over = Limit (Rules.call_ok (call_with within)) (Rules.call_ok (call_with over))
 
--- C++ shims
-
-abbrev cxx_with : PointerLine → List Parameter → Item
-cxx_with pointer parameters = cxx void (bytes "g") parameters false pointer false plain_statement plain_value (calls false [])
-
-abbrev free_pointer : PointerLine
-free_pointer = pointed void [] false "f"
-
-abbrev member_pointer : PointerLine
-member_pointer = member void (bytes "S" ∷ []) [] false
-
-abbrev CxxLimit : PointerLine → List Parameter → List Parameter → Type 0
-CxxLimit pointer within over =
-    Limit (Rules.item_ok 0 true (cxx_with pointer within)) (Rules.item_ok 0 true (cxx_with pointer over))
-
-abbrev cxx_main : Item
-cxx_main = cxx int (bytes "main") [] false free_pointer false plain_statement plain_value (calls false [])
-
 pub record Limits : Type 0 where
   pub levels : Limit (Rules.type_ok 8 (boxes 7)) (Rules.type_ok 8 (boxes 8))
   pub declared_levels : Limit (Rules.declared_ok (named (boxes 8) (bytes "x"))) (Rules.declared_ok (named (boxes 9) (bytes "x")))
@@ -229,40 +208,9 @@ pub record Limits : Type 0 where
   pub comment_length : Limit (Rules.comments_ok (copies 128 32 ∷ [])) (Rules.comments_ok (copies 129 32 ∷ []))
   pub main_in_root : Limit (Rules.item_ok 0 true declares_main) (Rules.item_ok 1 true declares_main)
   pub in_extern_c : Limit (Rules.item_ok 0 true declares_main) (Rules.item_ok 0 false declares_main)
-  pub path : Limit (Rules.path_ok (copies 9 (bytes "a"))) (Rules.path_ok (copies 10 (bytes "a")))
-  pub no_path : Limit (Rules.path_ok (bytes "a" ∷ [])) (Rules.path_ok [])
-  pub std_path : Limit (Rules.path_ok (cut (bytes "std f"))) (Rules.path_ok (cut (bytes "std a f")))
-  pub rust_path : Limit (Rules.path_ok (cut (bytes "rust f"))) (Rules.path_ok (cut (bytes "rust a f")))
-  pub class : Limit (Rules.class_ok (copies 8 (bytes "a"))) (Rules.class_ok (copies 9 (bytes "a")))
-  pub std_class : Limit (Rules.class_ok (cut (bytes "std"))) (Rules.class_ok (cut (bytes "std a")))
-  pub pointer_result : Limit (Rules.pointer_ok free_pointer) (Rules.pointer_ok (pointed ptr_len [] false "f"))
-  pub pointer_result_levels :
-      Limit (Rules.pointer_ok (pointed (value (boxes 7)) [] false "f")) (Rules.pointer_ok (pointed (value (boxes 8)) [] false "f"))
-  pub pointer_type_levels :
-      Limit (Rules.pointer_ok (pointed void (boxes 7 ∷ []) false "f")) (Rules.pointer_ok (pointed void (boxes 8 ∷ []) false "f"))
-  pub pointer_types :
-      Limit (Rules.pointer_ok (pointed void (copies 31 (boxes 0)) false "f"))
-      (Rules.pointer_ok (pointed void (copies 32 (boxes 0)) false "f"))
-  pub operand_levels :
-      Limit (Rules.cxx_operand_ok (from_raw_operand (boxes 6) (bytes "x"))) (Rules.cxx_operand_ok (from_raw_operand (boxes 7) (bytes "x")))
-  pub new_levels : Limit (Rules.statement_ok (new_statement (boxes 7))) (Rules.statement_ok (new_statement (boxes 8)))
-  pub repr_levels : Limit (Rules.value_ok (repr_value (boxes 7))) (Rules.value_ok (repr_value (boxes 8)))
-  pub operands :
-      Limit (Rules.cxx_call_ok (calls false (copies 31 (plain_operand (bytes "x")))))
-      (Rules.cxx_call_ok (calls false (copies 32 (plain_operand (bytes "x")))))
-  pub cxx_levels : CxxLimit free_pointer (named (boxes 8) (bytes "x") ∷ []) (named (boxes 9) (bytes "x") ∷ [])
-  pub cxx_arguments : CxxLimit free_pointer (x_parameters 31) (x_parameters 32)
-  pub cxx_self : CxxLimit free_pointer (self ∷ x_parameters 30) (self ∷ x_parameters 31)
-  pub cxx_receiver : CxxLimit member_pointer (self ∷ x_parameters 31) (self ∷ x_parameters 32)
-  pub cxx_receivers : CxxLimit member_pointer (copies 32 self) (copies 33 self)
-  pub cxx_slot : CxxLimit free_pointer (slot (boxes 0) ∷ x_parameters 31) (slot (boxes 0) ∷ x_parameters 32)
-  pub cxx_receiver_and_slot :
-      CxxLimit member_pointer (self ∷ slot (boxes 0) ∷ x_parameters 31) (self ∷ slot (boxes 0) ∷ x_parameters 32)
-  pub cxx_main_in_root : Limit (Rules.item_ok 0 true cxx_main) (Rules.item_ok 1 true cxx_main)
-  pub cxx_in_extern_c : Limit (Rules.item_ok 0 true plain_cxx) (Rules.item_ok 0 false plain_cxx)
 
 computed : Reading worked_tree worked × Reading swapped_tree swapped × Reading in_forward twofold × Reading in_body twofold × Reading forms_tree forms
-    × Limits × Reading cxx_forms_tree cxx_forms
+    × Limits
 unfolding computes
 computed = (
   checked worked_tree mill_closings worked refl,
@@ -297,31 +245,7 @@ computed = (
     comment_length = (refl, refl);
     main_in_root = (refl, refl);
     in_extern_c = (refl, refl);
-    path = (refl, refl);
-    no_path = (refl, refl);
-    std_path = (refl, refl);
-    rust_path = (refl, refl);
-    class = (refl, refl);
-    std_class = (refl, refl);
-    pointer_result = (refl, refl);
-    pointer_result_levels = (refl, refl);
-    pointer_type_levels = (refl, refl);
-    pointer_types = (refl, refl);
-    operand_levels = (refl, refl);
-    new_levels = (refl, refl);
-    repr_levels = (refl, refl);
-    operands = (refl, refl);
-    cxx_levels = (refl, refl);
-    cxx_arguments = (refl, refl);
-    cxx_self = (refl, refl);
-    cxx_receiver = (refl, refl);
-    cxx_receivers = (refl, refl);
-    cxx_slot = (refl, refl);
-    cxx_receiver_and_slot = (refl, refl);
-    cxx_main_in_root = (refl, refl);
-    cxx_in_extern_c = (refl, refl);
   },
-  checked cxx_forms_tree cxx_forms_closings cxx_forms refl,
 )
 
 -- document 01's text has this reading and no other
@@ -342,18 +266,12 @@ pub ambiguous : Reading in_forward twofold × Reading in_body twofold × (in_for
 unfolding HasForward
 ambiguous = (computed.2, computed.3, λ e. subst HasForward e tt)
 
--- every form of the grammar is read, those of C++ shims in a text of their own
+-- every form of the grammar is read
 pub forms_read : Reading forms_tree forms
 forms_read = computed.4
 
 pub forms_once : OneReading forms
 forms_once = one_reading forms_tree forms forms_read refl
-
-pub cxx_forms_read : Reading cxx_forms_tree cxx_forms
-cxx_forms_read = computed.6
-
-pub cxx_forms_once : OneReading cxx_forms
-cxx_forms_once = one_reading cxx_forms_tree cxx_forms cxx_forms_read refl
 
 pub limits : Limits
 limits = computed.5

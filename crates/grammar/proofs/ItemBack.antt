@@ -1,37 +1,138 @@
--- The parser gives back each declaration, layout definition, shim and C++ shim from its tokens.
+-- The parser gives back each declaration, layout definition and shim from its tokens.
 use Rattle.std.proofs.Common.{◌≡◌, ℕ, suc, ◌+◌, ◌≤◌, Bool, true, false, cond, not, ◌&&◌, leb, List, [], ◌∷◌, ◌++◌, length, refl, ap, ◌∙◌, arith}
 use mathlib.Core.Bool.{false≢true}
 use mathlib.Core.Option.{Option, none}
 use Rattle.lexical.specs.Bytes.{bytes, every, same}
 use Rattle.lexical.specs.Names.{is_name}
-use Rattle.lexical.proofs.BoolLaws.{both}
+use Rattle.lexical.proofs.BoolLaws.{both, not-true}
 use Rattle.lexical.proofs.ByteLaws.{every_weaken, same_refl}
 use Rattle.grammar.specs.Token.{Token, word, scope, comment, quoted}
-use Rattle.grammar.specs.Types.{Name, usize, suffixed, atom, box, unique_ptr, template}
-use Rattle.grammar.specs.Tree.{Result, value, Parameter, Declaration}
+use Rattle.grammar.specs.Types.{Name, usize, CxxType, suffixed, atom, box, unique_ptr, template}
+use Rattle.grammar.specs.Tree.{Result, void, ptr_len, fat, int, value, Parameter, named, slot, Declaration}
 use Rattle.grammar.specs.Tree.{Measure, size, align, LayoutDefinition, Head, free, method, Local, held, room}
 use Rattle.grammar.specs.Tree.{Operand, receiver, direct, into_raw, release, address, held_address, slot_address}
 use Rattle.grammar.specs.Tree.{CallForm, bare, error, returned, dereferenced, in_from_raw, in_unique_ptr}
-use Rattle.grammar.specs.Tree.{in_new_unchecked, in_slice, Call, Ending, no_return, return_slot, move_slot, Shim, CxxShim}
-use Rattle.grammar.specs.Tree.{Item, declares, defines, shim, cxx_shim}
-use Rattle.grammar.specs.Tokens.{each_tokens, list_tokens, optional_tokens, const_tokens, result_tokens, head_tokens}
-use Rattle.grammar.specs.Tokens.{signature_tokens, declaration_tokens, measure_tokens, layout_tokens, operand_tokens}
-use Rattle.grammar.specs.Tokens.{local_tokens, form_tokens, close_tokens, call_tokens, error_test_tokens, ending_tokens}
-use Rattle.grammar.specs.Tokens.{comment_tokens, shim_tokens, cxx_shim_tokens, item_tokens}
-use Rattle.grammar.specs.Rules.{max_levels, max_arguments, is_symbol, levels, parts_ok, base_ok, type_ok, result_ok}
-use Rattle.grammar.specs.Rules.{few_arguments, is_root_main, declared_ok, is_self, is_slot, declaration_ok, head_ok}
-use Rattle.grammar.specs.Rules.{argument_ok, local_ok, operand_ok, is_receiver, is_slot_address, form_ok, call_ok}
-use Rattle.grammar.specs.Rules.{comments_ok, shim_ok, pointer_ok, is_self_of, cxx_shim_ok, item_ok}
-use Rattle.grammar.proofs.Parser.{begins, fork, flag_p, word_p, comment_p, path_p, many_p, list_p, is_comment, is_local}
-use Rattle.grammar.proofs.Parser.{operand_p, local_p, form_p, close_p, call_p, error_test_p, ending_p, shim_p, tail_p}
-use Rattle.grammar.proofs.Parser.{parameters_p, named_p, item_p}
-use Rattle.grammar.proofs.TypeBack.{type_size, type_ends, type_back}
+use Rattle.grammar.specs.Tree.{in_new_unchecked, in_slice, Call, Ending, no_return, return_slot, move_slot, Shim, Item}
+use Rattle.grammar.specs.Tree.{declares, defines, shim}
+use Rattle.grammar.specs.Tokens.{each_tokens, list_tokens, optional_tokens, const_tokens, suffix_tokens, type_tokens}
+use Rattle.grammar.specs.Tokens.{result_tokens, parameter_tokens, head_tokens, signature_tokens, declaration_tokens}
+use Rattle.grammar.specs.Tokens.{measure_tokens, layout_tokens, operand_tokens, local_tokens, form_tokens, close_tokens}
+use Rattle.grammar.specs.Tokens.{call_tokens, error_test_tokens, ending_tokens, comment_tokens, shim_tokens, item_tokens}
+use Rattle.grammar.specs.Rules.{max_levels, max_declared_levels, max_arguments, is_symbol, levels, parts_ok, base_ok, type_ok}
+use Rattle.grammar.specs.Rules.{result_ok, few_arguments, is_root_main, declared_ok, is_self, is_slot, declaration_ok, head_ok}
+use Rattle.grammar.specs.Rules.{argument_ok, local_ok, operand_ok, is_receiver, is_slot_address, form_ok, call_ok, comments_ok, shim_ok}
+use Rattle.grammar.specs.Rules.{item_ok}
+use Rattle.grammar.proofs.Parser.{begins, fork, flag_p, word_p, comment_p, path_p, many_p, list_p, type_p}
+use Rattle.grammar.proofs.Parser.{types_p, is_comment, is_local, on_result, result_p, parameter_p, operand_p}
+use Rattle.grammar.proofs.Parser.{local_p, form_p, close_p, call_p, error_test_p, ending_p, tail_p, parameters_p, named_p, item_p}
+use Rattle.grammar.proofs.TypeBack.{type_size, type_ends, type_back, base_back, type_first, no_close, no_void, opened}
+use Rattle.grammar.proofs.TypeBack.{suffixes_back, scope_free}
 use Rattle.grammar.proofs.ListBack.{list_size, many_back, list_back}
-use Rattle.grammar.proofs.RuleFacts.{symbol_no_return, front_snoc, held_no_slot}
-use Rattle.grammar.proofs.HeadBack.{result_size, result_readable, result_readable_lem, result_first, result_back}
-use Rattle.grammar.proofs.HeadBack.{parameter_size, parameter_readable, declared_readable, argument_readable}
-use Rattle.grammar.proofs.HeadBack.{parameters_back}
-use Rattle.grammar.proofs.CxxBack.{cxx_shim_size, body_rules, cxx_body_tokens, cxx_body_back}
+use Rattle.grammar.proofs.RuleFacts.{name_no_slot, symbol_no_return, front_snoc, held_no_slot}
+
+-- return types
+
+abbrev pub result_size : Result → ℕ
+result_size void = 0
+result_size ptr_len = 0
+result_size fat = 0
+result_size int = 0
+result_size (value x) = type_size x
+
+abbrev pub result_readable : Result → Bool
+result_readable void = true
+result_readable ptr_len = true
+result_readable fat = true
+result_readable int = true
+result_readable (value x) = parts_ok x
+
+pub result_readable_lem : (main : Bool) (t : Result) → result_ok main t ≡ true → result_readable t ≡ true
+unfolding result_ok
+result_readable_lem main void o = refl
+result_readable_lem main ptr_len o = refl
+result_readable_lem main fat o = refl
+result_readable_lem main int o = refl
+result_readable_lem main (value x) o = (both (leb (levels x) max_levels) (parts_ok x) o).1
+
+-- what holds of tokens that begin as a return type can holds of each
+module _ (P : List Token → Type 0) (path : (r : List Token) → P (scope ∷ r))
+    (words : (r : List Token) → P (quoted "bool" r) × P (quoted "char" r) × P (quoted "float" r) × P (quoted "double" r))
+    (plain : (r : List Token) → P (quoted "void" r) × P (quoted "int" r)) where
+  pub result_first : (t : Result) → result_readable t ≡ true → (r : List Token) → P (result_tokens t r)
+  result_first void o r = (plain r).0
+  result_first ptr_len o r = path _
+  result_first fat o r = path _
+  result_first int o r = (plain r).1
+  result_first (value x) o r = type_first P path words x o r
+
+no_int : (x : CxxType) → parts_ok x ≡ true → (r : List Token) → begins "int" (type_tokens x r) ≡ false
+unfolding same
+no_int = type_first (λ r. begins "int" r ≡ false) (λ r. refl) (λ r. (refl, refl, refl, refl))
+
+module _ {A : Type 0} where
+  pub result_back : (t : Result) (n : ℕ) → result_size t ≤ n → result_readable t ≡ true → (r : List Token) →
+      type_ends r ≡ true → (k : Result → List Token → Option A) → result_p n (result_tokens t r) k ≡ k t r
+  unfolding same result_p parts_ok
+  result_back void n l o r h k = refl
+  result_back ptr_len n l o r h k =
+      opened (λ r k. type_p n r k) (λ r k. types_p n r k) (bytes "rust") (bytes "repr" ∷ bytes "PtrLen" ∷ []) r
+      (λ b r. on_result b r k) (scope_free [] r h)
+  result_back fat n l o r h k =
+      opened (λ r k. type_p n r k) (λ r k. types_p n r k) (bytes "rust") (bytes "repr" ∷ bytes "Fat" ∷ []) r
+      (λ b r. on_result b r k) (scope_free [] r h)
+  result_back int n l o r h k = refl
+  result_back (value (suffixed b ss)) n l o r h k =
+      rw (no_void (suffixed b ss) o r, fork, no_int (suffixed b ss) o r, fork)
+      (base_back b n (omega arith) o (each_tokens suffix_tokens ss r) (scope_free ss r h) (λ b r. on_result b r k)
+      ∙ suffixes_back ss r (λ ss r. k (value (suffixed b ss)) r) h)
+
+-- parameters
+
+abbrev pub parameter_size : Parameter → ℕ
+parameter_size (named x s) = type_size x
+parameter_size (slot x) = type_size x
+
+abbrev pub parameter_readable : Parameter → Bool
+parameter_readable (named x s) = not (same s (bytes "return$")) && parts_ok x
+parameter_readable (slot x) = parts_ok x
+
+named_readable : (limit : ℕ) (x : CxxType) (s : Name) → (type_ok limit x && is_name s) ≡ true →
+    parameter_readable (named x s) ≡ true
+named_readable limit x s o =
+    let q = both (type_ok limit x) (is_name s) o in
+    rw (name_no_slot s q.1) (both (leb (levels x) limit) (parts_ok x) q.0).1
+
+declared_readable : (x : Parameter) → declared_ok x ≡ true → parameter_readable x ≡ true
+unfolding declared_ok
+declared_readable (named x s) o = named_readable max_declared_levels x s o
+declared_readable (slot x) o = (both (leb (levels x) max_declared_levels) (parts_ok x) o).1
+
+argument_readable : (x : Parameter) → argument_ok x ≡ true → parameter_readable x ≡ true
+unfolding argument_ok
+argument_readable (named x s) o = named_readable max_levels x s o
+argument_readable (slot x) o = absurd (false≢true o)
+
+parameter_open : (x : Parameter) → parameter_readable x ≡ true → (r : List Token) → begins ")" (parameter_tokens x r) ≡ false
+parameter_open (named x s) o r = no_close x (both (not (same s (bytes "return$"))) (parts_ok x) o).1 (word s ∷ r)
+parameter_open (slot x) o r = no_close x o (quoted "return$" r)
+
+module _ {A : Type 0} where
+  parameter_back : (x : Parameter) (n : ℕ) → parameter_size x ≤ n → parameter_readable x ≡ true → (r : List Token)
+      (k : Parameter → List Token → Option A) →
+      (parameter_p n (parameter_tokens x (quoted ")" r)) k ≡ k x (quoted ")" r))
+      × (parameter_p n (parameter_tokens x (quoted "," r)) k ≡ k x (quoted "," r))
+  unfolding same parameter_p
+  parameter_back (named x s) n l o r k =
+      let q = both (not (same s (bytes "return$"))) (parts_ok x) o in
+      let d = not-true (same s (bytes "return$")) q.0 in
+      (type_back x n l q.1 (word s ∷ quoted ")" r) refl _ ∙ rw (d, word_p), type_back x n l q.1 (word s ∷ quoted "," r) refl _ ∙ rw (d, word_p))
+  parameter_back (slot x) n l o r k =
+      (type_back x n l o (quoted "return$ )" r) refl _, type_back x n l o (quoted "return$ ," r) refl _)
+
+  pub parameters_back : (xs : List Parameter) (n : ℕ) → list_size parameter_size xs ≤ n → every parameter_readable xs ≡ true →
+      (r : List Token) (k : List Parameter → List Token → Option A) →
+      list_p n parameter_p (list_tokens parameter_tokens xs (quoted ")" r)) k ≡ k xs (quoted ")" r)
+  parameters_back = list_back parameter_tokens parameter_size parameter_readable parameter_p parameter_open parameter_back
 
 -- operands and locals
 
@@ -182,29 +283,10 @@ item_size (defines d) = 1
 item_size (shim s) =
     list_size (λ x. 0) s.comments + (result_size s.result + (list_size parameter_size s.parameters
     + (list_size local_size s.locals + call_size s.call)))
-item_size (cxx_shim s) = suc (result_size s.result + (list_size parameter_size s.parameters + cxx_shim_size s))
 
 no_comment : (t : Result) → result_readable t ≡ true → (r : List Token) → is_comment (result_tokens t r) ≡ false
 no_comment =
     result_first (λ r. is_comment r ≡ false) (λ r. refl) (λ r. (refl, refl, refl, refl)) (λ r. (refl, refl))
-
--- the rules of a C++ shim: of its result, its parameters and its body
-cxx_rules : (s : CxxShim) (depth : ℕ) → cxx_shim_ok depth s ≡ true →
-    (result_ok (is_root_main depth (free s.symbol)) s.result ≡ true) × (every declared_ok s.parameters ≡ true)
-    × (body_rules s ≡ true)
-unfolding cxx_shim_ok
-cxx_rules s depth o =
-    let few : Bool = few_arguments (is_self_of s.pointer.class) is_slot s.parameters in
-    let rest : Bool = every declared_ok s.parameters && (few && body_rules s) in
-    let a = both (is_symbol s.symbol) (result_ok (is_root_main depth (free s.symbol)) s.result && rest) o in
-    let b = both (result_ok (is_root_main depth (free s.symbol)) s.result) rest a.1 in
-    let c = both (every declared_ok s.parameters) (few && body_rules s) b.1 in
-    (b.0, c.0, (both few (body_rules s) c.1).1)
-
-pub cxx_pointer : (s : CxxShim) (depth : ℕ) (c : Bool) → item_ok depth c (cxx_shim s) ≡ true → pointer_ok s.pointer ≡ true
-unfolding item_ok
-cxx_pointer s depth c o =
-    (both (pointer_ok s.pointer) _ (cxx_rules s depth (both c (cxx_shim_ok depth s) o).1).2).0
 
 head_ends : (h : Head) (r : List Token) → type_ends (head_tokens h (quoted "(" r)) ≡ true
 unfolding same
@@ -224,12 +306,11 @@ module _ {A : Type 0} where
       all_true [] = refl
       all_true (x ∷ xs) = all_true xs
 
-  head_back : (cs : List (List ℕ)) (t : Result) (h : Head) (n : ℕ) (in_c : Bool) (r : List Token)
-      (k : Item → List Token → Option A) →
-      word_p (head_tokens h (quoted "(" r)) (λ a r. path_p r (λ p r. named_p n in_c cs t a p r k))
-      ≡ parameters_p n in_c cs t h (quoted "(" r) k
-  head_back cs t (free f) n in_c r k = refl
-  head_back cs t (method a f) n in_c r k = refl
+  head_back : (cs : List (List ℕ)) (t : Result) (h : Head) (n : ℕ) (r : List Token) (k : Item → List Token → Option A) →
+      word_p (head_tokens h (quoted "(" r)) (λ a r. path_p r (λ p r. named_p n cs t a p r k))
+      ≡ parameters_p n cs t h (quoted "(" r) k
+  head_back cs t (free f) n r k = refl
+  head_back cs t (method a f) n r k = refl
 
   -- const and noexcept, each there or not
   flags_back : (c e : Bool) (r : List Token) → begins "const" r ≡ false → begins "noexcept" r ≡ false →
@@ -242,35 +323,35 @@ module _ {A : Type 0} where
   flags_back false false r p q k = rw (p, fork, q, fork)
 
   -- comments, a head and what follows it
-  signature_back : (cs : List (List ℕ)) (t : Result) (h : Head) (ps : List Parameter) (c e : Bool) (n : ℕ) (in_c : Bool) →
+  signature_back : (cs : List (List ℕ)) (t : Result) (h : Head) (ps : List Parameter) (c e : Bool) (n : ℕ) →
       list_size (λ x. 0) cs ≤ n → result_size t ≤ n → list_size parameter_size ps ≤ n →
       result_readable t ≡ true → every parameter_readable ps ≡ true →
       (r : List Token) → begins "const" r ≡ false → begins "noexcept" r ≡ false → (k : Item → List Token → Option A) →
-      item_p n in_c (each_tokens comment_tokens cs (signature_tokens t h ps c e r)) k ≡ tail_p n in_c cs t h ps c e r k
+      item_p n (each_tokens comment_tokens cs (signature_tokens t h ps c e r)) k ≡ tail_p n cs t h ps c e r k
   unfolding same item_p parameters_p
-  signature_back cs t h ps c e n in_c l₁ l₂ l₃ o q r f g k =
+  signature_back cs t h ps c e n l₁ l₂ l₃ o q r f g k =
       comments_back cs n l₁ _ (no_comment t o _) _
       ∙ result_back t n l₂ o _ (head_ends h _) _
-      ∙ head_back cs t h n in_c _ k
+      ∙ head_back cs t h n _ k
       ∙ parameters_back ps n l₃ q _ _
-      ∙ flags_back c e r f g (λ c e r. tail_p n in_c cs t h ps c e r k)
+      ∙ flags_back c e r f g (λ c e r. tail_p n cs t h ps c e r k)
 
-  declaration_back : (d : Declaration) (n depth : ℕ) (in_c : Bool) → item_size (declares d) ≤ n → declaration_ok depth d ≡ true →
-      (r : List Token) (k : Item → List Token → Option A) → item_p n in_c (declaration_tokens d r) k ≡ k (declares d) r
+  declaration_back : (d : Declaration) (n depth : ℕ) → item_size (declares d) ≤ n → declaration_ok depth d ≡ true →
+      (r : List Token) (k : Item → List Token → Option A) → item_p n (declaration_tokens d r) k ≡ k (declares d) r
   unfolding same tail_p declaration_ok
-  declaration_back d n depth in_c l o r k =
+  declaration_back d n depth l o r k =
       let a = both (is_symbol d.symbol) (result_ok (is_root_main depth (free d.symbol)) d.result &&
       (every declared_ok d.parameters && few_arguments is_self is_slot d.parameters)) o in
       let b = both (result_ok (is_root_main depth (free d.symbol)) d.result)
       (every declared_ok d.parameters && few_arguments is_self is_slot d.parameters) a.1 in
       let c = both (every declared_ok d.parameters) (few_arguments is_self is_slot d.parameters) b.1 in
-      signature_back [] d.result (free d.symbol) d.parameters false d.noexcept n in_c (omega arith) (omega arith)
+      signature_back [] d.result (free d.symbol) d.parameters false d.noexcept n (omega arith) (omega arith)
       (omega arith) (result_readable_lem (is_root_main depth (free d.symbol)) d.result b.0)
       (every_weaken declared_ok parameter_readable declared_readable d.parameters c.0) (quoted ";" r) refl refl k
 
   shim_back : (s : Shim) (n depth : ℕ) → item_size (shim s) ≤ n → shim_ok depth s ≡ true → (r : List Token)
-      (k : Item → List Token → Option A) → item_p n false (shim_tokens s r) k ≡ k (shim s) r
-  unfolding same tail_p shim_p shim_ok
+      (k : Item → List Token → Option A) → item_p n (shim_tokens s r) k ≡ k (shim s) r
+  unfolding same tail_p shim_ok
   shim_back s n depth l o r k =
       let rest₁ : Bool = every local_ok s.locals && call_ok s.call in
       let rest₂ : Bool = leb (length s.parameters) max_arguments && rest₁ in
@@ -282,7 +363,7 @@ module _ {A : Type 0} where
       let d = both (every argument_ok s.parameters) rest₂ c.1 in
       let e = both (leb (length s.parameters) max_arguments) rest₁ d.1 in
       let f = both (every local_ok s.locals) (call_ok s.call) e.1 in
-      signature_back s.comments s.result s.head s.parameters s.is_const s.noexcept n false (omega arith)
+      signature_back s.comments s.result s.head s.parameters s.is_const s.noexcept n (omega arith)
       (omega arith) (omega arith) (result_readable_lem (is_root_main depth s.head) s.result b.0)
       (every_weaken argument_ok parameter_readable argument_readable s.parameters d.0) _ refl refl k
       ∙ locals_back s.locals n (omega arith) f.0 _ (no_local s.call.form s.call.symbol _) _
@@ -290,42 +371,28 @@ module _ {A : Type 0} where
       ∙ error_test_back s.error_test s.ending r _
       ∙ ending_back s.ending r _
 
-  cxx_shim_back : (s : CxxShim) (n depth : ℕ) → item_size (cxx_shim s) ≤ n → cxx_shim_ok depth s ≡ true → (r : List Token)
-      (k : Item → List Token → Option A) → item_p n true (cxx_shim_tokens s r) k ≡ k (cxx_shim s) r
-  unfolding same tail_p
-  cxx_shim_back s n depth l o r k =
-      let q = cxx_rules s depth o in
-      signature_back [] s.result (free s.symbol) s.parameters false s.noexcept n true (omega arith) (omega arith)
-      (omega arith) (result_readable_lem (is_root_main depth (free s.symbol)) s.result q.0)
-      (every_weaken declared_ok parameter_readable declared_readable s.parameters q.1) (quoted "{" (cxx_body_tokens s r)) refl
-      refl k
-      ∙ cxx_body_back s n (omega arith) q.2 r k
-
-  measure_back : (m : Measure) (x y : Name) (n : ℕ) (in_c : Bool) (r : List Token) (k : Item → List Token → Option A) →
+  measure_back : (m : Measure) (x y : Name) (n : ℕ) (r : List Token) (k : Item → List Token → Option A) →
       path_p (quoted ":: layout ::" (measure_tokens m (quoted "( ) noexcept { return" (word y ∷ quoted "( ) ; }" r))))
-      (λ p r. named_p n in_c [] (value (suffixed (atom usize) [])) x p r k)
+      (λ p r. named_p n [] (value (suffixed (atom usize) [])) x p r k)
       ≡ k (defines (record { owner = x; measure = m; symbol = y })) r
   unfolding same
-  measure_back size x y n in_c r k = refl
-  measure_back align x y n in_c r k = refl
+  measure_back size x y n r k = refl
+  measure_back align x y n r k = refl
 
-  layout_back : (d : LayoutDefinition) (n : ℕ) (in_c : Bool) → 1 ≤ n → (r : List Token) (k : Item → List Token → Option A) →
-      item_p n in_c (layout_tokens d r) k ≡ k (defines d) r
+  layout_back : (d : LayoutDefinition) (n : ℕ) → 1 ≤ n → (r : List Token) (k : Item → List Token → Option A) →
+      item_p n (layout_tokens d r) k ≡ k (defines d) r
   unfolding same item_p parts_ok base_ok
-  layout_back d n in_c l r k =
+  layout_back d n l r k =
       comments_back [] n l _ refl _
       ∙ result_back (value (suffixed (atom usize) [])) n l refl _ refl _
-      ∙ measure_back d.measure d.owner d.symbol n in_c r k
+      ∙ measure_back d.measure d.owner d.symbol n r k
 
-  pub item_back : (i : Item) (n depth : ℕ) (in_c : Bool) → item_size i ≤ n → item_ok depth in_c i ≡ true →
-      (r : List Token) (k : Item → List Token → Option A) → item_p n in_c (item_tokens i r) k ≡ k i r
+  pub item_back : (i : Item) (n depth : ℕ) (in_extern_c : Bool) → item_size i ≤ n → item_ok depth in_extern_c i ≡ true →
+      (r : List Token) (k : Item → List Token → Option A) → item_p n (item_tokens i r) k ≡ k i r
   unfolding item_ok
-  item_back (declares d) n depth c l o r k = declaration_back d n depth c l (both c (declaration_ok depth d) o).1 r k
-  item_back (defines d) n depth c l o r k = layout_back d n c l r k
-  item_back (shim s) n depth true l o r k = absurd (false≢true o)
-  item_back (shim s) n depth false l o r k = shim_back s n depth l o r k
-  item_back (cxx_shim s) n depth true l o r k = cxx_shim_back s n depth l o r k
-  item_back (cxx_shim s) n depth false l o r k = absurd (false≢true o)
+  item_back (declares d) n depth c l o r k = declaration_back d n depth l (both c (declaration_ok depth d) o).1 r k
+  item_back (defines d) n depth c l o r k = layout_back d n l r k
+  item_back (shim s) n depth c l o r k = shim_back s n depth l (both (not c) (shim_ok depth s) o).1 r k
 
 -- what holds of tokens that begin with ::, a comment or a word of a return type holds of each item's tokens
 module _ (P : List Token → Type 0) (path : (r : List Token) → P (scope ∷ r))
@@ -349,6 +416,3 @@ module _ (P : List Token → Type 0) (path : (r : List Token) → P (scope ∷ r
       let a = both (comments_ok s.comments) _ (both (not c) (shim_ok depth s) o).1 in
       let b = both (result_ok (is_root_main depth s.head) s.result) _ a.1 in
       head_first s.comments s.result (result_readable_lem (is_root_main depth s.head) s.result b.0) _
-  item_first (cxx_shim s) depth c o r =
-      let q = cxx_rules s depth (both c (cxx_shim_ok depth s) o).1 in
-      head_first [] s.result (result_readable_lem (is_root_main depth (free s.symbol)) s.result q.0) _

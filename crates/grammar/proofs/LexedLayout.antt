@@ -4,11 +4,11 @@ use mathlib.Core.Bool.{false≢true}
 use Rattle.lexical.specs.Bytes.{bytes, every}
 use Rattle.lexical.proofs.BoolLaws.{both, and_of, by_cases}
 use Rattle.lexical.proofs.ByteLaws.{byte_eq, every_snoc}
-use Rattle.grammar.specs.Token.{Token, word, mark, scope, colon, dot_star, linkage, comment, word_char, mark_char}
+use Rattle.grammar.specs.Token.{Token, word, mark, scope, colon, linkage, comment, word_char, mark_char}
 use Rattle.grammar.specs.Layout.{blank_char, nonempty, ends_in, in_line}
 use Rattle.grammar.specs.Layout.{Layout, finished, blank, token}
-use Rattle.grammar.proofs.Lexer.{Mode, between, in_word, after_colon, after_dot, after_slash, after_quote, after_quote_c}
-use Rattle.grammar.proofs.Lexer.{in_comment, run, lex}
+use Rattle.grammar.proofs.Lexer.{Mode, between, in_word, after_colon, after_slash, after_quote, after_quote_c, in_comment}
+use Rattle.grammar.proofs.Lexer.{run, lex}
 
 -- what the lexer leaves open of a token's form
 abbrev pub sound : Token → Bool
@@ -16,7 +16,6 @@ sound (word s) = true
 sound (mark c) = mark_char c
 sound scope = true
 sound colon = true
-sound dot_star = true
 sound linkage = true
 sound (comment s) = not (ends_in 92 s)
 
@@ -30,7 +29,6 @@ pending : Mode → List ℕ
 pending between = []
 pending (in_word a) = a
 pending after_colon = bytes ":"
-pending after_dot = bytes "."
 pending after_slash = bytes "/"
 pending after_quote = bytes "\""
 pending after_quote_c = bytes "\"C"
@@ -40,7 +38,6 @@ fitting : Mode → Bool
 fitting between = true
 fitting (in_word a) = nonempty a && every word_char a
 fitting after_colon = true
-fitting after_dot = true
 fitting after_slash = true
 fitting after_quote = true
 fitting after_quote_c = true
@@ -55,12 +52,11 @@ unfolding every Continues pending fitting
 start c r ih =
     by_cases (word_char c) (λ e. rw e (λ h. ih (in_word (c ∷ [])) (rw e) h))
     (λ e. by_cases (eqb c 58) (λ f. rw (byte_eq c 58 f) (λ h. ih after_colon refl h))
-    (λ f. by_cases (eqb c 46) (λ d. rw (byte_eq c 46 d) (λ h. ih after_dot refl h))
-    (λ d. by_cases (eqb c 47) (λ g. rw (byte_eq c 47 g) (λ h. ih after_slash refl h))
+    (λ f. by_cases (eqb c 47) (λ g. rw (byte_eq c 47 g) (λ h. ih after_slash refl h))
     (λ g. by_cases (eqb c 34) (λ k. rw (byte_eq c 34 k) (λ h. ih after_quote refl h))
-    (λ k. by_cases (blank_char c) (λ l. rw (e, f, d, g, k, l) (λ h. blank l (ih between refl h)))
-    (λ l. rw (e, f, d, g, k, l) (λ h.
-    let p = both (mark_char c) (all_sound (lex r)) h in token {t = mark c} {s = r} p.0 (rw d) (ih between refl p.1))))))))
+    (λ k. by_cases (blank_char c) (λ l. rw (e, f, g, k, l) (λ h. blank l (ih between refl h)))
+    (λ l. rw (e, f, g, k, l) (λ h.
+    let p = both (mark_char c) (all_sound (lex r)) h in token {t = mark c} p.0 refl (ih between refl p.1)))))))
 
 pub some_snoc : (a : List ℕ) (c : ℕ) → nonempty (a ++ (c ∷ [])) ≡ true
 some_snoc [] c = refl
@@ -86,13 +82,6 @@ module _ (c : ℕ) (r : List ℕ) (ih : Continues r) where
       by_cases (eqb c 58) (λ e. rw (byte_eq c 58 e) (λ h. token {t = scope} refl refl (ih between refl h)))
       (λ e. let q : run after_colon (c ∷ r) ≡ colon ∷ lex (c ∷ r) = rw e in
       rw q (λ h. token {t = colon} {s = c ∷ r} refl (rw e) (start c r ih h)))
-
-  step_dot : Step after_dot
-  unfolding every Continues pending fitting Step
-  step_dot =
-      by_cases (eqb c 42) (λ e. rw (byte_eq c 42 e) (λ h. token {t = dot_star} refl refl (ih between refl h)))
-      (λ e. let q : run after_dot (c ∷ r) ≡ mark 46 ∷ lex (c ∷ r) = rw e in
-      rw q (λ h. token {t = mark 46} {s = c ∷ r} refl (rw e) (start c r ih h)))
 
   step_slash : Step after_slash
   unfolding every Continues pending fitting Step
@@ -125,7 +114,6 @@ unfolding every Continues pending fitting Step
 laid_all [] between i h = finished
 laid_all [] (in_word a) i h = token {t = word a} i refl finished
 laid_all [] after_colon i h = token {t = colon} refl refl finished
-laid_all [] after_dot i h = token {t = mark 46} refl refl finished
 laid_all [] after_slash i h = absurd (false≢true h)
 laid_all [] after_quote i h = absurd (false≢true h)
 laid_all [] after_quote_c i h = absurd (false≢true h)
@@ -135,7 +123,6 @@ laid_all [] (in_comment a) i h =
 laid_all (c ∷ r) between i h = start c r (laid_all r) h
 laid_all (c ∷ r) (in_word a) i h = step_word_lem c r (laid_all r) a i h
 laid_all (c ∷ r) after_colon i h = step_colon c r (laid_all r) h
-laid_all (c ∷ r) after_dot i h = step_dot c r (laid_all r) h
 laid_all (c ∷ r) after_slash i h = step_slash c r (laid_all r) h
 laid_all (c ∷ r) after_quote i h = step_quote c r (laid_all r) h
 laid_all (c ∷ r) after_quote_c i h = step_quote_c c r (laid_all r) h

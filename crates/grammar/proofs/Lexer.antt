@@ -4,32 +4,30 @@ use mathlib.Core.Bool.{false≢true}
 use Rattle.lexical.specs.Bytes.{bytes, every}
 use Rattle.lexical.proofs.BoolLaws.{not-true, both}
 use Rattle.lexical.proofs.ByteLaws.{byte_eq, each}
-use Rattle.grammar.specs.Token.{Token, word, mark, scope, colon, dot_star, linkage, comment, word_char}
-use Rattle.grammar.specs.Token.{spelling}
-use Rattle.grammar.specs.Layout.{blank_char, ends_in, in_line, well_formed, no_word_char, no_colon, starts_in, line_end}
+use Rattle.grammar.specs.Token.{Token, word, mark, scope, colon, linkage, comment, word_char, spelling}
+use Rattle.grammar.specs.Layout.{blank_char, ends_in, in_line, well_formed, no_word_char, no_colon, line_end}
 use Rattle.grammar.specs.Layout.{ends_before, Layout, finished, blank, token}
 
 pub data Mode : Type 0 where
   between : Mode
   in_word : List ℕ → Mode
-  after_colon after_dot after_slash after_quote after_quote_c : Mode
+  after_colon after_slash after_quote after_quote_c : Mode
   in_comment : List ℕ → Mode
 
 -- the mode after a byte that begins a token, and what it emits
 abbrev pub begin : ℕ → Mode
 begin c =
     cond (word_char c) (in_word (c ∷ []))
-    (cond (eqb c 58) after_colon (cond (eqb c 46) after_dot (cond (eqb c 47) after_slash (cond (eqb c 34) after_quote between))))
+    (cond (eqb c 58) after_colon (cond (eqb c 47) after_slash (cond (eqb c 34) after_quote between)))
 
 -- a byte that is no blank and begins nothing is a mark, well-formed or not
 abbrev pub emit_first : ℕ → List Token → List Token
-emit_first c ts = cond (word_char c || eqb c 58 || eqb c 46 || eqb c 47 || eqb c 34 || blank_char c) ts (mark c ∷ ts)
+emit_first c ts = cond (word_char c || eqb c 58 || eqb c 47 || eqb c 34 || blank_char c) ts (mark c ∷ ts)
 
 abbrev pub next : Mode → ℕ → Mode
 next between c = begin c
 next (in_word a) c = cond (word_char c) (in_word (a ++ (c ∷ []))) (begin c)
 next after_colon c = cond (eqb c 58) between (begin c)
-next after_dot c = cond (eqb c 42) between (begin c)
 next after_slash c = cond (eqb c 47) (in_comment []) (begin c)
 next after_quote c = cond (eqb c 67) after_quote_c (begin c)
 next after_quote_c c = cond (eqb c 34) between (begin c)
@@ -39,7 +37,6 @@ abbrev pub emit : Mode → ℕ → List Token → List Token
 emit between c ts = emit_first c ts
 emit (in_word a) c ts = cond (word_char c) ts (word a ∷ emit_first c ts)
 emit after_colon c ts = cond (eqb c 58) (scope ∷ ts) (colon ∷ emit_first c ts)
-emit after_dot c ts = cond (eqb c 42) (dot_star ∷ ts) (mark 46 ∷ emit_first c ts)
 emit after_slash c ts = cond (eqb c 47) ts (mark 47 ∷ emit_first c ts)
 emit after_quote c ts = cond (eqb c 67) ts (mark 34 ∷ emit_first c ts)
 emit after_quote_c c ts = cond (eqb c 34) (linkage ∷ ts) (mark 34 ∷ mark 67 ∷ emit_first c ts)
@@ -49,7 +46,6 @@ abbrev pub flush : Mode → List Token
 flush between = []
 flush (in_word a) = word a ∷ []
 flush after_colon = colon ∷ []
-flush after_dot = mark 46 ∷ []
 flush after_slash = mark 47 ∷ []
 flush after_quote = mark 34 ∷ []
 flush after_quote_c = mark 34 ∷ mark 67 ∷ []
@@ -69,10 +65,6 @@ word_end a (c ∷ r) e = rw (not-true (word_char c) e)
 pub colon_end : (r : List ℕ) → no_colon r ≡ true → run after_colon r ≡ colon ∷ run between r
 colon_end [] e = refl
 colon_end (c ∷ r) e = rw (not-true (eqb c 58) e)
-
-pub dot_end : (r : List ℕ) → not (starts_in 42 r) ≡ true → run after_dot r ≡ mark 46 ∷ run between r
-dot_end [] e = refl
-dot_end (c ∷ r) e = rw (not-true (eqb c 42) e)
 
 -- a layout's tokens are what the lexer finds
 word_run : (u a r : List ℕ) → every word_char u ≡ true → no_word_char r ≡ true →
@@ -100,40 +92,10 @@ token_run (word (c ∷ u)) r h e =
     let p = both (word_char c) (every word_char u) h in
     rw p.0 (word_run u (c ∷ []) r p.1 e)
 token_run (mark c) r h e =
-    each (λ c. ends_before (mark c) r ≡ true → lex (c ∷ r) ≡ mark c ∷ lex r) (bytes "(){}[]<>,;&*=.") (
-      λ e. refl,
-      (
-        λ e. refl,
-        (
-          λ e. refl,
-          (
-            λ e. refl,
-            (
-              λ e. refl,
-              (
-                λ e. refl,
-                (
-                  λ e. refl,
-                  (
-                    λ e. refl,
-                    (
-                      λ e. refl,
-                      (
-                        λ e. refl,
-                        (λ e. refl, (λ e. refl, (λ e. refl, (λ e. dot_end r e, tt)))),
-                      ),
-                    ),
-                  ),
-                ),
-              ),
-            ),
-          ),
-        ),
-      ),
-    ) c h e
+    each (λ c. lex (c ∷ r) ≡ mark c ∷ lex r) (bytes "(){}<>,;&*=.")
+    (refl, (refl, (refl, (refl, (refl, (refl, (refl, (refl, (refl, (refl, (refl, (refl, tt)))))))))))) c h
 token_run scope r h e = refl
 token_run colon r h e = colon_end r e
-token_run dot_star r h e = refl
 token_run linkage r h e = refl
 token_run (comment s) r h e = line_run s [] r (both (every in_line s) (not (ends_in 92 s)) h).0 e
 

@@ -8,8 +8,6 @@ pub mod Decimal
 pub mod TypeBack
 pub mod RuleFacts
 pub mod ListBack
-pub mod HeadBack
-pub mod CxxBack
 pub mod ItemBack
 pub mod TextBack
 pub mod Braces
@@ -19,9 +17,7 @@ pub mod Literal
 pub mod Checked
 pub mod Computing
 pub mod Forms
-pub mod CxxForms
 pub mod Examples
 pub mod Choices
-pub mod CxxChoices
 -- Readings by composition:
 pub mod Pieces

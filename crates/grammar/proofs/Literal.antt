@@ -3,12 +3,11 @@ use Rattle.std.proofs.Common.{◌≡◌, ℕ, Bool, true, false, cond, not, ◌|
 use mathlib.Core.Bool.{false≢true}
 use Rattle.lexical.proofs.BoolLaws.{both, and_of}
 use Rattle.lexical.proofs.ByteLaws.{byte_eq}
-use Rattle.grammar.specs.Token.{Token, word, mark, scope, colon, dot_star, linkage, comment, word_char}
+use Rattle.grammar.specs.Token.{Token, word, mark, scope, colon, linkage, comment, word_char}
 use Rattle.lexical.specs.Bytes.{every}
-use Rattle.grammar.specs.Layout.{blank_char, ends_in, in_line, well_formed, no_word_char, no_colon, starts_in, line_end}
-use Rattle.grammar.specs.Layout.{Layout, finished, blank, token}
-use Rattle.grammar.proofs.Lexer.{Mode, between, in_word, after_colon, after_dot, after_slash, after_quote, after_quote_c}
-use Rattle.grammar.proofs.Lexer.{in_comment, emit_first, next, emit, run, lex, lexed, word_end, colon_end, dot_end}
+use Rattle.grammar.specs.Layout.{blank_char, ends_in, in_line, well_formed, no_word_char, no_colon, line_end, Layout, finished, blank, token}
+use Rattle.grammar.proofs.Lexer.{Mode, between, in_word, after_colon, after_slash, after_quote, after_quote_c, in_comment}
+use Rattle.grammar.proofs.Lexer.{emit_first, next, emit, run, lex, lexed, word_end, colon_end}
 use Rattle.grammar.proofs.LexedLayout.{sound, all_sound, laid}
 
 abbrev pub final : Mode → List ℕ → Mode
@@ -20,7 +19,6 @@ abbrev pub seam : Mode → List ℕ → Bool
 seam between r = true
 seam (in_word a) r = no_word_char r
 seam after_colon r = no_colon r
-seam after_dot r = not (starts_in 42 r)
 seam after_slash r = false
 seam after_quote r = false
 seam after_quote_c r = false
@@ -31,7 +29,7 @@ cond_append true x y z = refl
 cond_append false x y z = refl
 
 begin_append : (c : ℕ) (x y : List Token) → emit_first c x ++ y ≡ emit_first c (x ++ y)
-begin_append c x y = cond_append (word_char c || eqb c 58 || eqb c 46 || eqb c 47 || eqb c 34 || blank_char c) x (mark c ∷ x) y
+begin_append c x y = cond_append (word_char c || eqb c 58 || eqb c 47 || eqb c 34 || blank_char c) x (mark c ∷ x) y
 
 -- a token that ends before c, or with it
 late_append : (ends : Bool) (us vs : List Token) (c : ℕ) (x y : List Token) →
@@ -43,7 +41,6 @@ emit_append : (mode : Mode) (c : ℕ) (x y : List Token) → emit mode c x ++ y 
 emit_append between c x y = begin_append c x y
 emit_append (in_word a) c x y = late_append (word_char c) [] (word a ∷ []) c x y
 emit_append after_colon c x y = late_append (eqb c 58) (scope ∷ []) (colon ∷ []) c x y
-emit_append after_dot c x y = late_append (eqb c 42) (dot_star ∷ []) (mark 46 ∷ []) c x y
 emit_append after_slash c x y = late_append (eqb c 47) [] (mark 47 ∷ []) c x y
 emit_append after_quote c x y = late_append (eqb c 67) [] (mark 34 ∷ []) c x y
 emit_append after_quote_c c x y = late_append (eqb c 34) (linkage ∷ []) (mark 34 ∷ mark 67 ∷ []) c x y
@@ -58,7 +55,6 @@ run_append : (a : List ℕ) (mode : Mode) (r : List ℕ) → seam (final mode a)
 run_append [] between r h = refl
 run_append [] (in_word a) r h = word_end a r h
 run_append [] after_colon r h = colon_end r h
-run_append [] after_dot r h = dot_end r h
 run_append [] after_slash r h = absurd (false≢true h)
 run_append [] after_quote r h = absurd (false≢true h)
 run_append [] after_quote_c r h = absurd (false≢true h)
@@ -75,7 +71,6 @@ sound_of (word s) h = refl
 sound_of (mark c) h = h
 sound_of scope h = refl
 sound_of colon h = refl
-sound_of dot_star h = refl
 sound_of linkage h = refl
 sound_of (comment s) h = (both (every in_line s) (not (ends_in 92 s)) h).1
 

@@ -4,7 +4,7 @@ use mathlib.Core.Option.{Option, none, some}
 use Prim.Native.String.{String}
 use Rattle.lexical.specs.Bytes.{bytes, same}
 use Rattle.lexical.specs.Decimal.{decimal}
-use Rattle.grammar.specs.Token.{Token, word, mark, scope, colon, dot_star, linkage, comment, quoted}
+use Rattle.grammar.specs.Token.{Token, word, mark, scope, colon, linkage, comment, quoted}
 use Rattle.grammar.specs.Types.{Name, Atom, bool, char, u8, u16, u32, u64, usize, i8, i16, i32, i64, isize}
 use Rattle.grammar.specs.Types.{f32, f64, cxx_string, rust_string, Template, box, vec, unique_ptr, shared_ptr}
 use Rattle.grammar.specs.Types.{weak_ptr, vector, Suffix, reference, pointer, CxxType, suffixed, Base, atom, str}
@@ -13,12 +13,8 @@ use Rattle.grammar.specs.Tree.{Result, void, ptr_len, fat, int, value, Parameter
 use Rattle.grammar.specs.Tree.{Measure, size, align, Head, free, method, Local, held, room}
 use Rattle.grammar.specs.Tree.{Operand, receiver, direct, into_raw, release, address, held_address, slot_address}
 use Rattle.grammar.specs.Tree.{CallForm, bare, error, returned, dereferenced, in_from_raw, in_unique_ptr}
-use Rattle.grammar.specs.Tree.{in_new_unchecked, in_slice, Call, Ending, no_return, return_slot, move_slot}
-use Rattle.grammar.specs.Tree.{PointerLine, CxxOperand, plain_operand, from_raw_operand, unique_ptr_operand}
-use Rattle.grammar.specs.Tree.{string_operand, vec_operand, moved_operand, CxxCall, CxxValue, plain_value}
-use Rattle.grammar.specs.Tree.{address_value, into_raw_value, release_value, repr_value, CxxStatement, plain_statement}
-use Rattle.grammar.specs.Tree.{return_statement, new_statement, Item, declares, defines, shim, cxx_shim}
-use Rattle.grammar.specs.Tree.{Block, namespace, extern_c, Body, body_end, item, block}
+use Rattle.grammar.specs.Tree.{in_new_unchecked, in_slice, Call, Ending, no_return, return_slot, move_slot, Item}
+use Rattle.grammar.specs.Tree.{declares, defines, shim, Block, namespace, extern_c, Body, body_end, item, block}
 use Rattle.grammar.specs.Tree.{Line, struct_line, enum_line, using_line, Forward, forward_end, line, bare_namespace}
 use Rattle.grammar.specs.Tree.{Text, text}
 use Rattle.grammar.specs.Tokens.{each_tokens, path_tokens, result_tokens, measure_tokens, comment_tokens, block_tokens}
@@ -65,7 +61,6 @@ module _ {A : Type 0} where
   word_p (mark c ∷ r) k = none
   word_p (scope ∷ r) k = none
   word_p (colon ∷ r) k = none
-  word_p (dot_star ∷ r) k = none
   word_p (linkage ∷ r) k = none
   word_p (comment s ∷ r) k = none
 
@@ -75,7 +70,6 @@ module _ {A : Type 0} where
   comment_p (mark c ∷ r) k = none
   comment_p (scope ∷ r) k = none
   comment_p (colon ∷ r) k = none
-  comment_p (dot_star ∷ r) k = none
   comment_p (linkage ∷ r) k = none
   comment_p (comment s ∷ r) k = k s r
 
@@ -84,7 +78,6 @@ module _ {A : Type 0} where
   path_p (word s ∷ r) k = k [] (word s ∷ r)
   path_p (mark c ∷ r) k = k [] (mark c ∷ r)
   path_p (colon ∷ r) k = k [] (colon ∷ r)
-  path_p (dot_star ∷ r) k = k [] (dot_star ∷ r)
   path_p (linkage ∷ r) k = k [] (linkage ∷ r)
   path_p (comment s ∷ r) k = k [] (comment s ∷ r)
   path_p (scope ∷ []) k = none
@@ -92,7 +85,6 @@ module _ {A : Type 0} where
   path_p (scope ∷ (mark c ∷ r)) k = none
   path_p (scope ∷ (scope ∷ r)) k = none
   path_p (scope ∷ (colon ∷ r)) k = none
-  path_p (scope ∷ (dot_star ∷ r)) k = none
   path_p (scope ∷ (linkage ∷ r)) k = none
   path_p (scope ∷ (comment s ∷ r)) k = none
 
@@ -220,7 +212,6 @@ module _ {A : Type 0} where
   start_p f g (mark c ∷ r) k = none
   start_p f g (scope ∷ r) k = path_p (scope ∷ r) (λ p r. inside_p f g (opening p) r k)
   start_p f g (colon ∷ r) k = none
-  start_p f g (dot_star ∷ r) k = none
   start_p f g (linkage ∷ r) k = none
   start_p f g (comment s ∷ r) k = none
 
@@ -258,7 +249,6 @@ is_comment (word s ∷ r) = false
 is_comment (mark c ∷ r) = false
 is_comment (scope ∷ r) = false
 is_comment (colon ∷ r) = false
-is_comment (dot_star ∷ r) = false
 is_comment (linkage ∷ r) = false
 is_comment (comment s ∷ r) = true
 
@@ -358,10 +348,12 @@ module _ {A : Type 0} where
       fork "return * return$ . value ;" r (k return_slot)
       (λ r. fork "return :: std :: move ( return$ . value ) ;" r (k move_slot) (k no_return))
 
-  -- behind the opening brace of a shim
-  unfoldable pub shim_p : ℕ → List (List ℕ) → Result → Head → List Parameter → Bool → Bool → Parser A Item
-  shim_p n cs t h ps c e r k =
-      many_p n is_local local_p r (λ ls r. call_p n r (λ call r. error_test_p r (λ b r. ending_p r (λ f r.
+  -- behind a head's parameters: it declares, or a shim's body follows
+  unfoldable pub tail_p : ℕ → List (List ℕ) → Result → Head → List Parameter → Bool → Bool → Parser A Item
+  tail_p n cs t h ps c e r k =
+      fork ";" r
+      (λ r. cond (is_declared cs h c) (k (declares (record { result = t; symbol = name_of h; parameters = ps; noexcept = e })) r) none)
+      (λ r. need "{" r (λ r. many_p n is_local local_p r (λ ls r. call_p n r (λ call r. error_test_p r (λ b r. ending_p r (λ f r.
       need "}" r (k (shim (record {
         comments = cs;
         result = t;
@@ -373,123 +365,13 @@ module _ {A : Type 0} where
         call = call;
         error_test = b;
         ending = f;
-      })))))))
-
-  -- a name with a dollar behind it
-  unfoldable pub dollar_p : Parser A Name
-  dollar_p r k = word_p r (λ y r. cond (same y (front y ++ bytes "$")) (k (front y) r) none)
-
-  -- a class and the `:: *` behind it
-  abbrev pub member_p : Parser A (List Name)
-  member_p [] k = none
-  member_p (word s ∷ r) k = none
-  member_p (mark c ∷ r) k = none
-  member_p (colon ∷ r) k = none
-  member_p (dot_star ∷ r) k = none
-  member_p (linkage ∷ r) k = none
-  member_p (comment s ∷ r) k = none
-  member_p (scope ∷ []) k = none
-  member_p (scope ∷ (word s ∷ r)) k = fork ":: *" r (k (s ∷ [])) (λ q. member_p r (λ p q. k (s ∷ p) q))
-  member_p (scope ∷ (mark c ∷ r)) k = none
-  member_p (scope ∷ (scope ∷ r)) k = none
-  member_p (scope ∷ (colon ∷ r)) k = none
-  member_p (scope ∷ (dot_star ∷ r)) k = none
-  member_p (scope ∷ (linkage ∷ r)) k = none
-  member_p (scope ∷ (comment s ∷ r)) k = none
-
-  -- a class or none, and the `*`
-  unfoldable pub class_p : Parser A (List Name)
-  class_p r k = fork "*" r (k []) (λ r. member_p r k)
-
-  unfoldable pub pointer_p : ℕ → Parser A PointerLine
-  pointer_p n r k =
-      result_p n r (λ t r. need "(" r (λ r. class_p r (λ c r. dollar_p r (λ x r. need ") (" r (λ r.
-      list_p n (λ n r k. type_p n r k) r (λ ts r. need ")" r (λ r. flag_p "const" r (λ i r. need "=" r (λ r.
-      flag_p "&" r (λ a r. path_p r (λ p r. need ";" r (k (record {
-        result = t;
-        class = c;
-        local = x;
-        types = ts;
-        is_const = i;
-        address = a;
-        path = p;
-      })))))))))))))
-
-  unfoldable pub cxx_operand_p : ℕ → Parser A CxxOperand
-  cxx_operand_p n r k =
-      fork ":: rust :: Box <" r
-      (λ r. type_p n r (λ t r. need "> :: from_raw (" r (λ r. word_p r (λ x r. need ")" r (k (from_raw_operand t x))))))
-      (λ r. fork ":: std :: unique_ptr <" r
-      (λ r. type_p n r (λ t r. need "> (" r (λ r. word_p r (λ x r. need ")" r (k (unique_ptr_operand t x))))))
-      (λ r. fork ":: rust :: String ( :: rust :: unsafe_bitcopy , *" r
-      (λ r. word_p r (λ x r. need ")" r (k (string_operand x))))
-      (λ r. fork ":: rust :: Vec <" r
-      (λ r. type_p n r (λ t r. need "> ( :: rust :: unsafe_bitcopy , *" r (λ r. word_p r (λ x r. need ")" r (k (vec_operand t x))))))
-      (λ r. fork ":: std :: move ( *" r (λ r. word_p r (λ x r. need ")" r (k (moved_operand x))))
-      (λ r. word_p r (λ x r. k (plain_operand x) r))))))
-
-  unfoldable pub callee_p : List Token → (Bool → Name → List Token → Option A) → Option A
-  callee_p r k =
-      fork "( self .*" r (λ r. dollar_p r (λ x r. need ") (" r (k true x))) (λ r. dollar_p r (λ x r. need "(" r (k false x)))
-
-  unfoldable pub cxx_call_p : ℕ → Parser A CxxCall
-  cxx_call_p n r k =
-      callee_p r (λ b x r. list_p n cxx_operand_p r (λ xs r. need ")" r (k (record { of_member = b; local = x; operands = xs }))))
-
-  unfoldable pub value_p : ℕ → List Token → (CxxValue → CxxCall → List Token → Option A) → Option A
-  value_p n r k =
-      fork "&" r (λ r. cxx_call_p n r (λ c r. k address_value c r))
-      (λ r. fork ":: rust :: impl <" r
-      (λ r. type_p n r (λ t r. need "> :: repr (" r (λ r. cxx_call_p n r (λ c r. need ")" r (k (repr_value t) c)))))
-      (λ r. cxx_call_p n r (λ c r. fork ". into_raw ( )" r (k into_raw_value c)
-      (λ r. fork ". release ( )" r (k release_value c) (k plain_value c)))))
-
-  unfoldable pub statement_p : ℕ → List Token → (CxxStatement → CxxValue → CxxCall → List Token → Option A) → Option A
-  statement_p n r k =
-      fork "return" r (λ r. value_p n r (λ v c r. need ";" r (k return_statement v c)))
-      (λ r. fork "new ( return$ )" r
-      (λ r. type_p n r (λ t r. need "(" r (λ r. value_p n r (λ v c r. need ") ;" r (k (new_statement t) v c)))))
-      (λ r. value_p n r (λ v c r. need ";" r (k plain_statement v c))))
-
-  unfoldable pub catch_p : Parser A Bool
-  catch_p r k = flag_p ":: rust :: repr :: PtrLen throw$ ; :: rust :: behavior :: trycatch ( [ & ] {" r k
-
-  unfoldable pub caught_p : Bool → List Token → (List Token → Option A) → Option A
-  caught_p true r k =
-      need "throw$ . ptr = nullptr ; } , :: rust :: detail :: Fail ( throw$ ) ) ; return throw$ ;" r k
-  caught_p false r k = k r
-
-  -- behind the opening brace of a C++ shim
-  unfoldable pub cxx_shim_p : ℕ → Result → Name → List Parameter → Bool → Parser A Item
-  cxx_shim_p n t f ps e r k =
-      pointer_p n r (λ p r. catch_p r (λ b r. statement_p n r (λ s v c r. caught_p b r (λ r.
-      need "}" r (k (cxx_shim (record {
-        result = t;
-        symbol = f;
-        parameters = ps;
-        noexcept = e;
-        pointer = p;
-        caught = b;
-        statement = s;
-        value = v;
-        call = c;
-      })))))))
-
-  -- behind a head's parameters: it declares, or a body follows, inside extern "C" of a C++ shim
-  unfoldable pub tail_p : ℕ → Bool → List (List ℕ) → Result → Head → List Parameter → Bool → Bool → Parser A Item
-  tail_p n in_c cs t h ps c e r k =
-      fork ";" r
-      (λ r. cond (is_declared cs h c) (k (declares (record { result = t; symbol = name_of h; parameters = ps; noexcept = e })) r) none)
-      (λ r. need "{" r (λ r. elim in_c [
-        | true ↦ cond (is_declared cs h c) (cxx_shim_p n t (name_of h) ps e r k) none
-        | false ↦ shim_p n cs t h ps c e r k
-      ]))
+      })))))))))
 
   -- behind a head's name
-  unfoldable pub parameters_p : ℕ → Bool → List (List ℕ) → Result → Head → Parser A Item
-  parameters_p n in_c cs t h r k =
+  unfoldable pub parameters_p : ℕ → List (List ℕ) → Result → Head → Parser A Item
+  parameters_p n cs t h r k =
       need "(" r (λ r. list_p n parameter_p r (λ ps r. need ")" r (λ r.
-      flag_p "const" r (λ c r. flag_p "noexcept" r (λ e r. tail_p n in_c cs t h ps c e r k)))))
+      flag_p "const" r (λ c r. flag_p "noexcept" r (λ e r. tail_p n cs t h ps c e r k)))))
 
   abbrev pub layout_p : Name → Measure → Parser A Item
   layout_p x m r k =
@@ -497,17 +379,16 @@ module _ {A : Type 0} where
       (k (defines (record { owner = x; measure = m; symbol = y })))))
 
   -- by the parts behind a word: none, a method's, or layout and size or align
-  abbrev pub named_p : ℕ → Bool → List (List ℕ) → Result → Name → List Name → Parser A Item
-  named_p n in_c cs t a [] r k = parameters_p n in_c cs t (free a) r k
-  named_p n in_c cs t a (b ∷ []) r k = parameters_p n in_c cs t (method a b) r k
-  named_p n in_c cs t a (b ∷ (c ∷ p)) r k =
+  abbrev pub named_p : ℕ → List (List ℕ) → Result → Name → List Name → Parser A Item
+  named_p n cs t a [] r k = parameters_p n cs t (free a) r k
+  named_p n cs t a (b ∷ []) r k = parameters_p n cs t (method a b) r k
+  named_p n cs t a (b ∷ (c ∷ p)) r k =
       cond (is_layout size cs t (b ∷ c ∷ p)) (layout_p a size r k)
       (cond (is_layout align cs t (b ∷ c ∷ p)) (layout_p a align r k) none)
 
-  -- in_c says whether an extern "C" is open around
-  unfoldable pub item_p : ℕ → Bool → Parser A Item
-  item_p n in_c r k =
-      many_p n is_comment (λ n. comment_p) r (λ cs r. result_p n r (λ t r. word_p r (λ a r. path_p r (λ p r. named_p n in_c cs t a p r k))))
+  unfoldable pub item_p : ℕ → Parser A Item
+  item_p n r k =
+      many_p n is_comment (λ n. comment_p) r (λ cs r. result_p n r (λ t r. word_p r (λ a r. path_p r (λ p r. named_p n cs t a p r k))))
 
 -- bodies
 
@@ -524,11 +405,6 @@ next (t ∷ r) =
           elim (same_token t (word (bytes "namespace")) || same_token t (word (bytes "extern"))) [ true ↦ next_block | false ↦ next_item ]
     ]
 
--- whether an extern "C" is open inside the block
-abbrev pub in_extern_c : Block → Bool → Bool
-in_extern_c (namespace x) in_c = in_c
-in_extern_c extern_c in_c = true
-
 module _ {A : Type 0} where
   abbrev pub on_next : Next → List Token → (List Token → Option A) → (List Token → Option A) → (List Token → Option A) → Option A
   on_next next_end r a b c = a r
@@ -543,13 +419,13 @@ module _ {A : Type 0} where
   closing_p b r k =
       comment_p r (λ s r. cond (same_tokens (lex s) (block_tokens b [])) (k r) none)
 
-  abbrev pub body_p : ℕ → Bool → Parser A Body
-  body_p zero in_c r k = none
-  body_p (suc n) in_c r k =
+  abbrev pub body_p : ℕ → Parser A Body
+  body_p zero r k = none
+  body_p (suc n) r k =
       on_next (next r) r (k body_end)
-      (λ r. block_p r (λ b r. need "{" r (λ r. body_p n (in_extern_c b in_c) r (λ inside r. need "}" r (λ r. closing_p b r (λ r.
-      body_p n in_c r (λ after r. k (block b inside after) r)))))))
-      (λ r. item_p n in_c r (λ i r. body_p n in_c r (λ after r. k (item i after) r)))
+      (λ r. block_p r (λ b r. need "{" r (λ r. body_p n r (λ inside r. need "}" r (λ r. closing_p b r (λ r.
+      body_p n r (λ after r. k (block b inside after) r)))))))
+      (λ r. item_p n r (λ i r. body_p n r (λ after r. k (item i after) r)))
 
 -- forward parts
 
@@ -601,4 +477,4 @@ module _ {A : Type 0} where
       ]
 
 unfoldable pub text_p : ℕ → List Token → Option Text
-text_p n r = forward_p n r (λ f r. body_p n false r (λ b r. some (text f b)))
+text_p n r = forward_p n r (λ f r. body_p n r (λ b r. some (text f b)))

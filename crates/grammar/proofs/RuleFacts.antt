@@ -56,10 +56,6 @@ unfolding every
 dollar_inside [] b = refl
 dollar_inside (c ∷ a) b = by_cases (name_char c) (λ e. rw e (dollar_inside a b)) (λ e. rw e)
 
--- a word that ends in a dollar is no word without one
-pub dollar_other : (x t : List ℕ) → every name_char t ≡ true → same (x ++ bytes "$") t ≡ false
-dollar_other x t h = differs (λ s. not (every name_char s)) t (rw h) (x ++ bytes "$") (rw (dollar_inside x []))
-
 starts_too : (a b : List ℕ) → starts name_start a ≡ true → starts symbol_start (a ++ b) ≡ true
 starts_too [] b h = absurd (false≢true h)
 starts_too (c ∷ a) b h = or_left (name_start c) (eqb c 36) h

@@ -4,7 +4,7 @@ use mathlib.Core.Bool.{false≢true}
 use Rattle.lexical.specs.Bytes.{same}
 use Rattle.lexical.proofs.BoolLaws.{both}
 use Rattle.lexical.proofs.ByteLaws.{same_eq, same_refl}
-use Rattle.grammar.specs.Token.{Token, word, mark, scope, colon, dot_star, linkage, comment}
+use Rattle.grammar.specs.Token.{Token, word, mark, scope, colon, linkage, comment}
 
 abbrev code : Token → List ℕ
 code (word s) = 0 ∷ s
@@ -12,8 +12,7 @@ code (mark c) = 1 ∷ c ∷ []
 code scope = 2 ∷ []
 code colon = 3 ∷ []
 code linkage = 4 ∷ []
-code dot_star = 5 ∷ []
-code (comment s) = 6 ∷ s
+code (comment s) = 5 ∷ s
 
 abbrev pub same_token : Token → Token → Bool
 same_token t u = same (code t) (code u)
@@ -33,8 +32,7 @@ decode (suc zero ∷ (c ∷ s)) = mark c
 decode (suc (suc zero) ∷ s) = scope
 decode (suc (suc (suc zero)) ∷ s) = colon
 decode (suc (suc (suc (suc zero))) ∷ s) = linkage
-decode (suc (suc (suc (suc (suc zero)))) ∷ s) = dot_star
-decode (suc (suc (suc (suc (suc (suc n))))) ∷ s) = comment s
+decode (suc (suc (suc (suc (suc n)))) ∷ s) = comment s
 
 decode_code : (t : Token) → decode (code t) ≡ t
 decode_code (word s) = refl
@@ -42,7 +40,6 @@ decode_code (mark c) = refl
 decode_code scope = refl
 decode_code colon = refl
 decode_code linkage = refl
-decode_code dot_star = refl
 decode_code (comment s) = refl
 
 pub tokens_eq : (ts us : List Token) → same_tokens ts us ≡ true → ts ≡ us

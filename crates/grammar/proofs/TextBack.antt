@@ -14,7 +14,7 @@ use Rattle.grammar.specs.Rules.{max_namespaces, item_ok, body_ok, forward_ok, te
 use Rattle.grammar.proofs.Lexer.{lex, lexed}
 use Rattle.grammar.proofs.SameTokens.{same_tokens, tokens_refl}
 use Rattle.grammar.proofs.Parser.{need}
-use Rattle.grammar.proofs.Parser.{next_end, next_item, next, in_extern_c, closing_p, body_p, at_head, is_forward}
+use Rattle.grammar.proofs.Parser.{next_end, next_item, next, closing_p, body_p, at_head, is_forward}
 use Rattle.grammar.proofs.Parser.{line_p, forward_p, text_p}
 use Rattle.grammar.proofs.TypeBack.{path_back, atom_back}
 use Rattle.grammar.proofs.ItemBack.{item_size, item_back, item_first}
@@ -38,28 +38,27 @@ block_ok extern_c = true
 -- the rules of a block and of its two bodies
 pub block_rules : (b : Block) (inside after : Body) (depth : ℕ) (c : Bool) → body_ok depth c (block b inside after) ≡ true →
     (d : ℕ) × (e : Bool) × (body_ok d e inside ≡ true) × (body_ok depth c after ≡ true) × (block_ok b ≡ true)
-    × (in_extern_c b c ≡ e)
 unfolding body_ok
 block_rules (namespace x) inside after depth c o =
     let p = both (is_name x) (ltb depth max_namespaces && (body_ok (suc depth) c inside && body_ok depth c after)) o in
     let q = both (ltb depth max_namespaces) (body_ok (suc depth) c inside && body_ok depth c after) p.1 in
     let s = both (body_ok (suc depth) c inside) (body_ok depth c after) q.1 in
-    (suc depth, c, s.0, s.1, p.0, refl)
+    (suc depth, c, s.0, s.1, p.0)
 block_rules extern_c inside after depth c o =
-    let s = both (body_ok depth true inside) (body_ok depth c after) o in (depth, true, s.0, s.1, refl, refl)
+    let s = both (body_ok depth true inside) (body_ok depth c after) o in (depth, true, s.0, s.1, refl)
 
 repeats_head : (b : Block) (c : Closing b) → same_tokens (lex c.characters) (block_tokens b []) ≡ true
 repeats_head b c = rw (lexed c.repeats) (tokens_refl (block_tokens b []))
 
 module _ {A : Type 0} where
   -- the parser reads a block's head and goes on inside
-  block_back : (b : Block) (n : ℕ) (c : Bool) (r : List Token) (k : Body → List Token → Option A) →
-      body_p (suc n) c (block_tokens b (quoted "{" r)) k
-      ≡ body_p n (in_extern_c b c) r (λ inside r. need "}" r (λ r. closing_p b r (λ r.
-      body_p n c r (λ after r. k (block b inside after) r))))
+  block_back : (b : Block) (n : ℕ) (r : List Token) (k : Body → List Token → Option A) →
+      body_p (suc n) (block_tokens b (quoted "{" r)) k
+      ≡ body_p n r (λ inside r. need "}" r (λ r. closing_p b r (λ r.
+      body_p n r (λ after r. k (block b inside after) r))))
   unfolding same
-  block_back (namespace x) n c r k = refl
-  block_back extern_c n c r k = refl
+  block_back (namespace x) n r k = refl
+  block_back extern_c n r k = refl
 
   closing_back : (b : Block) (c : Closing b) (r : List Token) (k : List Token → Option A) →
       closing_p b (comment c.characters ∷ r) k ≡ k r
@@ -67,7 +66,7 @@ module _ {A : Type 0} where
   closing_back b c r k = rw (repeats_head b c)
 
   body_back : (b : Body) (cs : BodyClosings b) (n depth : ℕ) (c : Bool) → body_size b ≤ n → body_ok depth c b ≡ true →
-      (r : List Token) → next r ≡ next_end → (k : Body → List Token → Option A) → body_p n c (body_tokens b cs r) k ≡ k b r
+      (r : List Token) → next r ≡ next_end → (k : Body → List Token → Option A) → body_p n (body_tokens b cs r) k ≡ k b r
   unfolding same body_ok
   body_back body_end cs zero depth c l o r h k = absurd (omega arith)
   body_back body_end cs (suc n) depth c l o r h k = rw h
@@ -81,9 +80,8 @@ module _ {A : Type 0} where
   body_back (block b inside after) cs (suc n) depth c l o r h k =
       let q = block_rules b inside after depth c o in
       let rest : List Token = comment cs.0.characters ∷ body_tokens after cs.2 r in
-      let inner : body_ok q.0 (in_extern_c b c) inside ≡ true = rw q.5 q.2 in
-      block_back b n c _ k
-      ∙ body_back inside cs.1 n q.0 (in_extern_c b c) (omega arith) inner (quoted "}" rest) refl _
+      block_back b n _ k
+      ∙ body_back inside cs.1 n q.0 q.1 (omega arith) q.2 (quoted "}" rest) refl _
       ∙ closing_back b cs.0 (body_tokens after cs.2 r) _
       ∙ body_back after cs.2 n depth c (omega arith) q.3 r h _
 

@@ -7,7 +7,7 @@ use Rattle.lexical.specs.Decimal.{decimal}
 use Rattle.lexical.specs.Names.{is_name}
 use Rattle.lexical.proofs.BoolLaws.{both, not-true, neither, not_both, by_cases}
 use Rattle.lexical.proofs.ByteLaws.{same_refl}
-use Rattle.grammar.specs.Token.{Token, word, mark, scope, colon, dot_star, linkage, comment, quoted}
+use Rattle.grammar.specs.Token.{Token, word, mark, scope, colon, linkage, comment, quoted}
 use Rattle.grammar.specs.Types.{Name, Atom, bool, char, u8, u16, u32, u64, usize, i8, i16, i32, i64, isize}
 use Rattle.grammar.specs.Types.{f32, f64, cxx_string, rust_string, Template, box, vec, unique_ptr, shared_ptr}
 use Rattle.grammar.specs.Types.{weak_ptr, vector, Suffix, reference, pointer, CxxType, suffixed, Base, atom, str}
@@ -52,7 +52,6 @@ type_ends (word s ∷ r) = not (suffix_next r && same s (bytes "const"))
 type_ends (mark c ∷ r) = not (is_suffix (mark c))
 type_ends (scope ∷ r) = false
 type_ends (colon ∷ r) = true
-type_ends (dot_star ∷ r) = true
 type_ends (linkage ∷ r) = true
 type_ends (comment s ∷ r) = true
 
@@ -62,7 +61,6 @@ no_scope (word s ∷ r) = true
 no_scope (mark c ∷ r) = true
 no_scope (scope ∷ r) = false
 no_scope (colon ∷ r) = true
-no_scope (dot_star ∷ r) = true
 no_scope (linkage ∷ r) = true
 no_scope (comment s ∷ r) = true
 
@@ -74,7 +72,6 @@ module _ {A : Type 0} where
   path_back [] (mark c ∷ r) k h = refl
   path_back [] (scope ∷ r) k h = absurd (false≢true h)
   path_back [] (colon ∷ r) k h = refl
-  path_back [] (dot_star ∷ r) k h = refl
   path_back [] (linkage ∷ r) k h = refl
   path_back [] (comment s ∷ r) k h = refl
   path_back (s ∷ p) r k h = path_back p r (λ p q. k (s ∷ p) q) h
@@ -103,7 +100,6 @@ module _ {A : Type 0} where
       rw (q.0, suffixes_p, q.1)
   suffixes_back [] (scope ∷ r) k h = refl
   suffixes_back [] (colon ∷ r) k h = refl
-  suffixes_back [] (dot_star ∷ r) k h = refl
   suffixes_back [] (linkage ∷ r) k h = refl
   suffixes_back [] (comment s ∷ r) k h = refl
 
@@ -118,7 +114,6 @@ scope_free [] (word s ∷ r) h = refl
 scope_free [] (mark c ∷ r) h = refl
 scope_free [] (scope ∷ r) h = absurd (false≢true h)
 scope_free [] (colon ∷ r) h = refl
-scope_free [] (dot_star ∷ r) h = refl
 scope_free [] (linkage ∷ r) h = refl
 scope_free [] (comment s ∷ r) h = refl
 

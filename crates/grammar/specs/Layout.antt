@@ -1,8 +1,7 @@
 -- How tokens are laid out as bytes: a text "leaves out only spaces and line ends between parts" and "cuts no word".
 use Rattle.std.specs.Prelude.{◌≡◌, ℕ, Bool, true, false, not, ◌&&◌, List, [], ◌∷◌, ◌++◌, ◌==◌}
 use Rattle.lexical.specs.Bytes.{bytes, elem, every}
-use Rattle.grammar.specs.Token.{Token, word, mark, scope, colon, dot_star, linkage, comment, word_char, mark_char}
-use Rattle.grammar.specs.Token.{spelling}
+use Rattle.grammar.specs.Token.{Token, word, mark, scope, colon, linkage, comment, word_char, mark_char, spelling}
 
 -- a space or a line end
 abbrev pub blank_char : ℕ → Bool
@@ -26,7 +25,6 @@ well_formed (word s) = nonempty s && every word_char s
 well_formed (mark c) = mark_char c
 well_formed scope = true
 well_formed colon = true
-well_formed dot_star = true
 well_formed linkage = true
 well_formed (comment s) = every in_line s && not (ends_in 92 s)
 
@@ -38,22 +36,16 @@ abbrev pub no_colon : List ℕ → Bool
 no_colon [] = true
 no_colon (c ∷ s) = not (c == 58)
 
-abbrev pub starts_in : ℕ → List ℕ → Bool
-starts_in c [] = false
-starts_in c (d ∷ s) = d == c
-
 abbrev pub line_end : List ℕ → Bool
 line_end [] = true
 line_end (c ∷ s) = c == 10
 
--- the token ends where the rest begins: no word, no `::` and no `.*` is cut (ISO C++ [lex.pptoken], [lex.operators]), a
--- comment takes its line
+-- the token ends where the rest begins: no word and no `::` is cut (ISO C++ [lex.pptoken]), a comment takes its line
 abbrev pub ends_before : Token → List ℕ → Bool
 ends_before (word s) rest = no_word_char rest
-ends_before (mark c) rest = not (c == 46 && starts_in 42 rest)
+ends_before (mark c) rest = true
 ends_before scope rest = true
 ends_before colon rest = no_colon rest
-ends_before dot_star rest = true
 ends_before linkage rest = true
 ends_before (comment s) rest = line_end rest
 

@@ -3,17 +3,13 @@ use Rattle.std.specs.Prelude.{ℕ, suc, ◌+◌, max, Bool, true, false, cond, n
 use Rattle.lexical.specs.Bytes.{bytes, within, every, same, member}
 use Rattle.lexical.specs.Names.{name_start, starts, reserved, is_name}
 use Rattle.grammar.specs.Token.{word_char}
-use Rattle.grammar.specs.Types.{Name, box, vec, unique_ptr, CxxType, suffixed, Base, atom, str, full}
-use Rattle.grammar.specs.Types.{template, slice, array, void_fn, fn, CxxTypes, nil, cons}
+use Rattle.grammar.specs.Types.{Name, box, unique_ptr, CxxType, suffixed, Base, atom, str, full, template, slice}
+use Rattle.grammar.specs.Types.{array, void_fn, fn, CxxTypes, nil, cons}
 use Rattle.grammar.specs.Tree.{Result, void, ptr_len, fat, int, value, Parameter, named, slot, Declaration}
 use Rattle.grammar.specs.Tree.{LayoutDefinition, Head, free, method, Local, held, room, Operand, receiver, direct}
 use Rattle.grammar.specs.Tree.{into_raw, release, address, held_address, slot_address, CallForm, bare, error}
 use Rattle.grammar.specs.Tree.{returned, dereferenced, in_from_raw, in_unique_ptr, in_new_unchecked, in_slice, Call}
-use Rattle.grammar.specs.Tree.{Shim, PointerLine, CxxOperand, plain_operand, from_raw_operand, unique_ptr_operand}
-use Rattle.grammar.specs.Tree.{string_operand, vec_operand, moved_operand, CxxCall, CxxValue, plain_value}
-use Rattle.grammar.specs.Tree.{address_value, into_raw_value, release_value, repr_value, CxxStatement, plain_statement}
-use Rattle.grammar.specs.Tree.{return_statement, new_statement, CxxShim, Item, declares, defines, shim, cxx_shim}
-use Rattle.grammar.specs.Tree.{namespace, extern_c, Body, body_end}
+use Rattle.grammar.specs.Tree.{Shim, Item, declares, defines, shim, namespace, extern_c, Body, body_end}
 use Rattle.grammar.specs.Tree.{item, block, Line, struct_line, enum_line, using_line, Forward, forward_end, line}
 use Rattle.grammar.specs.Tree.{bare_namespace, Text, text}
 
@@ -219,84 +215,13 @@ shim_ok depth s =
     (every argument_ok s.parameters && (nat_le (length s.parameters) max_arguments &&
     (every local_ok s.locals && call_ok s.call)))))
 
--- C++ shims
-
--- "one path of names": the namespaces, perhaps a type, and the name. One of two parts may be a member of a type called
--- `std` or `rust`.
-abbrev pub in_std_or_rust : List Name → Bool
-in_std_or_rust [] = false
-in_std_or_rust (s ∷ []) = false
-in_std_or_rust (s ∷ (t ∷ [])) = false
-in_std_or_rust (s ∷ (t ∷ (u ∷ path))) = same s (bytes "std") || same s (bytes "rust")
-
-unfoldable pub path_ok : List Name → Bool
-path_ok path = within 1 (max_namespaces + 2) (length path) && (every is_name path && not (in_std_or_rust path))
-
--- a pointer line's result is `void` or a type
-unfoldable pub pointer_result_ok : Result → Bool
-pointer_result_ok void = true
-pointer_result_ok ptr_len = false
-pointer_result_ok fat = false
-pointer_result_ok int = false
-pointer_result_ok (value x) = type_ok max_levels x
-
-abbrev pub is_member : List Name → Bool
-is_member [] = false
-is_member (s ∷ path) = true
-
--- no class, or the full name of one
-unfoldable pub class_ok : List Name → Bool
-class_ok [] = true
-class_ok (s ∷ path) = full_name_ok (s ∷ path)
-
-unfoldable pub pointer_ok : PointerLine → Bool
-pointer_ok p =
-    pointer_result_ok p.result && (class_ok p.class && (is_name p.local && (every (type_ok max_levels) p.types &&
-    (nat_le (length p.types) max_arguments && path_ok p.path))))
-
-unfoldable pub cxx_operand_ok : CxxOperand → Bool
-cxx_operand_ok (plain_operand x) = is_name x
-cxx_operand_ok (from_raw_operand t x) = type_ok max_levels (suffixed (template box t) []) && is_name x
-cxx_operand_ok (unique_ptr_operand t x) = type_ok max_levels (suffixed (template unique_ptr t) []) && is_name x
-cxx_operand_ok (string_operand x) = is_name x
-cxx_operand_ok (vec_operand t x) = type_ok max_levels (suffixed (template vec t) []) && is_name x
-cxx_operand_ok (moved_operand x) = is_name x
-
-unfoldable pub cxx_call_ok : CxxCall → Bool
-cxx_call_ok c =
-    is_name c.local && (every cxx_operand_ok c.operands && nat_le (length c.operands) max_arguments)
-
-unfoldable pub value_ok : CxxValue → Bool
-value_ok plain_value = true
-value_ok address_value = true
-value_ok into_raw_value = true
-value_ok release_value = true
-value_ok (repr_value t) = type_ok max_levels t
-
-unfoldable pub statement_ok : CxxStatement → Bool
-statement_ok plain_statement = true
-statement_ok return_statement = true
-statement_ok (new_statement t) = type_ok max_levels t
-
--- "`self` in these shims is the receiver where the pointer is one to a member, and else an argument"
-unfoldable pub is_self_of : List Name → Parameter → Bool
-is_self_of class p = is_member class && is_self p
-
-unfoldable pub cxx_shim_ok : ℕ → CxxShim → Bool
-cxx_shim_ok depth s =
-    is_symbol s.symbol && (result_ok (is_root_main depth (free s.symbol)) s.result &&
-    (every declared_ok s.parameters && (few_arguments (is_self_of s.pointer.class) is_slot s.parameters &&
-    (pointer_ok s.pointer && (statement_ok s.statement && (value_ok s.value && cxx_call_ok s.call))))))
-
 -- the body; how many namespaces are open around, and whether an extern "C" is
 
--- "A body holds declarations, all inside extern "C", and outside it layout definitions and shims"; and "Document 01's
--- grammar gains these shims inside extern "C"" (document 02, order 1)
+-- "A body holds declarations, all inside extern "C", and outside it layout definitions and shims."
 unfoldable pub item_ok : ℕ → Bool → Item → Bool
 item_ok depth in_extern_c (declares d) = in_extern_c && declaration_ok depth d
 item_ok depth in_extern_c (defines d) = not in_extern_c && layout_ok d
 item_ok depth in_extern_c (shim s) = not in_extern_c && shim_ok depth s
-item_ok depth in_extern_c (cxx_shim s) = in_extern_c && cxx_shim_ok depth s
 
 unfoldable pub body_ok : ℕ → Bool → Body → Bool
 body_ok depth in_extern_c body_end = true

@@ -9,14 +9,13 @@ abbrev pub word_char : ℕ → Bool
 word_char c = name_char c || c == 36
 
 abbrev pub mark_char : ℕ → Bool
-mark_char c = elem c (bytes "(){}[]<>,;&*=.")
+mark_char c = elem c (bytes "(){}<>,;&*=.")
 
 pub data Token : Type 0 where
   word : List ℕ → Token  -- a run of word characters
   mark : ℕ → Token  -- one character; "`&&` is two `&`"
   scope : Token  -- ::
   colon : Token  -- :
-  dot_star : Token  -- .*
   linkage : Token  -- "C"
   comment : List ℕ → Token  -- "two slashes and the rest of its line"
 
@@ -25,7 +24,6 @@ spelling (word s) = s
 spelling (mark c) = c ∷ []
 spelling scope = bytes "::"
 spelling colon = bytes ":"
-spelling dot_star = bytes ".*"
 spelling linkage = bytes "\"C\""
 spelling (comment s) = bytes "//" ++ s
 
@@ -33,7 +31,7 @@ spelling (comment s) = bytes "//" ++ s
 abbrev pub token_of : List ℕ → Token
 token_of [] = word []
 token_of (c ∷ []) = cond (word_char c) (word (c ∷ [])) (cond (c == 58) colon (mark c))
-token_of (c ∷ (d ∷ s)) = cond (word_char c) (word (c ∷ d ∷ s)) (cond (c == 58) scope (cond (c == 46) dot_star linkage))
+token_of (c ∷ (d ∷ s)) = cond (word_char c) (word (c ∷ d ∷ s)) (cond (c == 58) scope linkage)
 
 -- one more character in front: a space begins a new piece
 abbrev pub add_to : Bool → ℕ → List (List ℕ) → List (List ℕ)

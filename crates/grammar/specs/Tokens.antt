@@ -13,10 +13,6 @@ use Rattle.grammar.specs.Tree.{Measure, size, align, LayoutDefinition, Head, fre
 use Rattle.grammar.specs.Tree.{Operand, receiver, direct, into_raw, release, address, held_address, slot_address}
 use Rattle.grammar.specs.Tree.{CallForm, bare, error, returned, dereferenced, in_from_raw, in_unique_ptr}
 use Rattle.grammar.specs.Tree.{in_new_unchecked, in_slice, Call, Ending, no_return, return_slot, move_slot, Shim, Item}
-use Rattle.grammar.specs.Tree.{PointerLine, CxxOperand, plain_operand, from_raw_operand, unique_ptr_operand}
-use Rattle.grammar.specs.Tree.{string_operand, vec_operand, moved_operand, CxxCall, CxxValue, plain_value}
-use Rattle.grammar.specs.Tree.{address_value, into_raw_value, release_value, repr_value, CxxStatement, plain_statement}
-use Rattle.grammar.specs.Tree.{return_statement, new_statement, CxxShim, cxx_shim}
 use Rattle.grammar.specs.Tree.{declares, defines, shim, Block, namespace, extern_c, Body, body_end, item, block}
 use Rattle.grammar.specs.Tree.{Line, struct_line, enum_line, using_line, Forward, forward_end, line, bare_namespace}
 use Rattle.grammar.specs.Tree.{Text, text}
@@ -206,77 +202,12 @@ shim_tokens s rest =
     (quoted "{" (each_tokens local_tokens s.locals (call_tokens s.call
     (error_test_tokens s.error_test (ending_tokens s.ending (quoted "}" rest)))))))
 
--- C++ shims
-
--- the class and the `::` before the `*` of a pointer to a member
-abbrev pub class_tokens : List Name → List Token → List Token
-class_tokens [] rest = rest
-class_tokens (s ∷ path) rest = path_tokens (s ∷ path) (quoted "::" rest)
-
-abbrev pub pointer_tokens : PointerLine → List Token → List Token
-pointer_tokens p rest =
-    result_tokens p.result (quoted "(" (class_tokens p.class (quoted "*" (word (p.local ++ bytes "$") ∷
-    quoted ") (" (list_tokens type_tokens p.types (quoted ")" (const_tokens p.is_const (quoted "="
-    (optional_tokens p.address (quoted "&" []) (path_tokens p.path (quoted ";" rest)))))))))))
-
-abbrev pub cxx_operand_tokens : CxxOperand → List Token → List Token
-cxx_operand_tokens (plain_operand x) rest = word x ∷ rest
-cxx_operand_tokens (from_raw_operand t x) rest =
-    quoted ":: rust :: Box <" (type_tokens t (quoted "> :: from_raw (" (word x ∷ quoted ")" rest)))
-cxx_operand_tokens (unique_ptr_operand t x) rest =
-    quoted ":: std :: unique_ptr <" (type_tokens t (quoted "> (" (word x ∷ quoted ")" rest)))
-cxx_operand_tokens (string_operand x) rest =
-    quoted ":: rust :: String ( :: rust :: unsafe_bitcopy , *" (word x ∷ quoted ")" rest)
-cxx_operand_tokens (vec_operand t x) rest =
-    quoted ":: rust :: Vec <" (type_tokens t (quoted "> ( :: rust :: unsafe_bitcopy , *" (word x ∷ quoted ")" rest)))
-cxx_operand_tokens (moved_operand x) rest = quoted ":: std :: move ( *" (word x ∷ quoted ")" rest)
-
-abbrev pub callee_tokens : Bool → Name → List Token → List Token
-callee_tokens false x rest = word (x ++ bytes "$") ∷ quoted "(" rest
-callee_tokens true x rest = quoted "( self .*" (word (x ++ bytes "$") ∷ quoted ") (" rest)
-
-abbrev pub cxx_call_tokens : CxxCall → List Token → List Token
-cxx_call_tokens c rest =
-    callee_tokens c.of_member c.local (list_tokens cxx_operand_tokens c.operands (quoted ")" rest))
-
-abbrev pub value_tokens : CxxValue → CxxCall → List Token → List Token
-value_tokens plain_value c rest = cxx_call_tokens c rest
-value_tokens address_value c rest = quoted "&" (cxx_call_tokens c rest)
-value_tokens into_raw_value c rest = cxx_call_tokens c (quoted ". into_raw ( )" rest)
-value_tokens release_value c rest = cxx_call_tokens c (quoted ". release ( )" rest)
-value_tokens (repr_value t) c rest =
-    quoted ":: rust :: impl <" (type_tokens t (quoted "> :: repr (" (cxx_call_tokens c (quoted ")" rest))))
-
-abbrev pub statement_tokens : CxxStatement → CxxValue → CxxCall → List Token → List Token
-statement_tokens plain_statement v c rest = value_tokens v c (quoted ";" rest)
-statement_tokens return_statement v c rest = quoted "return" (value_tokens v c (quoted ";" rest))
-statement_tokens (new_statement t) v c rest =
-    quoted "new ( return$ )" (type_tokens t (quoted "(" (value_tokens v c (quoted ") ;" rest))))
-
--- what stands around the statement of a function that throws
-abbrev pub catch_tokens : Bool → List Token → List Token
-catch_tokens true rest =
-    quoted ":: rust :: repr :: PtrLen throw$ ; :: rust :: behavior :: trycatch ( [ & ] {" rest
-catch_tokens false rest = rest
-
-abbrev pub caught_tokens : Bool → List Token → List Token
-caught_tokens true rest =
-    quoted "throw$ . ptr = nullptr ; } , :: rust :: detail :: Fail ( throw$ ) ) ; return throw$ ;" rest
-caught_tokens false rest = rest
-
-abbrev pub cxx_shim_tokens : CxxShim → List Token → List Token
-cxx_shim_tokens s rest =
-    signature_tokens s.result (free s.symbol) s.parameters false s.noexcept
-    (quoted "{" (pointer_tokens s.pointer (catch_tokens s.caught
-    (statement_tokens s.statement s.value s.call (caught_tokens s.caught (quoted "}" rest))))))
-
 -- the body
 
 abbrev pub item_tokens : Item → List Token → List Token
 item_tokens (declares d) rest = declaration_tokens d rest
 item_tokens (defines d) rest = layout_tokens d rest
 item_tokens (shim s) rest = shim_tokens s rest
-item_tokens (cxx_shim s) rest = cxx_shim_tokens s rest
 
 abbrev pub block_tokens : Block → List Token → List Token
 block_tokens (namespace x) rest = quoted "namespace" (word x ∷ rest)

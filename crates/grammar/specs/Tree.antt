@@ -73,62 +73,10 @@ pub record Shim : Type 0 where
   pub error_test : Bool
   pub ending : Ending
 
--- ---- C++ shims (document 02, order 1): functions that Rust calls, each of which calls a C++ function
-
--- `void (*f$)(A, B) = ::a::f;` or `void (::a::T::*f$)(A, B) const = &::a::T::f;`
-pub record PointerLine : Type 0 where
-  pub result : Result  -- `void` or a type
-  pub class : List Name  -- the full name, where it is a pointer to a member; else nothing
-  pub local : Name  -- f$
-  pub types : List CxxType
-  pub is_const : Bool
-  pub address : Bool  -- `&`
-  pub path : List Name  -- "what a pointer line names is read as one path of names, whatever its form"
-
-pub data CxxOperand : Type 0 where
-  plain_operand : Name → CxxOperand  -- x
-  from_raw_operand : CxxType → Name → CxxOperand  -- ::rust::Box<T>::from_raw(x)
-  unique_ptr_operand : CxxType → Name → CxxOperand  -- ::std::unique_ptr<T>(x)
-  string_operand : Name → CxxOperand  -- ::rust::String(::rust::unsafe_bitcopy, *x)
-  vec_operand : CxxType → Name → CxxOperand  -- ::rust::Vec<T>(::rust::unsafe_bitcopy, *x)
-  moved_operand : Name → CxxOperand  -- ::std::move(*x)
-
--- f$(x, y) or (self.*f$)(x, y)
-pub record CxxCall : Type 0 where
-  pub of_member : Bool
-  pub local : Name
-  pub operands : List CxxOperand
-
--- what is taken of the call
-pub data CxxValue : Type 0 where
-  plain_value : CxxValue
-  address_value : CxxValue  -- & in front
-  into_raw_value : CxxValue  -- .into_raw() behind
-  release_value : CxxValue  -- .release() behind
-  repr_value : CxxType → CxxValue  -- in ::rust::impl<T>::repr( )
-
--- what is done with the value
-pub data CxxStatement : Type 0 where
-  plain_statement : CxxStatement
-  return_statement : CxxStatement
-  new_statement : CxxType → CxxStatement  -- new (return$) T( )
-
-pub record CxxShim : Type 0 where
-  pub result : Result
-  pub symbol : Name
-  pub parameters : List Parameter
-  pub noexcept : Bool
-  pub pointer : PointerLine
-  pub caught : Bool  -- the statement stands in a trycatch
-  pub statement : CxxStatement
-  pub value : CxxValue
-  pub call : CxxCall
-
 pub data Item : Type 0 where
   declares : Declaration → Item
   defines : LayoutDefinition → Item
   shim : Shim → Item
-  cxx_shim : CxxShim → Item
 
 pub data Block : Type 0 where
   namespace : Name → Block

@@ -9,7 +9,7 @@ use Rattle.format.specs.Limits.{most_fields}
 use Rattle.format.specs.Decode.{got, Dec, after, many}
 use Rattle.format.specs.Bits.{bits, bit, width_of, index}
 use Rattle.format.specs.Types.{Ty, atom, named, template, pointer, str, fn, array}
-use Rattle.format.specs.Sheet.{Name, Lang, rust, cxx, Body, struct, enum, cxx_type, rust_type, function, Item}
+use Rattle.format.specs.Sheet.{Name, Body, struct, enum, cxx_type, rust_type, function, Item}
 use Rattle.format.specs.Decoding.{kind_of, optional, type_body, type_at, type, struct_body, item_body}
 use Rattle.format.specs.declared.ItemKind.{ItemKind}
 use Rattle.format.specs.declared.ItemKind.TheVariants as Part
@@ -22,7 +22,7 @@ use Rattle.cursor.proofs.CheckLaws.{many_length}
 use Rattle.cursor.proofs.WidthLaws.{index_field, index_lt}
 use Rattle.cursor.specs.declared.Found.{Found}
 use Rattle.view.specs.Values.{value_or, next_of, Yields, type_here}
-use Rattle.view.specs.Views.{Finds, function_kind, kind_of_body, is_named_kind}
+use Rattle.view.specs.Views.{Finds, kind_of_body, is_named_kind}
 use Rattle.cursor.proofs.YieldLaws.{in_turn, found, got_value, got_next}
 use Rattle.holds.specs.declared.FieldView.{FieldView}
 use Rattle.holds.specs.Edges.{is_struct_kind, counted, named_at, fields_here, Tells, Puts}
@@ -228,11 +228,7 @@ kind_struct (struct p ts) = refl
 kind_struct (enum p a c) = refl
 kind_struct (cxx_type p) = refl
 kind_struct (rust_type p) = refl
-kind_struct (function f) = by_lang f.lang
-  where
-    by_lang : (l : Lang) → is_struct_kind (function_kind l) ≡ false
-    by_lang rust = refl
-    by_lang (cxx u e) = refl
+kind_struct (function f) = refl
 
 pub struct_told : (items : List Item) (i : ℕ) {b : Bool} {k : ItemKind} → b ≡ is_struct_kind k →
     k ≡ kind_of_body (item_at items i).body → b ≡ is_struct (item_at items i).body
@@ -244,7 +240,6 @@ struct_kind Part.Enum e = absurd (let z : ◌≡◌ {A = ℕ} 0 1 = cc in omega 
 struct_kind Part.CxxType e = absurd (let z : ◌≡◌ {A = ℕ} 0 1 = cc in omega arith)
 struct_kind Part.RustType e = absurd (let z : ◌≡◌ {A = ℕ} 0 1 = cc in omega arith)
 struct_kind Part.RustFunction e = absurd (let z : ◌≡◌ {A = ℕ} 0 1 = cc in omega arith)
-struct_kind Part.CxxFunction e = absurd (let z : ◌≡◌ {A = ℕ} 0 1 = cc in omega arith)
 struct_kind Part.Bad e = absurd (let z : ◌≡◌ {A = ℕ} 0 1 = cc in omega arith)
 
 pub struct_body_lem : {k : ItemKind} (ns : List Name) (n : ℕ) (s : List ℕ) (at : ℕ) {b : Body} → k ≡ Part.Struct →

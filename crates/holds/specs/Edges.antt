@@ -6,7 +6,7 @@ use Rattle.format.specs.Types.{Ty, named, str}
 use Rattle.format.specs.Sheet.{Item}
 use Rattle.format.specs.Decoding.{type}
 use Rattle.format.specs.declared.ItemKind.{ItemKind}
-use Rattle.format.specs.declared.ItemKind.TheVariants.{Struct, Enum, CxxType, RustType, RustFunction, CxxFunction, Bad}
+use Rattle.format.specs.declared.ItemKind.TheVariants.{Struct, Enum, CxxType, RustType, RustFunction, Bad}
 use Rattle.toposort.specs.Adjacency.{item_numbers, graph_of, Adjacency}
 use Rattle.syntax.specs.Items.{item_at, is_struct}
 use Rattle.rules.specs.Rules.{held_by, held_structs, structs}
@@ -19,7 +19,6 @@ is_struct_kind Enum = false
 is_struct_kind CxxType = false
 is_struct_kind RustType = false
 is_struct_kind RustFunction = false
-is_struct_kind CxxFunction = false
 is_struct_kind Bad = false
 
 -- at an item's number stands a 1 exactly if it is a struct

@@ -40,7 +40,6 @@ fn is_struct(k: ItemKind) -> bool
         ItemKind::CxxType => false,
         ItemKind::RustType => false,
         ItemKind::RustFunction => false,
-        ItemKind::CxxFunction => false,
         ItemKind::Bad => false,
     }
 }

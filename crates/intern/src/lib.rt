@@ -149,11 +149,17 @@ fn intern_item(
     ensures { Filled s.now t.old t.new pool.new result }
 {
     let kind = v.kind;
-    if !is_function(kind) {
-        return end;
+    match kind {
+        ItemKind::RustFunction => {
+            let f = function(s, t, v);
+            intern_arguments(s, t, pool, f, end)
+        }
+        ItemKind::Struct => end,
+        ItemKind::Enum => end,
+        ItemKind::CxxType => end,
+        ItemKind::RustType => end,
+        ItemKind::Bad => end,
     }
-    let f = function(s, t, v);
-    intern_arguments(s, t, pool, f, end)
 }
 
 // How many functions in a row brought nothing.

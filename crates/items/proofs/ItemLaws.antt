@@ -1,7 +1,7 @@
 -- Laws by which a checker of indexes checks names, and marks what the parts of an item name.
 use mathlib.Core.Path.{◌≡◌, refl, sym, ap, ◌∙◌}
 use mathlib.Core.List.{List, []}
-use mathlib.Core.Bool.{Bool, true, false, not, ◌&&◌, ◌||◌, false≢true}
+use mathlib.Core.Bool.{Bool, true, false, ◌||◌}
 use Prim.Native.Nat.{ℕ, zero, suc}
 use native.Mathlib.Omega.{arith}
 use lib.Dec.{eqb}
@@ -10,25 +10,22 @@ use borrow.Author.Tests.{eq-eqb, ne_eqb}
 use Rattle.lexical.specs.Bytes.{within}
 use Rattle.refusal.specs.declared.Refusal.{Refusal}
 use Rattle.refusal.specs.declared.Refusal.TheVariants.{CutSheet, BadKind}
-use Rattle.format.specs.Decode.{Got, fault, got, Dec, pick, after, ◌>>◌, pure, many}
+use Rattle.format.specs.Decode.{Got, fault, got, pick, after, ◌>>◌, pure, many}
 use Rattle.format.specs.Bits.{bits, bit, index}
-use Rattle.format.specs.Sheet as Sheet
-use Rattle.format.specs.Sheet.{Name, Lang, rust, Form, free, const_method, mut_method, associated, Body, struct, enum, function}
+use Rattle.format.specs.Types.{Ret}
+use Rattle.format.specs.Sheet.{Argument, Form, free, const_method, mut_method, associated, Body, struct, enum}
 use Rattle.rules.specs.Rules.{is_method}
 use Rattle.format.specs.declared.ItemKind.{ItemKind}
 use Rattle.format.specs.declared.ItemKind.TheVariants.{Bad}
-use Rattle.format.specs.Decoding.{name_of, is_bad, atom_of, line, type, optional, argument, form_of, form, function_body, struct_body}
-use Rattle.format.specs.Decoding.{cxx_lang, enum_body, part_of, item_body}
+use Rattle.format.specs.Decoding.{name_of, is_bad, atom_of, line, type, form_of, form, struct_body, enum_body, part_of}
 use Rattle.comments.specs.Comments.{comment}
 use Rattle.cursor.specs.declared.Cursor.{Cursor}
 use Rattle.cursor.specs.declared.Step.{Step}
 use Rattle.cursor.specs.declared.Step.TheVariants.{At, Fault}
 use Rattle.cursor.specs.Checking.{step_of, Checks}
 use Rattle.marks.specs.Gathering.{each, gathered_of, answered, Gathers}
-use Rattle.marks.specs.Marking.{two_ways_at, mark_if, mark_index, mark_ty, mark_form, mark_function, mark_body}
-use Rattle.marks.proofs.GatherLaws.{made as made_of}
-use Rattle.marks.proofs.SomeLaws.{and-false}
-use Rattle.items.specs.Parts.{Signature, signature, mark_signature, lang_of}
+use Rattle.marks.specs.Marking.{mark_index, mark_ty, mark_ret, mark_form, mark_arguments, mark_body}
+use Rattle.marks.proofs.GatherLaws.{made}
 use Rattle.cursor.proofs.CheckLaws.{step_map, tail, checks_like}
 use Rattle.names.specs.Naming.{names_at}
 use Rattle.names.proofs.NameLaws.{names_length}
@@ -47,20 +44,6 @@ module _ (s names : List ℕ) (at : ℕ) where
 pub bad_is : {k x : ItemKind} {b t : Bool} → k ≡ x → b ≡ is_bad k → b ≡ t → is_bad x ≡ t
 bad_is e h t = ap is_bad (sym e) ∙ sym h ∙ t
 
--- what is no type and not bad is a function, by its language
-pub function_part : (k : ℕ) → (k ≡ 0 → ⊥) → (k ≡ 1 → ⊥) → (k ≡ 2 → ⊥) → (k ≡ 3 → ⊥) → is_bad (part_of k) ≡ false →
-    (names : List Name) (items : ℕ) → item_body (part_of k) names items ≡ function_body (lang_of (eqb k 5)) names items
-unfolding part_of
-function_part zero h₀ h₁ h₂ h₃ b names items = absurd (h₀ refl)
-function_part (suc zero) h₀ h₁ h₂ h₃ b names items = absurd (h₁ refl)
-function_part (suc (suc zero)) h₀ h₁ h₂ h₃ b names items = absurd (h₂ refl)
-function_part (suc (suc (suc zero))) h₀ h₁ h₂ h₃ b names items = absurd (h₃ refl)
-function_part (suc (suc (suc (suc zero)))) h₀ h₁ h₂ h₃ b names items = refl
-function_part (suc (suc (suc (suc (suc zero))))) h₀ h₁ h₂ h₃ b names items = refl
-function_part (suc (suc (suc (suc (suc (suc zero)))))) h₀ h₁ h₂ h₃ b names items = absurd (false≢true (sym b))
-function_part (suc (suc (suc (suc (suc (suc (suc zero))))))) h₀ h₁ h₂ h₃ b names items = absurd (false≢true (sym b))
-function_part (suc (suc (suc (suc (suc (suc (suc (suc k)))))))) h₀ h₁ h₂ h₃ b names items = absurd (false≢true (sym b))
-
 -- ---- marks
 
 owner_marks : (k i : ℕ) (w : List ℕ) → (k ≡ 0 → ⊥) → mark_form (form_of k i) w ≡ mark_index i w
@@ -78,10 +61,28 @@ module _ (n : ℕ) (s : List ℕ) (at : ℕ) {u : List ℕ} {k : ℕ} where
   pub form_marks : {v : List ℕ} {next : ℕ} {r : Step} → bits 2 s at ≡ got k next → (k ≡ 0 → ⊥) →
       Gathers mark_index (index n s next) u r v → Gathers mark_form (form n s at) u r v
   unfolding form
-  form_marks e z h = rw (e, ne_eqb k 0 z) (made_of (form_of k) (λ i. owner_marks k i u z) h)
+  form_marks e z h = rw (e, ne_eqb k 0 z) (made (form_of k) (λ i. owner_marks k i u z) h)
+
+-- a comment marks nothing
+pub comment_marks : (make : List (List ℕ) → Body) (s : List ℕ) (at : ℕ) {u v : List ℕ} {r : Step} →
+    ((ls : List (List ℕ)) → mark_body (make ls) u ≡ v) → Checks (comment make s at) r →
+    Gathers mark_body (comment make s at) u r v
+unfolding comment
+comment_marks make s at {u} {v} {r} like h = rw h.step record { gathered = by_count (bits 5 s at) }
+  where
+    by_lines : (q : Got (List (List ℕ))) →
+        gathered_of mark_body (after q (λ ls n. got (make ls) n)) u ≡ answered (step_of (after q (λ ls n. got (make ls) n))) v
+    by_lines (fault e) = refl
+    by_lines (got ls n) = ap (λ (w : List ℕ). got w n) (like ls)
+
+    by_count : (p : Got ℕ) →
+        gathered_of mark_body (after p (λ c m. after (many c line s m) (λ ls n. got (make ls) n))) u ≡
+        answered (step_of (after p (λ c m. after (many c line s m) (λ ls n. got (make ls) n)))) v
+    by_count (fault e) = refl
+    by_count (got c m) = by_lines (many c line s m)
 
 module _ (s : List ℕ) (at : ℕ) {u : List ℕ} where
-  -- an enum marks nothing
+  -- neither does an enum
   pub enum_marks : {r : Step} → Checks (enum_body s at) r → Gathers mark_body (enum_body s at) u r u
   unfolding enum_body mark_body
   enum_marks {r} h = rw h.step record { gathered = by_pointer (bit s at) }
@@ -125,7 +126,7 @@ module _ (n : ℕ) (s : List ℕ) (at : ℕ) {u v : List ℕ} where
     pub struct_marks : {k first : ℕ} {r : Step} → bits 6 s next ≡ got k first →
         Gathers (each mark_ty) (many k (type n) s first) u r v → Gathers mark_body (struct_body n s at) u r v
     unfolding struct_body mark_body
-    struct_marks g h = rw (e, g) (made_of (struct p) (λ ts. refl) h)
+    struct_marks g h = rw (e, g) (made (struct p) (λ ts. refl) h)
 
 -- ---- a method
 
@@ -162,92 +163,20 @@ method_cut s at e items l x h = absurd (let g = rw e at h in let z : ◌≡◌ {
 
 -- ---- kinds
 
-pub part_past : (k : ℕ) → (k ≡ 0 → ⊥) → (k ≡ 1 → ⊥) → (k ≡ 2 → ⊥) → (k ≡ 3 → ⊥) → (k ≡ 4 → ⊥) → (k ≡ 5 → ⊥) → Bad ≡ part_of k
+pub part_past : (k : ℕ) → (k ≡ 0 → ⊥) → (k ≡ 1 → ⊥) → (k ≡ 2 → ⊥) → (k ≡ 3 → ⊥) → (k ≡ 4 → ⊥) → Bad ≡ part_of k
 unfolding part_of
-part_past zero h0 h1 h2 h3 h4 h5 = absurd (h0 refl)
-part_past (suc zero) h0 h1 h2 h3 h4 h5 = absurd (h1 refl)
-part_past (suc (suc zero)) h0 h1 h2 h3 h4 h5 = absurd (h2 refl)
-part_past (suc (suc (suc zero))) h0 h1 h2 h3 h4 h5 = absurd (h3 refl)
-part_past (suc (suc (suc (suc zero)))) h0 h1 h2 h3 h4 h5 = absurd (h4 refl)
-part_past (suc (suc (suc (suc (suc zero))))) h0 h1 h2 h3 h4 h5 = absurd (h5 refl)
-part_past (suc (suc (suc (suc (suc (suc zero)))))) h0 h1 h2 h3 h4 h5 = refl
-part_past (suc (suc (suc (suc (suc (suc (suc zero))))))) h0 h1 h2 h3 h4 h5 = refl
-part_past (suc (suc (suc (suc (suc (suc (suc (suc k)))))))) h0 h1 h2 h3 h4 h5 = refl
+part_past zero h0 h1 h2 h3 h4 = absurd (h0 refl)
+part_past (suc zero) h0 h1 h2 h3 h4 = absurd (h1 refl)
+part_past (suc (suc zero)) h0 h1 h2 h3 h4 = absurd (h2 refl)
+part_past (suc (suc (suc zero))) h0 h1 h2 h3 h4 = absurd (h3 refl)
+part_past (suc (suc (suc (suc zero)))) h0 h1 h2 h3 h4 = absurd (h4 refl)
+part_past (suc (suc (suc (suc (suc zero))))) h0 h1 h2 h3 h4 = refl
+part_past (suc (suc (suc (suc (suc (suc zero)))))) h0 h1 h2 h3 h4 = refl
+part_past (suc (suc (suc (suc (suc (suc (suc zero))))))) h0 h1 h2 h3 h4 = refl
+part_past (suc (suc (suc (suc (suc (suc (suc (suc k)))))))) h0 h1 h2 h3 h4 = refl
 
 -- ---- a function
 
--- a decoder of several fields, and what comes behind the last
-after_behind : {A B C : Type 0} (p : Got A) (f : A → ℕ → Got C) (g : A → ℕ → Got B) (h : B → ℕ → Got C) →
-    ((x : A) (n : ℕ) → f x n ≡ after (g x n) h) → after p f ≡ after (after p g) h
-after_behind (fault e) f g h like = refl
-after_behind (got x n) f g h like = like x n
-
-comment_behind : {A : Type 0} (s : List ℕ) (at : ℕ) (f : List (List ℕ) → ℕ → Got A) →
-    after (bits 5 s at) (λ c m. after (many c line s m) f) ≡ after (comment s at) f
-unfolding comment
-comment_behind s at f = after_behind (bits 5 s at) _ (λ c m. many c line s m) f (λ c m. refl)
-
--- the function of these parts
-abbrev made : Name → Form → Bool → Signature → Lang → Body
-made n f t x l = function (record {
-  lang = l;
-  rust = n;
-  form = f;
-  throws = t;
-  return = x.return;
-  arguments = x.arguments;
-  comment = x.comment;
-})
-
-module _ (names : List Name) (items : ℕ) (s : List ℕ) (at : ℕ) {c1 c2 c3 : ℕ} {n : Name} {f : Form} {t : Bool}
-    (e : name_of names s at ≡ got n c1) (g : form items s c1 ≡ got f c2) (h : bit s c2 ≡ got t c3) where
-  pub function_behind : (lang : Dec Lang) → function_body lang names items s at ≡
-      after (signature names items s c3) (λ x m. after (lang s m) (λ l k. got (made n f t x l) k))
-  unfolding function_body signature
-  function_behind lang =
-      rw (e, g, h)
-      (after_behind (optional (type items) s c3) _ _ _ (λ r m.
-      after_behind (bits 5 s m) _ _ _ (λ a m.
-      after_behind (many a (argument names items) s m) _ _ _ (λ xs m.
-      comment_behind s m _ ∙ after_behind (comment s m) _ _ _ (λ ls m. refl)))))
-
-  -- behind its signature, with the marks up to there
-  module _ (cxx : Bool) {x : Signature} {m : ℕ} (u : List ℕ) {method errors : Bool} {v w : List ℕ}
-      (a : method ≡ is_method f) (b : errors ≡ (not cxx && t)) (c : v ≡ mark_form f u)
-      (i : signature names items s c3 ≡ got x m) (j : w ≡ mark_signature method errors cxx x v) where
-    pub rust_marks : cxx ≡ false → (c4 : Cursor) → m ≡ c4.at →
-        Gathers mark_body (function_body (lang_of cxx) names items s at) u (At c4) w
-    unfolding mark_body mark_function mark_signature
-    rust_marks z c4 k =
-        rw (z, function_behind (pure rust), i, k) record {
-          gathered = rw (and-false t false refl, j, c, a, b, z) refl;
-        }
-
-    pub cxx_marks : {r : Step} {y : List ℕ} → cxx ≡ true → ((make : Lang → Body) (u : List ℕ) →
-        ((a b : Bool) → mark_body (make (Sheet.cxx a b)) u ≡ mark_if (t && a) two_ways_at w) →
-        Gathers mark_body (after (cxx_lang s m) (λ l n. got (make l) n)) u r y) →
-        Gathers mark_body (function_body (lang_of cxx) names items s at) u r y
-    unfolding mark_body mark_function mark_signature
-    cxx_marks z h =
-        rw (z, function_behind cxx_lang, i) (h (made n f t x) u (λ p q. rw (j, c, a, b, z) refl))
-
--- the two bits of a C++ function
-module _ (make : Lang → Body) (s : List ℕ) (at : ℕ) {u v : List ℕ} where
-  pub cxx_cut : bit s at ≡ fault CutSheet →
-      Gathers mark_body (after (cxx_lang s at) (λ l n. got (make l) n)) u (Fault CutSheet) v
-  unfolding cxx_lang
-  cxx_cut e = rw e record { gathered = refl }
-
-  pub cxx_bits_lem : (w : List ℕ) (throws : Bool) {both a : Bool} {next : ℕ} {r : Step} →
-      ((a b : Bool) → mark_body (make (Sheet.cxx a b)) u ≡ mark_if (throws && a) two_ways_at w) → bit s at ≡ got a next →
-      both ≡ (throws && a) → v ≡ mark_if both two_ways_at w → Checks (bit s next) r →
-      Gathers mark_body (after (cxx_lang s at) (λ l n. got (make l) n)) u r v
-  unfolding cxx_lang
-  cxx_bits_lem w throws {both} {a} {next} like e f g h = rw (e, h.step) record { gathered = by_value (bit s next) }
-    where
-      by_value : (p : Got Bool) →
-          gathered_of mark_body (after (after p (λ b n. got (Sheet.cxx a b) n)) (λ l n. got (make l) n)) u ≡
-          answered (step_of p) v
-      by_value (fault d) = refl
-      by_value (got b n) =
-          ap (λ (z : List ℕ). got z n) (like a b ∙ sym (g ∙ ap (λ (c : Bool). mark_if c two_ways_at w) f))
+pub inputs_like : {a b : Bool} (t : Bool) (r : Ret) (xs : List Argument) {u v : List ℕ} → b ≡ a → v ≡ u →
+    mark_arguments a t xs (mark_ret r u) ≡ mark_arguments b t xs (mark_ret r v)
+inputs_like t r xs e h = rw (e, h) refl

@@ -1,26 +1,24 @@
 // The items of a sheet, checked; names are the positions of the sheet's names, items is the number of its items. The
-// walk marks what rules 9 to 11, 14 and 15 ask for.
-#![tactic(auto)]
-ghost use Rattle.std.specs.Prelude.{◌≡◌, List, Bool, ◌&&◌, false, ℕ, ◌≤◌, length};
-ghost use Rattle.format.specs.Decode.{got, after, many};
+// walk marks what rules 9 to 11 ask for.
+ghost use Rattle.std.specs.Prelude.{◌≡◌, List, ℕ, ◌≤◌, length};
+ghost use Rattle.format.specs.Decode.{got, many};
 ghost use Rattle.format.specs.Bits.{index};
-ghost use Rattle.format.specs.Sheet as Sheet;
-ghost use Rattle.format.specs.Sheet.{Form, Lang, Body};
-ghost use Rattle.format.specs.Decoding.{form, cxx_lang, function_body, struct_body, enum_body};
+ghost use Rattle.format.specs.Types.{Ret};
+ghost use Rattle.format.specs.Sheet.{Form, Argument, Body};
+ghost use Rattle.format.specs.Decoding.{form, function_body, struct_body, enum_body};
 ghost use Rattle.format.specs.Decoding.{part_of, is_bad, item_body, namespace, item};
 ghost use Rattle.rules.specs.Rules.{is_method};
 ghost use Rattle.cursor.specs.Checking.{Limited, Checks, position_of, Fills};
 ghost use Rattle.names.specs.Naming.{names_at, Named};
 ghost use Rattle.names.specs.Digests.{digests_at};
 ghost use Rattle.marks.specs.Gathering.{each, Gathers};
-ghost use Rattle.marks.specs.Marking.{two_ways_at, mark_if, mark_form, mark_body, mark_item};
-ghost use Rattle.items.specs.Parts.{signature, mark_signature, lang_of};
+ghost use Rattle.marks.specs.Marking.{mark_ret, mark_form, mark_arguments, mark_body, mark_item};
+ghost use Rattle.items.specs.Parts.{signature};
 
 use arguments::check_arguments;
 use comments::check_comment;
 use cursor::{Cursor, Field, Step, check_index, read, skip, step_in};
 use format::ItemKind;
-use marks::{Mark, mark_if};
 use refusal::Refusal;
 use types::{check_item_index, check_return, check_types};
 use words::in_range;
@@ -70,13 +68,15 @@ fn check_signature(
     items: u32,
     method: bool,
     throws: bool,
-    cxx: bool,
     marks: &mut [u8],
 ) -> Step
     requires { Named s.now names.now × (digests.now ≡ digests_at s.now names.now) }
-    ensures { Gathers (mark_signature method throws cxx)
-        (signature (names_at s.now names.now) items s.now c.at)
-        marks.old result marks.new }
+    ensures { (make : Ret → List Argument → List (List ℕ) → Body) (u : List ℕ) →
+        ((x : Ret) (xs : List Argument) (ls : List (List ℕ)) →
+        mark_body (make x xs ls) u ≡ mark_arguments method throws xs (mark_ret x marks.old)) →
+        Gathers mark_body
+        (signature make (names_at s.now names.now) items s.now c.at)
+        u result marks.new }
 {
     let a = check_return(s, c, items, marks);
     match a {
@@ -87,7 +87,7 @@ fn check_signature(
                 Field::Cut => Step::Fault(Refusal::CutSheet),
                 Field::Value(n, first) => {
                     let r = check_arguments(
-                        s, names, digests, first.at, items, n, method, throws, cxx, marks,
+                        s, names, digests, first.at, items, n, method, throws, marks,
                     );
                     let b = step_in(r);
                     match b {
@@ -100,48 +100,17 @@ fn check_signature(
     }
 }
 
-// a and b.
-fn and(a: bool, b: bool) -> bool
-    ensures { result ≡ (a && b) }
-{
-    if a {
-        return b;
-    }
-    false
-}
-
-// Past a C++ function's unwind bit and elided bit; throws is its throws bit.
-fn check_cxx(s: &[u8], c: Cursor, throws: bool, marks: &mut [u8]) -> Step
-    requires { Limited s.now }
-    ensures { (make : Lang → Body) (u : List ℕ) →
-        ((w e : Bool) → mark_body (make (Sheet.cxx w e)) u ≡ mark_if (throws && w) two_ways_at marks.old) →
-        Gathers mark_body (after (cxx_lang s.now c.at) (λ l n. got (make l) n))
-        u result marks.new }
-{
-    let f = read(s, c, 1);
-    match f {
-        Field::Cut => Step::Fault(Refusal::CutSheet),
-        Field::Value(unwind, next) => {
-            let both = and(throws, unwind == 1);
-            mark_if(marks, both, Mark::TWO_WAYS);
-            skip(s, next, 1)
-        }
-    }
-}
-
-// Past a function; cxx says that it is a C++ function.
 fn check_function(
     s: &[u8],
     names: &[u32],
     digests: &[u32],
     c: Cursor,
     items: u32,
-    cxx: bool,
     marks: &mut [u8],
 ) -> Step
     requires { Named s.now names.now × (digests.now ≡ digests_at s.now names.now) }
     ensures { Gathers mark_body
-        (function_body (lang_of cxx) (names_at s.now names.now) items s.now c.at)
+        (function_body (names_at s.now names.now) items s.now c.at)
         marks.old result marks.new }
 {
     let a = check_index(s, c, names.len() as u32);
@@ -157,20 +126,7 @@ fn check_function(
                         Field::Cut => Step::Fault(Refusal::CutSheet),
                         Field::Value(t, c3) => {
                             let method = is_method(s, c1);
-                            let throws = t == 1;
-                            let errors = and(!cxx, throws);
-                            let d = check_signature(
-                                s, names, digests, c3, items, method, errors, cxx, marks,
-                            );
-                            match d {
-                                Step::Fault(e) => Step::Fault(e),
-                                Step::At(c4) => {
-                                    if cxx {
-                                        return check_cxx(s, c4, throws, marks);
-                                    }
-                                    Step::At(c4)
-                                }
-                            }
+                            check_signature(s, names, digests, c3, items, method, t == 1, marks)
                         }
                     }
                 }
@@ -233,7 +189,6 @@ pub fn part_of(k: u32) -> ItemKind
         2 => ItemKind::CxxType,
         3 => ItemKind::RustType,
         4 => ItemKind::RustFunction,
-        5 => ItemKind::CxxFunction,
         _ => ItemKind::Bad,
     }
 }
@@ -248,33 +203,31 @@ fn is_bad(k: ItemKind) -> bool
         ItemKind::CxxType => false,
         ItemKind::RustType => false,
         ItemKind::RustFunction => false,
-        ItemKind::CxxFunction => false,
     }
 }
 
-// Past what stands behind the C++ name, by the number of a kind that is not bad. One call for both sorts of functions:
-// so it is inlined.
+// Past what stands behind the C++ name.
 fn check_body(
     s: &[u8],
     names: &[u32],
     digests: &[u32],
     c: Cursor,
     items: u32,
-    k: u32,
+    kind: ItemKind,
     marks: &mut [u8],
 ) -> Step
-    requires { Named s.now names.now × (digests.now ≡ digests_at s.now names.now) ×
-        (is_bad (part_of k) ≡ false) }
+    requires { Named s.now names.now × (digests.now ≡ digests_at s.now names.now) }
     ensures { Gathers mark_body
-        (item_body (part_of k) (names_at s.now names.now) items s.now c.at)
+        (item_body kind (names_at s.now names.now) items s.now c.at)
         marks.old result marks.new }
 {
-    match k {
-        0 => check_struct(s, c, items, marks),
-        1 => check_enum(s, c),
-        2 => skip(s, c, 1),
-        3 => skip(s, c, 1),
-        _ => check_function(s, names, digests, c, items, k == 5, marks),
+    match kind {
+        ItemKind::Struct => check_struct(s, c, items, marks),
+        ItemKind::Enum => check_enum(s, c),
+        ItemKind::CxxType => skip(s, c, 1),
+        ItemKind::RustType => skip(s, c, 1),
+        ItemKind::RustFunction => check_function(s, names, digests, c, items, marks),
+        ItemKind::Bad => Step::Fault(Refusal::BadKind),
     }
 }
 
@@ -329,7 +282,8 @@ fn check_item(
     match f {
         Field::Cut => Step::Fault(Refusal::CutSheet),
         Field::Value(k, c1) => {
-            let bad = is_bad(part_of(k));
+            let kind = part_of(k);
+            let bad = is_bad(kind);
             if bad {
                 return Step::Fault(Refusal::BadKind);
             }
@@ -340,7 +294,7 @@ fn check_item(
                     let b = check_index(s, c2, names.len() as u32);
                     match b {
                         Step::Fault(e) => Step::Fault(e),
-                        Step::At(c3) => check_body(s, names, digests, c3, items, k, marks),
+                        Step::At(c3) => check_body(s, names, digests, c3, items, kind, marks),
                     }
                 }
             }

@@ -1,9 +1,7 @@
-// Rules 9 to 11 of document 01's table, and 14 and 15 of document 02's order 1, as far as the marks of a decoded sheet
-// decide them.
+// Rules 9 to 11 of document 01's table, as far as the marks of a decoded sheet decide them.
 ghost use Rattle.std.specs.Prelude.{◌≡◌, ◌<◌, length};
 ghost use Rattle.lexical.specs.Bytes.{same};
-ghost use Rattle.rules.specs.Rules.{any, twice, functions, wrong_part, argument_names, unfit_argument, two_ways_out};
-ghost use Rattle.rules.specs.Rules.{bare_callback};
+ghost use Rattle.rules.specs.Rules.{any, twice, functions, wrong_part, argument_names, unfit_argument};
 ghost use Rattle.view.specs.Values.{items_at, Whole};
 ghost use Rattle.judge.specs.Marked.{Marked, named_function, indirect_error};
 
@@ -61,7 +59,7 @@ pub fn repeated_name(s: &[u8], names: &[u32], items: &[u32], marks: &[u8; Mark::
 
 // ---- 11: unfit argument
 
-// Whether item i is indirect, and types an argument `error` of a throwing Rust function.
+// Whether item i is indirect, and types an argument `error` of a throwing function.
 fn indirect_error(
     s: &[u8],
     names: &[u32],
@@ -98,22 +96,4 @@ pub fn unfit_argument(s: &[u8], names: &[u32], items: &[u32], marks: &[u8; Mark:
         i = i + 1;
     }
     false
-}
-
-// ---- 14 and 15: what a C++ function is not to have
-
-// Rule 14.
-pub fn two_ways_out(s: &[u8], names: &[u32], items: &[u32], marks: &[u8; Mark::PLACES]) -> bool
-    requires { Whole s.now names.now items.now × Marked s.now names.now items.now marks.now }
-    ensures { result ≡ two_ways_out (items_at s.now names.now items.now) }
-{
-    marks[Mark::TWO_WAYS] == 1
-}
-
-// Rule 15.
-pub fn bare_callback(s: &[u8], names: &[u32], items: &[u32], marks: &[u8; Mark::PLACES]) -> bool
-    requires { Whole s.now names.now items.now × Marked s.now names.now items.now marks.now }
-    ensures { result ≡ bare_callback (items_at s.now names.now items.now) }
-{
-    marks[Mark::BARE] == 1
 }

@@ -1,3 +1,1 @@
 // Definitions alone: bytes, characters and the name rule. See specs/.
-
-#![tactic(auto)]

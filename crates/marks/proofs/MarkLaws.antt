@@ -1,7 +1,7 @@
 -- What a walk's marks add to a table, for any test on its places.
 use mathlib.Core.Path.{◌≡◌, refl, sym, ap, ◌∙◌}
 use mathlib.Core.List.{List, [], ◌∷◌, map}
-use mathlib.Core.Bool.{Bool, true, false, not, ◌&&◌, ◌||◌}
+use mathlib.Core.Bool.{Bool, true, false, ◌&&◌, ◌||◌}
 use Prim.Native.Nat.{ℕ, zero, suc, ◌+◌, ◌<◌, ◌≤◌}
 use native.Mathlib.Omega.{arith}
 use lib.ListN.{length, get_or, set, replicate, length-set, length-replicate}
@@ -11,9 +11,9 @@ use borrow.Author.Tests.{eqb-true, eqb-false, eq-eqb, ltb-true, ltb-false}
 use Rattle.lexical.specs.Bytes.{same}
 use Rattle.lexical.proofs.BoolLaws.{both}
 use Rattle.format.specs.Types.{Ty, atom, named, template, pointer, str, fn, array, Ret, none, gives, Tys, nil, cons}
-use Rattle.format.specs.Sheet.{Form, Argument, is_rust, unwinds, Function, Body, struct, enum, cxx_type, rust_type, function, Item}
+use Rattle.format.specs.Sheet.{Form, Argument, Function, Body, struct, enum, cxx_type, rust_type, function, Item}
 use Rattle.syntax.specs.Items.{self_type}
-use Rattle.rules.specs.Rules.{any, twice, any_named, any_named_ret, any_named_tys, is_method, is_fn}
+use Rattle.rules.specs.Rules.{any, twice, any_named, any_named_ret, any_named_tys, is_method}
 use Rattle.marks.specs.Gathering.{each}
 use Rattle.marks.specs.Marking.{mark, mark_if, mark_index, mark_ty, mark_ret, mark_tys, mark_form, unfit_now, error_item, mark_error}
 use Rattle.marks.specs.Marking.{judge_argument, mark_argument, mark_arguments, mark_function, mark_body, mark_item, mark_items}
@@ -22,7 +22,7 @@ use Rattle.marks.proofs.SomeLaws.{same_truth, and_or, and-false, or_assoc, or-fa
 
 -- some place passes the test and is marked
 unfoldable pub any_marked : (ℕ → Bool) → List ℕ → Bool
-any_marked test u = some_from (λ k. test k && marked u k) 0 516
+any_marked test u = some_from (λ k. test k && marked u k) 0 514
 
 marked_set : (u : List ℕ) (m j : ℕ) → j < length u → marked (set u m 1) j ≡ (marked u j || eqb j m)
 marked_set u m j h = by_number (eqb j m) refl
@@ -43,33 +43,29 @@ blank_mark (suc k) zero = refl
 blank_mark (suc k) (suc i) = blank_mark k i
 
 -- what a test says of each place
-pub record Says (test : ℕ → Bool) (unfit repeated ways bare : Bool) (error names : ℕ → Bool) : Type 0 where
-  pub inside : (k : ℕ) → test k ≡ true → k < 516
+pub record Says (test : ℕ → Bool) (unfit repeated : Bool) (error names : ℕ → Bool) : Type 0 where
+  pub inside : (k : ℕ) → test k ≡ true → k < 514
   pub at_unfit : test 0 ≡ unfit
   pub at_repeated : test 1 ≡ repeated
-  pub at_ways : test 2 ≡ ways
-  pub at_bare : test 3 ≡ bare
-  pub at_error : (i : ℕ) → i < 256 → test (4 + i) ≡ error i
+  pub at_error : (i : ℕ) → i < 256 → test (2 + i) ≡ error i
   pub few_errors : (i : ℕ) → error i ≡ true → i < 256
-  pub at_named : (i : ℕ) → test (260 + i) ≡ names i
+  pub at_named : (i : ℕ) → test (258 + i) ≡ names i
 
 -- ---- what is looked for
 
-module _ (unfit repeated ways bare : Bool) (error names : ℕ → Bool) where
-  abbrev pub has_argument : Bool → Bool → Bool → Argument → Bool
-  has_argument method throws cxx a =
-      any_named names a.type || (((cxx && is_fn a.type) && bare) ||
-      ((unfit_now method throws a && unfit) || any error (error_item throws a)))
+module _ (unfit repeated : Bool) (error names : ℕ → Bool) where
+  abbrev pub has_argument : Bool → Bool → Argument → Bool
+  has_argument method throws a =
+      any_named names a.type || ((unfit_now method throws a && unfit) || any error (error_item throws a))
 
-  abbrev pub has_arguments : Bool → Bool → Bool → List Argument → Bool
-  has_arguments method throws cxx xs =
-      any (has_argument method throws cxx) xs || (twice same (map (λ a. a.name) xs) && repeated)
+  abbrev pub has_arguments : Bool → Bool → List Argument → Bool
+  has_arguments method throws xs =
+      any (has_argument method throws) xs || (twice same (map (λ a. a.name) xs) && repeated)
 
   abbrev pub has_function : Function → Bool
   has_function f =
-      (any names (self_type f.form) || any_named_ret names f.return ||
-      has_arguments (is_method f.form) (is_rust f.lang && f.throws) (not (is_rust f.lang)) f.arguments) ||
-      ((f.throws && unwinds f.lang) && ways)
+      any names (self_type f.form) || any_named_ret names f.return ||
+      has_arguments (is_method f.form) f.throws f.arguments
 
   abbrev pub has_body : Body → Bool
   has_body (struct p ts) = any (any_named names) ts
@@ -78,34 +74,33 @@ module _ (unfit repeated ways bare : Bool) (error names : ℕ → Bool) where
   has_body (rust_type p) = false
   has_body (function f) = has_function f
 
-module _ {test : ℕ → Bool} {unfit repeated ways bare : Bool} {error names : ℕ → Bool}
-    (says : Says test unfit repeated ways bare error names) where
+module _ {test : ℕ → Bool} {unfit repeated : Bool} {error names : ℕ → Bool} (says : Says test unfit repeated error names) where
   -- ---- one place
 
-  some_one : (m : ℕ) → some_from (λ j. test j && eqb j m) 0 516 ≡ test m
-  some_one m = same_truth (some_from (λ j. test j && eqb j m) 0 516) (test m)
+  some_one : (m : ℕ) → some_from (λ j. test j && eqb j m) 0 514 ≡ test m
+  some_one m = same_truth (some_from (λ j. test j && eqb j m) 0 514) (test m)
       (λ e.
-      let r = some_is (λ j. test j && eqb j m) 0 516 e in
+      let r = some_is (λ j. test j && eqb j m) 0 514 e in
       let b = both (test r.0) (eqb r.0 m) r.3 in
       let z : r.0 ≡ m = eqb-true r.0 m b.1 in
       ap test (sym z) ∙ b.0)
       (λ e.
       let l = says.inside m e in
-      some_at (λ j. test j && eqb j m) 0 516 m (omega arith) (omega arith) (rw (e, eq-eqb m m refl)))
+      some_at (λ j. test j && eqb j m) 0 514 m (omega arith) (omega arith) (rw (e, eq-eqb m m refl)))
 
   -- with the marks of f one more place passes the test, or not, as `has` says
   pub record Adds (f : List ℕ → List ℕ) (has : Bool) : Type 0 where
-    pub adds : (u : List ℕ) → 516 ≤ length u → any_marked test (f u) ≡ (any_marked test u || has)
+    pub adds : (u : List ℕ) → 514 ≤ length u → any_marked test (f u) ≡ (any_marked test u || has)
     pub size : (u : List ℕ) → length (f u) ≡ length u
 
   pub mark_adds : (m : ℕ) → Adds (λ u. mark m u) (test m)
   unfolding any_marked
   mark_adds m = record {
     adds = λ u l.
-        some_like (λ j. test j && marked (set u m 1) j) (λ j. (test j && marked u j) || (test j && eqb j m)) 0 516
+        some_like (λ j. test j && marked (set u m 1) j) (λ j. (test j && marked u j) || (test j && eqb j m)) 0 514
         (λ j h. ap (λ (b : Bool). test j && b) (marked_set u m j (omega arith)) ∙ and_or (test j) (marked u j) (eqb j m)) ∙
-        (some_or (λ j. test j && marked u j) (λ j. test j && eqb j m) 0 516 ∙
-        ap (λ (b : Bool). some_from (λ j. test j && marked u j) 0 516 || b) (some_one m));
+        (some_or (λ j. test j && marked u j) (λ j. test j && eqb j m) 0 514 ∙
+        ap (λ (b : Bool). some_from (λ j. test j && marked u j) 0 514 || b) (some_one m));
     size = λ u. length-set u m 1;
   }
 
@@ -142,7 +137,7 @@ module _ {test : ℕ → Bool} {unfit repeated ways bare : Bool} {error names : 
   -- ---- item indexes
 
   pub index_adds : (i : ℕ) → Adds (λ u. mark_index i u) (names i)
-  index_adds i = like_adds (says.at_named i) (mark_adds (260 + i))
+  index_adds i = like_adds (says.at_named i) (mark_adds (258 + i))
 
   mutual
     unfolding mark_ty any_named
@@ -171,9 +166,9 @@ module _ {test : ℕ → Bool} {unfit repeated ways bare : Bool} {error names : 
   -- ---- arguments
 
   pub error_adds : (i : ℕ) → Adds (λ u. mark_error i u) (error i)
-  error_adds i = like_adds (by_number (ltb i 256) refl) (if_adds (ltb i 256) (4 + i))
+  error_adds i = like_adds (by_number (ltb i 256) refl) (if_adds (ltb i 256) (2 + i))
     where
-      by_number : (b : Bool) → ltb i 256 ≡ b → (ltb i 256 && test (4 + i)) ≡ error i
+      by_number : (b : Bool) → ltb i 256 ≡ b → (ltb i 256 && test (2 + i)) ≡ error i
       by_number true q = rw q (says.at_error i (ltb-true i 256 q))
       by_number false q =
           rw q (by_error (error i) refl (ltb-false i 256 q))
@@ -182,35 +177,31 @@ module _ {test : ℕ → Bool} {unfit repeated ways bare : Bool} {error names : 
           by_error true h l = let k = says.few_errors i h in absurd (omega arith)
           by_error false h l = refl
 
-  -- a mark where b holds, of a place of which the test says so
-  place_adds : (b : Bool) (m : ℕ) {so : Bool} → test m ≡ so → Adds (λ u. mark_if b m u) (b && so)
-  place_adds b m e = like_adds (ap (λ (c : Bool). b && c) e) (if_adds b m)
-
-  pub argument_adds : (method throws cxx : Bool) (a : Argument) →
-      Adds (λ u. mark_argument method throws cxx a u) (has_argument unfit repeated ways bare error names method throws cxx a)
+  pub argument_adds : (method throws : Bool) (a : Argument) →
+      Adds (λ u. mark_argument method throws a u) (has_argument unfit repeated error names method throws a)
   unfolding mark_argument judge_argument
-  argument_adds method throws cxx a =
-      then_adds (ty_adds a.type) (then_adds (place_adds (cxx && is_fn a.type) 3 says.at_bare)
-      (then_adds (place_adds (unfit_now method throws a) 0 says.at_unfit) (each_adds error_adds (error_item throws a))))
+  argument_adds method throws a =
+      then_adds (ty_adds a.type) (then_adds
+      (like_adds (ap (λ (b : Bool). unfit_now method throws a && b) says.at_unfit) (if_adds (unfit_now method throws a) 0))
+      (each_adds error_adds (error_item throws a)))
 
-  pub arguments_adds : (method throws cxx : Bool) (xs : List Argument) →
-      Adds (λ u. mark_arguments method throws cxx xs u)
-      (has_arguments unfit repeated ways bare error names method throws cxx xs)
+  pub arguments_adds : (method throws : Bool) (xs : List Argument) →
+      Adds (λ u. mark_arguments method throws xs u) (has_arguments unfit repeated error names method throws xs)
   unfolding mark_arguments
-  arguments_adds method throws cxx xs =
-      then_adds (each_adds (argument_adds method throws cxx) xs)
-      (place_adds (twice same (map (λ a. a.name) xs)) 1 says.at_repeated)
+  arguments_adds method throws xs =
+      then_adds (each_adds (argument_adds method throws) xs)
+      (like_adds (ap (λ (b : Bool). twice same (map (λ a. a.name) xs) && b) says.at_repeated)
+      (if_adds (twice same (map (λ a. a.name) xs)) 1))
 
   -- ---- items
 
-  pub function_adds : (f : Function) → Adds (λ u. mark_function f u) (has_function unfit repeated ways bare error names f)
+  pub function_adds : (f : Function) → Adds (λ u. mark_function f u) (has_function unfit repeated error names f)
   unfolding mark_function
   function_adds f =
-      then_adds (then_adds (then_adds (form_adds f.form) (ret_adds f.return))
-      (arguments_adds (is_method f.form) (is_rust f.lang && f.throws) (not (is_rust f.lang)) f.arguments))
-      (place_adds (f.throws && unwinds f.lang) 2 says.at_ways)
+      then_adds (then_adds (form_adds f.form) (ret_adds f.return))
+      (arguments_adds (is_method f.form) f.throws f.arguments)
 
-  pub body_adds : (b : Body) → Adds (λ u. mark_body b u) (has_body unfit repeated ways bare error names b)
+  pub body_adds : (b : Body) → Adds (λ u. mark_body b u) (has_body unfit repeated error names b)
   unfolding mark_body
   body_adds (struct p ts) = each_adds ty_adds ts
   body_adds (enum p a c) = keep_adds
@@ -218,20 +209,20 @@ module _ {test : ℕ → Bool} {unfit repeated ways bare : Bool} {error names : 
   body_adds (rust_type p) = keep_adds
   body_adds (function f) = function_adds f
 
-  pub item_adds : (x : Item) → Adds (λ u. mark_item x u) (has_body unfit repeated ways bare error names x.body)
+  pub item_adds : (x : Item) → Adds (λ u. mark_item x u) (has_body unfit repeated error names x.body)
   unfolding mark_item
   item_adds x = body_adds x.body
 
   -- ---- from a blank table
 
-  blank_none : any_marked test (replicate 516 0) ≡ false
+  blank_none : any_marked test (replicate 514 0) ≡ false
   unfolding any_marked
-  blank_none = some_none (λ i. test i && marked (replicate 516 0) i) 0 516
-      (λ i. and-false (test i) (marked (replicate 516 0) i) (ap (λ (y : ℕ). eqb y 1) (blank_mark 516 i)))
+  blank_none = some_none (λ i. test i && marked (replicate 514 0) i) 0 514
+      (λ i. and-false (test i) (marked (replicate 514 0) i) (ap (λ (y : ℕ). eqb y 1) (blank_mark 514 i)))
 
   pub items_marks : (xs : List Item) →
-      any_marked test (mark_items xs (replicate 516 0)) ≡ any (λ x. has_body unfit repeated ways bare error names x.body) xs
+      any_marked test (mark_items xs (replicate 514 0)) ≡ any (λ x. has_body unfit repeated error names x.body) xs
   items_marks xs =
-      let z : length {A = ℕ} (replicate 516 0) ≡ 516 = length-replicate {A = ℕ} 516 0 in
-      (each_adds item_adds xs).adds (replicate 516 0) (omega arith) ∙
-      ap (λ (b : Bool). b || any (λ x. has_body unfit repeated ways bare error names x.body) xs) blank_none
+      let z : length {A = ℕ} (replicate 514 0) ≡ 514 = length-replicate {A = ℕ} 514 0 in
+      (each_adds item_adds xs).adds (replicate 514 0) (omega arith) ∙
+      ap (λ (b : Bool). b || any (λ x. has_body unfit repeated error names x.body) xs) blank_none

@@ -1,4 +1,4 @@
--- Rules 9, 10 (equal argument names), 11, 14 and 15 are what the table of marks says.
+-- Rules 9, 10 (equal argument names) and 11 are what the table of marks says.
 use mathlib.Core.Path.{◌≡◌, refl, sym, ap, ap₂, ◌∙◌}
 use mathlib.Core.List.{List, [], map}
 use mathlib.Core.Bool.{Bool, true, false, not, ◌&&◌, ◌||◌, false≢true}
@@ -13,11 +13,11 @@ use Rattle.format.specs.Decode.{pick}
 use Rattle.format.specs.declared.Atom.{Atom}
 use Rattle.format.specs.declared.Atom.TheVariants as Atom
 use Rattle.format.specs.Types.{Ty, atom, named, template, pointer, str, fn, array, Ret, none, gives, Tys, nil, cons}
-use Rattle.format.specs.Sheet.{Argument, is_rust, unwinds, Function, Body, struct, enum, cxx_type, rust_type, function, Item}
+use Rattle.format.specs.Sheet.{Argument, Function, Body, struct, enum, cxx_type, rust_type, function, Item}
 use Rattle.syntax.specs.Items.{item_at, self_type, is_function}
 use Rattle.syntax.specs.Types.{pointer_bit, atom_number, is_indirect_template, needs_indirect_abi, is_rust_string}
 use Rattle.rules.specs.Rules.{any, twice, function_of, functions, any_named, any_named_ret, any_named_tys, any_index, wrong_part}
-use Rattle.rules.specs.Rules.{argument_names, is_cxx_vector, is_method, unfit, unfit_argument, is_fn, two_ways_out, bare_callback}
+use Rattle.rules.specs.Rules.{argument_names, is_cxx_vector, is_method, unfit, unfit_argument}
 use Rattle.rules.proofs.SearchLaws.{any_like, any_none, any_gather}
 use Rattle.marks.specs.Marking.{is_indirect_now, named_item, is_error, unfit_now, error_item, mark_items}
 use Rattle.marks.specs.Reading.{some_from, marked}
@@ -90,8 +90,8 @@ module _ (test : ℕ → Bool) (base : ℕ) where
   behind_parts : (k : ℕ) → behind k ≡ true → (base ≤ k) × (test (k - base) ≡ true)
   behind_parts k e = let b = both (leb base k) (test (k - base)) e in (leb-true base k b.0, b.1)
 
-  module _ (n : ℕ) (inside : (i : ℕ) → test i ≡ true → i < n) (room : base + n ≤ 516) where
-    behind_inside : (k : ℕ) → behind k ≡ true → k < 516
+  module _ (n : ℕ) (inside : (i : ℕ) → test i ≡ true → i < n) (room : base + n ≤ 514) where
+    behind_inside : (k : ℕ) → behind k ≡ true → k < 514
     behind_inside k e =
         let b = behind_parts k e in
         let l = b.0 in
@@ -102,9 +102,9 @@ module _ (test : ℕ → Bool) (base : ℕ) where
     behind_marked : (u : List ℕ) → any_marked behind u ≡ some_from (λ i. test i && marked u (base + i)) 0 n
     unfolding any_marked
     behind_marked u =
-        same_truth (some_from (λ k. behind k && marked u k) 0 516) (some_from (λ i. test i && marked u (base + i)) 0 n)
+        same_truth (some_from (λ k. behind k && marked u k) 0 514) (some_from (λ i. test i && marked u (base + i)) 0 n)
         (λ e.
-        let r = some_is (λ k. behind k && marked u k) 0 516 e in
+        let r = some_is (λ k. behind k && marked u k) 0 514 e in
         let k = r.0 in
         let b = both (behind k) (marked u k) r.3 in
         let p = behind_parts k b.0 in
@@ -118,32 +118,32 @@ module _ (test : ℕ → Bool) (base : ℕ) where
         let i = r.0 in
         let l = r.2 in
         let b = both (test i) (marked u (base + i)) r.3 in
-        some_at (λ k. behind k && marked u k) 0 516 (base + i) (omega arith) (omega arith)
+        some_at (λ k. behind k && marked u k) 0 514 (base + i) (omega arith) (omega arith)
         (and_of (behind (base + i)) (marked u (base + i)) (behind_is i ∙ b.0) b.1))
 
 -- one place alone
-module _ (p : ℕ) (room : p < 516) where
+module _ (p : ℕ) (room : p < 514) where
   alone_marked : (u : List ℕ) → any_marked (λ k. eqb k p) u ≡ marked u p
   unfolding any_marked
   alone_marked u =
-      same_truth (some_from (λ k. eqb k p && marked u k) 0 516) (marked u p)
+      same_truth (some_from (λ k. eqb k p && marked u k) 0 514) (marked u p)
       (λ e.
-      let r = some_is (λ k. eqb k p && marked u k) 0 516 e in
+      let r = some_is (λ k. eqb k p && marked u k) 0 514 e in
       let b = both (eqb r.0 p) (marked u r.0) r.3 in
       ap (marked u) (sym (eqb-true r.0 p b.0)) ∙ b.1)
       (λ e.
-      some_at (λ k. eqb k p && marked u k) 0 516 p (omega arith) (omega arith)
+      some_at (λ k. eqb k p && marked u k) 0 514 p (omega arith) (omega arith)
       (and_of (eqb p p) (marked u p) (eq-eqb p p refl) e))
 
-  alone_inside : (k : ℕ) → eqb k p ≡ true → k < 516
+  alone_inside : (k : ℕ) → eqb k p ≡ true → k < 514
   alone_inside k e = let z = eqb-true k p e in omega arith
 
 either_marked : (a b : ℕ → Bool) (u : List ℕ) → any_marked (λ k. a k || b k) u ≡ (any_marked a u || any_marked b u)
 unfolding any_marked
 either_marked a b u =
-    some_like (λ k. (a k || b k) && marked u k) (λ k. (a k && marked u k) || (b k && marked u k)) 0 516
+    some_like (λ k. (a k || b k) && marked u k) (λ k. (a k && marked u k) || (b k && marked u k)) 0 514
     (λ k h. or_and (a k) (b k) (marked u k)) ∙
-    some_or (λ k. a k && marked u k) (λ k. b k && marked u k) 0 516
+    some_or (λ k. a k && marked u k) (λ k. b k && marked u k) 0 514
   where
     or_and : (x y z : Bool) → ((x || y) && z) ≡ ((x && z) || (y && z))
     or_and true true true = refl
@@ -160,158 +160,88 @@ module _ (items : List Item) (few : length items ≤ 255) where
   function_inside : (i : ℕ) → function_at i ≡ true → i < length items
   function_inside = item_inside items is_function refl
 
-  wrong_says : Says (behind function_at 260) false false false false never function_at
+  wrong_says : Says (behind function_at 258) false false never function_at
   unfolding never
   wrong_says = record {
-    inside = behind_inside function_at 260 (length items) function_inside (omega arith);
+    inside = behind_inside function_at 258 (length items) function_inside (omega arith);
     at_unfit = refl;
     at_repeated = refl;
-    at_ways = refl;
-    at_bare = refl;
-    at_error = λ i h. behind_before function_at 260 (4 + i) (omega arith);
+    at_error = λ i h. behind_before function_at 258 (2 + i) (omega arith);
     few_errors = λ i e. absurd (false≢true e);
-    at_named = behind_is function_at 260;
+    at_named = behind_is function_at 258;
   }
 
-  wrong_arguments : (method throws cxx : Bool) (xs : List Argument) →
-      has_arguments false false false false never function_at method throws cxx xs ≡
-      any (λ x. any_named function_at x.type) xs
+  wrong_arguments : (method throws : Bool) (xs : List Argument) →
+      has_arguments false false never function_at method throws xs ≡ any (λ x. any_named function_at x.type) xs
   unfolding never
-  wrong_arguments method throws cxx xs =
+  wrong_arguments method throws xs =
       rw (and-false (twice same (map (λ a. a.name) xs)) false refl)
-      (or-false (any (has_argument false false false false never function_at method throws cxx) xs) ∙
-      any_like (has_argument false false false false never function_at method throws cxx)
-      (λ (x : Argument). any_named function_at x.type) xs
-      (λ a. rw (
-        and-false (cxx && is_fn a.type) false refl,
-        and-false (unfit_now method throws a) false refl,
-        any_none never (error_item throws a) (λ i. refl),
-      )
+      (or-false (any (has_argument false false never function_at method throws) xs) ∙
+      any_like (has_argument false false never function_at method throws) (λ (x : Argument). any_named function_at x.type) xs
+      (λ a. rw (and-false (unfit_now method throws a) false refl, any_none never (error_item throws a) (λ i. refl))
       (or-false (any_named function_at a.type))))
 
-  wrong_body : (b : Body) → has_body false false false false never function_at b ≡ any_index function_at b
+  wrong_body : (b : Body) → has_body false false never function_at b ≡ any_index function_at b
   wrong_body (struct p ts) = refl
   wrong_body (enum p a c) = refl
   wrong_body (cxx_type p) = refl
   wrong_body (rust_type p) = refl
   wrong_body (function f) =
-      rw (and-false (f.throws && unwinds f.lang) false refl)
-      (or-false _ ∙
       ap (λ (b : Bool). any function_at (self_type f.form) || any_named_ret function_at f.return || b)
-      (wrong_arguments (is_method f.form) (is_rust f.lang && f.throws) (not (is_rust f.lang)) f.arguments))
+      (wrong_arguments (is_method f.form) f.throws f.arguments)
 
   pub wrong_marks : wrong_part items ≡
-      some_from (λ i. is_function (item_at items i).body && marked (mark_items items (replicate 516 0)) (260 + i)) 0 (length items)
+      some_from (λ i. is_function (item_at items i).body && marked (mark_items items (replicate 514 0)) (258 + i)) 0 (length items)
   unfolding wrong_part
   wrong_marks =
-      sym (any_like (λ (x : Item). has_body false false false false never function_at x.body)
+      sym (any_like (λ (x : Item). has_body false false never function_at x.body)
       (λ (x : Item). any_index function_at x.body) items (λ x. wrong_body x.body)) ∙
       (sym (items_marks wrong_says items) ∙
-      behind_marked function_at 260 (length items) function_inside (omega arith) (mark_items items (replicate 516 0)))
+      behind_marked function_at 258 (length items) function_inside (omega arith) (mark_items items (replicate 514 0)))
 
--- ---- one place alone: 1 for 10 (equal argument names), 2 for 14, 3 for 15
+-- ---- 10: two arguments of a function have the same name
 
--- what is looked for in a function, where only these places are
-abbrev alone : Bool → Bool → Bool → Function → Bool
-alone repeated ways bare f =
-    any (λ a. (not (is_rust f.lang) && is_fn a.type) && bare) f.arguments ||
-    (twice same (argument_names f) && repeated) || ((f.throws && unwinds f.lang) && ways)
+abbrev at_one : ℕ → Bool
+at_one k = eqb k 1
 
-module _ (repeated ways bare : Bool) where
-  alone_body : (b : Body) → has_body false repeated ways bare never never b ≡ any (alone repeated ways bare) (function_of b)
-  unfolding any never
-  alone_body (struct p ts) = any_none (any_named never) ts ty_never
-  alone_body (enum p a c) = refl
-  alone_body (cxx_type p) = refl
-  alone_body (rust_type p) = refl
-  alone_body (function f) =
-      rw (signature_never f)
-      (ap (λ (b : Bool). (b || (twice same (argument_names f) && repeated)) || ((f.throws && unwinds f.lang) && ways))
-      (by_arguments (is_method f.form) (is_rust f.lang && f.throws) (not (is_rust f.lang))) ∙
-      sym (or-false (alone repeated ways bare f)))
-    where
-      by_arguments : (method throws cxx : Bool) →
-          any (has_argument false repeated ways bare never never method throws cxx) f.arguments ≡
-          any (λ a. (cxx && is_fn a.type) && bare) f.arguments
-      by_arguments method throws cxx =
-          any_like (has_argument false repeated ways bare never never method throws cxx)
-          (λ (a : Argument). (cxx && is_fn a.type) && bare) f.arguments
-          (λ a. rw (
-            ty_never a.type,
-            and-false (unfit_now method throws a) false refl,
-            any_none never (error_item throws a) (λ i. refl),
-          )
-          (or-false ((cxx && is_fn a.type) && bare)))
+repeated_says : Says at_one false true never never
+unfolding never
+repeated_says = record {
+  inside = alone_inside 1 (omega arith);
+  at_unfit = refl;
+  at_repeated = refl;
+  at_error = λ i h. ne_eqb (2 + i) 1 (λ e. omega arith);
+  few_errors = λ i e. absurd (false≢true e);
+  at_named = λ i. ne_eqb (258 + i) 1 (λ e. omega arith);
+}
 
-  -- a rule on functions that is told by the place p
-  alone_marks : (p : ℕ) → p < 4 → Says (λ k. eqb k p) false repeated ways bare never never →
-      (rule : Function → Bool) → ((f : Function) → rule f ≡ alone repeated ways bare f) → (items : List Item) →
-      any rule (functions items) ≡ marked (mark_items items (replicate 516 0)) p
-  alone_marks p l says rule like items =
-      any_gather rule (λ (x : Item). function_of x.body) items ∙
-      (any_like (λ (x : Item). any rule (function_of x.body))
-      (λ (x : Item). has_body false repeated ways bare never never x.body) items
-      (λ x. any_like rule (alone repeated ways bare) (function_of x.body) like ∙ sym (alone_body x.body)) ∙
-      (sym (items_marks says items) ∙ alone_marked p (omega arith) (mark_items items (replicate 516 0))))
+repeated_body : (b : Body) →
+    has_body false true never never b ≡ any (λ f. twice same (argument_names f)) (function_of b)
+unfolding any never
+repeated_body (struct p ts) = any_none (any_named never) ts ty_never
+repeated_body (enum p a c) = refl
+repeated_body (cxx_type p) = refl
+repeated_body (rust_type p) = refl
+repeated_body (function f) = rw (signature_never f) (by_arguments (is_method f.form) f.throws)
+  where
+    by_arguments : (method throws : Bool) →
+        has_arguments false true never never method throws f.arguments ≡ (twice same (argument_names f) || false)
+    by_arguments method throws =
+        rw (
+          any_none (has_argument false true never never method throws) f.arguments
+              (λ a. rw (ty_never a.type, and-false (unfit_now method throws a) false refl, any_none never (error_item throws a) (λ i. refl))),
+          and-true (twice same (argument_names f)),
+          or-false (twice same (argument_names f)),
+        )
 
-  alone_says : (p : ℕ) → p < 4 → eqb 0 p ≡ false → eqb 1 p ≡ repeated → eqb 2 p ≡ ways → eqb 3 p ≡ bare →
-      Says (λ k. eqb k p) false repeated ways bare never never
-  unfolding never
-  alone_says p l at_0 at_1 at_2 at_3 = record {
-    inside = alone_inside p (omega arith);
-    at_unfit = at_0;
-    at_repeated = at_1;
-    at_ways = at_2;
-    at_bare = at_3;
-    at_error = λ i h. ne_eqb (4 + i) p (λ e. omega arith);
-    few_errors = λ i e. absurd (false≢true e);
-    at_named = λ i. ne_eqb (260 + i) p (λ e. omega arith);
-  }
-
--- 10: two arguments of a function have the same name
 pub repeated_marks : (items : List Item) →
-    any (λ f. twice same (argument_names f)) (functions items) ≡ marked (mark_items items (replicate 516 0)) 1
-repeated_marks =
-    alone_marks true false false 1 (omega arith) (alone_says true false false 1 (omega arith) refl refl refl refl)
-    (λ f. twice same (argument_names f))
-    (λ f. rw (
-      any_none (λ (a : Argument). (not (is_rust f.lang) && is_fn a.type) && false) f.arguments
-          (λ a. and-false (not (is_rust f.lang) && is_fn a.type) false refl),
-      and-true (twice same (argument_names f)),
-      and-false (f.throws && unwinds f.lang) false refl,
-      or-false (twice same (argument_names f)),
-    ))
-
--- 14: two ways out
-pub ways_marks : (items : List Item) → two_ways_out items ≡ marked (mark_items items (replicate 516 0)) 2
-unfolding two_ways_out
-ways_marks =
-    alone_marks false true false 2 (omega arith) (alone_says false true false 2 (omega arith) refl refl refl refl)
-    (λ f. f.throws && unwinds f.lang)
-    (λ f. rw (
-      any_none (λ (a : Argument). (not (is_rust f.lang) && is_fn a.type) && false) f.arguments
-          (λ a. and-false (not (is_rust f.lang) && is_fn a.type) false refl),
-      and-false (twice same (argument_names f)) false refl,
-      and-true (f.throws && unwinds f.lang),
-    ))
-
--- 15: bare callback
-any_and : (b : Bool) (xs : List Argument) →
-    (b && any (λ a. is_fn a.type) xs) ≡ any (λ a. (b && is_fn a.type) && true) xs
-any_and true xs =
-    any_like (λ (a : Argument). is_fn a.type) (λ (a : Argument). (true && is_fn a.type) && true) xs
-    (λ a. sym (and-true (is_fn a.type)))
-any_and false xs = sym (any_none (λ (a : Argument). (false && is_fn a.type) && true) xs (λ a. refl))
-
-pub bare_marks : (items : List Item) → bare_callback items ≡ marked (mark_items items (replicate 516 0)) 3
-unfolding bare_callback
-bare_marks =
-    alone_marks false false true 3 (omega arith) (alone_says false false true 3 (omega arith) refl refl refl refl)
-    (λ f. not (is_rust f.lang) && any (λ a. is_fn a.type) f.arguments)
-    (λ f. any_and (not (is_rust f.lang)) f.arguments ∙ rw (
-      and-false (twice same (argument_names f)) false refl,
-      and-false (f.throws && unwinds f.lang) false refl,
-    ) (sym (or-false _ ∙ or-false (any (λ (a : Argument). (not (is_rust f.lang) && is_fn a.type) && true) f.arguments))))
+    any (λ f. twice same (argument_names f)) (functions items) ≡ marked (mark_items items (replicate 514 0)) 1
+repeated_marks items =
+    any_gather (λ f. twice same (argument_names f)) (λ (x : Item). function_of x.body) items ∙
+    (sym (any_like (λ (x : Item). has_body false true never never x.body)
+    (λ (x : Item). any (λ f. twice same (argument_names f)) (function_of x.body)) items (λ x. repeated_body x.body)) ∙
+    (sym (items_marks repeated_says items) ∙
+    alone_marked 1 (omega arith) (mark_items items (replicate 514 0))))
 
 -- ---- 11: unfit argument
 
@@ -367,68 +297,60 @@ module _ (items : List Item) where
 
   unfit_parts : (f : Function) (a : Argument) →
       unfit items f a ≡
-      ((unfit_now (is_method f.form) (is_rust f.lang && f.throws) a && true) ||
-      any pointer_at (error_item (is_rust f.lang && f.throws) a))
+      ((unfit_now (is_method f.form) f.throws a && true) || any pointer_at (error_item f.throws a))
   unfolding unfit unfit_now error_item
   unfit_parts f a =
-      parts (is_cxx_vector a.type) (is_method f.form && same a.name (bytes "self"))
-      (is_rust f.lang && f.throws) (same a.name (bytes "error")) (is_rust_string a.type) (needs_indirect_abi items a.type) _
+      parts (is_cxx_vector a.type) (is_method f.form && same a.name (bytes "self")) f.throws
+      (same a.name (bytes "error")) (is_rust_string a.type) (needs_indirect_abi items a.type) _
       (indirect_now a.type) ∙
-      error_items (is_error (is_rust f.lang && f.throws) a) (is_cxx_vector a.type)
-      (is_method f.form && same a.name (bytes "self")) (is_indirect_now a.type) (named_item a.type)
+      error_items (is_error f.throws a) (is_cxx_vector a.type) (is_method f.form && same a.name (bytes "self"))
+      (is_indirect_now a.type) (named_item a.type)
 
   module _ (few : length items ≤ 255) where
     pointer_inside : (i : ℕ) → pointer_at i ≡ true → i < length items
     pointer_inside = item_inside items pointer_bit refl
 
     abbrev unfit_place : ℕ → Bool
-    unfit_place k = eqb k 0 || behind pointer_at 4 k
+    unfit_place k = eqb k 0 || behind pointer_at 2 k
 
-    unfit_says : Says unfit_place true false false false pointer_at never
+    unfit_says : Says unfit_place true false pointer_at never
     unfolding never
     unfit_says = record {
-      inside = λ k e. or_cases (eqb k 0) (behind pointer_at 4 k) e (alone_inside 0 (omega arith) k)
-          (behind_inside pointer_at 4 (length items) pointer_inside (omega arith) k);
+      inside = λ k e. or_cases (eqb k 0) (behind pointer_at 2 k) e (alone_inside 0 (omega arith) k)
+          (behind_inside pointer_at 2 (length items) pointer_inside (omega arith) k);
       at_unfit = refl;
       at_repeated = refl;
-      at_ways = refl;
-      at_bare = refl;
-      at_error = λ i h. rw (ne_eqb (4 + i) 0 (λ e. omega arith)) (behind_is pointer_at 4 i);
+      at_error = λ i h. rw (ne_eqb (2 + i) 0 (λ e. omega arith)) (behind_is pointer_at 2 i);
       few_errors = λ i e. let h = pointer_inside i e in omega arith;
       at_named = λ i.
-          let z : 260 + i - 4 ≡ 256 + i = omega arith in
-          rw (ne_eqb (260 + i) 0 (λ e. omega arith), z, item_past items pointer_bit refl (256 + i) (omega arith))
-          (and-false (leb 4 (260 + i)) false refl);
+          let z : 258 + i - 2 ≡ 256 + i = omega arith in
+          rw (ne_eqb (258 + i) 0 (λ e. omega arith), z, item_past items pointer_bit refl (256 + i) (omega arith))
+          (and-false (leb 2 (258 + i)) false refl);
     }
 
     unfit_body : (b : Body) →
-        has_body true false false false pointer_at never b ≡ any (λ f. any (unfit items f) f.arguments) (function_of b)
+        has_body true false pointer_at never b ≡ any (λ f. any (unfit items f) f.arguments) (function_of b)
     unfolding any
     unfit_body (struct p ts) = any_none (any_named never) ts ty_never
     unfit_body (enum p a c) = refl
     unfit_body (cxx_type p) = refl
     unfit_body (rust_type p) = refl
     unfit_body (function f) =
-        rw (
-          signature_never f,
-          and-false (twice same (argument_names f)) false refl,
-          and-false (f.throws && unwinds f.lang) false refl,
-        )
-        (or-false _ ∙ ap (λ (b : Bool). b || false)
-        (sym (any_like (unfit items f) (has_argument true false false false pointer_at never (is_method f.form)
-        (is_rust f.lang && f.throws) (not (is_rust f.lang))) f.arguments
-        (λ a. rw (ty_never a.type, and-false (not (is_rust f.lang) && is_fn a.type) false refl) (unfit_parts f a)))))
+        rw (signature_never f, and-false (twice same (argument_names f)) false refl)
+        (ap (λ (b : Bool). b || false)
+        (sym (any_like (unfit items f) (has_argument true false pointer_at never (is_method f.form) f.throws)
+        f.arguments (λ a. rw (ty_never a.type) (unfit_parts f a)))))
 
     pub unfit_marks : unfit_argument items ≡
-        (marked (mark_items items (replicate 516 0)) 0 ||
-        some_from (λ i. pointer_bit (item_at items i).body && marked (mark_items items (replicate 516 0)) (4 + i)) 0 (length items))
+        (marked (mark_items items (replicate 514 0)) 0 ||
+        some_from (λ i. pointer_bit (item_at items i).body && marked (mark_items items (replicate 514 0)) (2 + i)) 0 (length items))
     unfolding unfit_argument
     unfit_marks =
         any_gather (λ f. any (unfit items f) f.arguments) (λ (x : Item). function_of x.body) items ∙
-        (sym (any_like (λ (x : Item). has_body true false false false pointer_at never x.body)
+        (sym (any_like (λ (x : Item). has_body true false pointer_at never x.body)
         (λ (x : Item). any (λ f. any (unfit items f) f.arguments) (function_of x.body)) items
         (λ x. unfit_body x.body)) ∙
         (sym (items_marks unfit_says items) ∙
-        (either_marked (λ k. eqb k 0) (behind pointer_at 4) (mark_items items (replicate 516 0)) ∙
-        ap₂ ◌||◌ (alone_marked 0 (omega arith) (mark_items items (replicate 516 0)))
-        (behind_marked pointer_at 4 (length items) pointer_inside (omega arith) (mark_items items (replicate 516 0))))))
+        (either_marked (λ k. eqb k 0) (behind pointer_at 2) (mark_items items (replicate 514 0)) ∙
+        ap₂ ◌||◌ (alone_marked 0 (omega arith) (mark_items items (replicate 514 0)))
+        (behind_marked pointer_at 2 (length items) pointer_inside (omega arith) (mark_items items (replicate 514 0))))))

@@ -1,25 +1,22 @@
--- The marks that a walk leaves behind, all that rules 9 to 11, 14 and 15 ask of types and functions: a table that has
--- a 1 at
+-- The marks that a walk leaves behind, all that rules 9 to 11 ask of types and arguments: a table that has a 1 at
 --   0        an argument is unfit, whatever the items are
 --   1        two arguments of a function have the same name
---   2        a function throws and unwinds
---   3        an argument of a C++ function is a Fn
---   4 + i    an argument `error` of a throwing Rust function has the type that item i names
---   260 + i  an item index names item i
-use Rattle.std.specs.Prelude.{List, [], ◌∷◌, map, Bool, true, false, not, ◌&&◌, ◌||◌, ℕ, ◌+◌, eqb, ltb, set}
+--   2 + i    an argument `error` of a throwing function has the type that item i names
+--   258 + i  an item index names item i
+use Rattle.std.specs.Prelude.{List, [], ◌∷◌, map, Bool, true, false, ◌&&◌, ◌||◌, ℕ, ◌+◌, eqb, ltb, set}
 use Rattle.lexical.specs.Bytes.{bytes, same}
 use Rattle.format.specs.Decode.{pick}
 use Rattle.format.specs.Types.{Ty, atom, named, template, pointer, str, fn, array, Ret, none, gives, Tys, nil, cons}
-use Rattle.format.specs.Sheet.{Form, Argument, is_rust, unwinds, Function, Body, struct, enum}
+use Rattle.format.specs.Sheet.{Form, Argument, Function, Body, struct, enum}
 use Rattle.format.specs.Sheet.{cxx_type, rust_type, function, Item}
 use Rattle.syntax.specs.Items.{self_type}
 use Rattle.syntax.specs.Types.{atom_number, is_indirect_template}
-use Rattle.rules.specs.Rules.{twice, is_cxx_vector, is_method, is_fn}
+use Rattle.rules.specs.Rules.{twice, is_cxx_vector, is_method}
 use Rattle.marks.specs.Gathering.{each}
 
 -- the places of the table
 abbrev pub places : ℕ
-places = 516
+places = 514
 
 abbrev pub unfit_at : ℕ
 unfit_at = 0
@@ -27,17 +24,11 @@ unfit_at = 0
 abbrev pub repeated_at : ℕ
 repeated_at = 1
 
-abbrev pub two_ways_at : ℕ
-two_ways_at = 2
-
-abbrev pub bare_at : ℕ
-bare_at = 3
-
 abbrev pub error_at : ℕ → ℕ
-error_at i = 4 + i
+error_at i = 2 + i
 
 abbrev pub named_at : ℕ → ℕ
-named_at i = 260 + i
+named_at i = 258 + i
 
 abbrev pub mark : ℕ → List ℕ → List ℕ
 mark k u = set u k 1
@@ -93,7 +84,7 @@ named_item str = []
 named_item (fn r ts) = []
 named_item (array t n) = []
 
--- an argument `error` of a function; throws says that it is a throwing Rust function
+-- an argument `error` of a throwing function
 abbrev pub is_error : Bool → Argument → Bool
 is_error throws a = throws && same a.name (bytes "error")
 
@@ -110,29 +101,24 @@ error_item throws a = pick (is_error throws a) (named_item a.type) []
 abbrev pub mark_error : ℕ → List ℕ → List ℕ
 mark_error i u = mark_if (ltb i 256) (error_at i) u
 
--- cxx says that the function is a C++ function
-unfoldable pub judge_argument : Bool → Bool → Bool → Argument → List ℕ → List ℕ
-judge_argument method throws cxx a u =
-    each mark_error (error_item throws a)
-    (mark_if (unfit_now method throws a) unfit_at (mark_if (cxx && is_fn a.type) bare_at u))
+unfoldable pub judge_argument : Bool → Bool → Argument → List ℕ → List ℕ
+judge_argument method throws a u = each mark_error (error_item throws a) (mark_if (unfit_now method throws a) unfit_at u)
 
 -- the item indexes of its type, and what it is
-unfoldable pub mark_argument : Bool → Bool → Bool → Argument → List ℕ → List ℕ
-mark_argument method throws cxx a u = judge_argument method throws cxx a (mark_ty a.type u)
+unfoldable pub mark_argument : Bool → Bool → Argument → List ℕ → List ℕ
+mark_argument method throws a u = judge_argument method throws a (mark_ty a.type u)
 
 -- one after the other, and then whether two have the same name
-unfoldable pub mark_arguments : Bool → Bool → Bool → List Argument → List ℕ → List ℕ
-mark_arguments method throws cxx xs u =
-    mark_if (twice same (map (λ a. a.name) xs)) repeated_at (each (mark_argument method throws cxx) xs u)
+unfoldable pub mark_arguments : Bool → Bool → List Argument → List ℕ → List ℕ
+mark_arguments method throws xs u =
+    mark_if (twice same (map (λ a. a.name) xs)) repeated_at (each (mark_argument method throws) xs u)
 
 -- ---- items
 
--- in the order of the fields: self type, return type, arguments, unwind bit
+-- in the order of the fields: self type, return type, arguments
 unfoldable pub mark_function : Function → List ℕ → List ℕ
 mark_function f u =
-    mark_if (f.throws && unwinds f.lang) two_ways_at
-    (mark_arguments (is_method f.form) (is_rust f.lang && f.throws) (not (is_rust f.lang)) f.arguments
-    (mark_ret f.return (mark_form f.form u)))
+    mark_arguments (is_method f.form) f.throws f.arguments (mark_ret f.return (mark_form f.form u))
 
 unfoldable pub mark_body : Body → List ℕ → List ℕ
 mark_body (struct p ts) u = each mark_ty ts u

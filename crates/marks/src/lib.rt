@@ -1,10 +1,9 @@
 // The table of marks that a walk over a sheet leaves behind: a 1 where something was met. What each place says is in
 // specs/Marking.antt. And keys: names that are equal have equal keys.
-#![tactic(auto)]
 ghost use Rattle.std.specs.Prelude.{◌≡◌, ◌&&◌, ◌<◌, length, eqb};
 ghost use Rattle.rules.specs.Rules.{any, twice};
 ghost use Rattle.marks.specs.Keys.{one_if, count_of};
-ghost use Rattle.marks.specs.Marking.{mark, mark_if};
+ghost use Rattle.marks.specs.Marking.{mark};
 
 #[derive(Clone, Copy)]
 pub struct Mark {
@@ -16,16 +15,12 @@ impl Mark {
     pub const UNFIT: usize = 0;
     // Two arguments of a function have the same name.
     pub const REPEATED: usize = 1;
-    // A function throws and unwinds.
-    pub const TWO_WAYS: usize = 2;
-    // An argument of a C++ function is a Fn.
-    pub const BARE: usize = 3;
-    // Behind this the items that type an argument `error` of a throwing Rust function.
-    pub const ERRORS: usize = 4;
+    // Behind this the items that type an argument `error` of a throwing function.
+    pub const ERRORS: usize = 2;
     // Behind this the items that an item index names.
-    pub const NAMED: usize = 260;
+    pub const NAMED: usize = 258;
     // The places of the table.
-    pub const PLACES: usize = 516;
+    pub const PLACES: usize = 514;
 }
 
 // Marks a place, if the table has it.
@@ -36,16 +31,6 @@ pub fn set_mark(marks: &mut [u8], place: usize)
         return;
     }
     marks[place] = 1;
-}
-
-// Marks a place where the test holds.
-pub fn mark_if(marks: &mut [u8], yes: bool, place: usize)
-    ensures { marks.new ≡ mark_if yes place marks.old }
-{
-    if !yes {
-        return;
-    }
-    set_mark(marks, place);
 }
 
 // ---- keys

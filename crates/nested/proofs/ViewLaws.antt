@@ -12,17 +12,17 @@ use Rattle.lexical.specs.Bytes.{same, within}
 use Rattle.format.specs.Limits.{most_namespaces}
 use Rattle.format.specs.Decode.{got}
 use Rattle.format.specs.Bits.{bits, bit}
-use Rattle.format.specs.Sheet.{Name, Lang, rust, cxx, Body, struct, enum, cxx_type, rust_type, function, Item}
+use Rattle.format.specs.Sheet.{Name, Body, struct, enum, cxx_type, rust_type, function, Item}
 use Rattle.format.specs.Decoding.{enum_body}
 use Rattle.format.specs.declared.ItemKind.{ItemKind}
-use Rattle.format.specs.declared.ItemKind.TheVariants.{Struct, Enum, CxxType, RustType, RustFunction, CxxFunction, Bad}
+use Rattle.format.specs.declared.ItemKind.TheVariants.{Struct, Enum, CxxType, RustType, RustFunction, Bad}
 use Rattle.syntax.specs.Items.{item_at}
 use Rattle.rules.specs.Rules.{any}
 use Rattle.bridge.specs.Write.{needs_forward_declaration}
 use Rattle.cursor.specs.declared.Found.{Found}
 use Rattle.view.specs.declared.ItemView.{ItemView}
 use Rattle.view.specs.Values.{Yields, one_item_at, items_at, item_no}
-use Rattle.view.specs.Views.{Finds, function_kind, kind_of_body, ItemAt}
+use Rattle.view.specs.Views.{Finds, kind_of_body, ItemAt}
 use Rattle.cursor.proofs.YieldLaws.{in_turn, passed, got_value, bit_value, bit_next, found_value, found_next}
 use Rattle.nested.specs.declared.EnumView.{EnumView}
 use Rattle.nested.specs.Groups.{EnumOf, shared, belongs, is_direct, is_first, opens, names_before, Next}
@@ -62,7 +62,6 @@ is_enum_kind Struct = false
 is_enum_kind CxxType = false
 is_enum_kind RustType = false
 is_enum_kind RustFunction = false
-is_enum_kind CxxFunction = false
 is_enum_kind Bad = false
 
 -- the kinds that say by themselves whether one is needed
@@ -72,7 +71,6 @@ is_declared_kind CxxType = true
 is_declared_kind RustType = true
 is_declared_kind Enum = false
 is_declared_kind RustFunction = false
-is_declared_kind CxxFunction = false
 is_declared_kind Bad = false
 
 needs_body : (b : Body) → is_enum_kind (kind_of_body b) ≡ false → is_declared_kind (kind_of_body b) ≡ needs_forward_declaration b
@@ -80,11 +78,7 @@ needs_body (struct p ts) h = refl
 needs_body (enum p a c) h = absurd (false≢true (sym h))
 needs_body (cxx_type p) h = refl
 needs_body (rust_type p) h = refl
-needs_body (function f) h = by_lang f.lang
-  where
-    by_lang : (l : Lang) → is_declared_kind (function_kind l) ≡ false
-    by_lang rust = refl
-    by_lang (cxx u e) = refl
+needs_body (function f) h = refl
 
 pub needs_kind : (s names items : List ℕ) (i : ℕ) {k l : ItemKind} → k ≡ kind_of_body (item_no s names items i).body →
     k ≡ l → is_enum_kind l ≡ false → is_declared_kind l ≡ needs_forward_declaration (item_no s names items i).body

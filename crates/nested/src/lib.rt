@@ -56,7 +56,6 @@ pub fn needs_forward_declaration(s: &[u8], names: &[u32], items: &[u32], i: u32)
         ItemKind::CxxType => true,
         ItemKind::RustType => true,
         ItemKind::RustFunction => false,
-        ItemKind::CxxFunction => false,
         ItemKind::Bad => false,
     }
 }

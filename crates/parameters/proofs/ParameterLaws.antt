@@ -8,7 +8,7 @@ use lib.ListN.{length}
 use Rattle.lexical.specs.Bytes.{bytes}
 use Rattle.lexical.specs.Decimal.{pick_text}
 use Rattle.format.specs.Types.{Ty}
-use Rattle.format.specs.Sheet.{Form, free, const_method, mut_method, associated, Argument, Function, Item}
+use Rattle.format.specs.Sheet.{Form, free, const_method, mut_method, associated, Function, Item}
 use Rattle.format.specs.Decoding.{form_of}
 use Rattle.format.specs.declared.TypeKind.{TypeKind}
 use Rattle.syntax.specs.Items.{item_at, full_name}
@@ -87,23 +87,16 @@ module _ {s names items : List ℕ} {f : FunctionView} (a : FunctionAt s names i
 
   -- ---- the parameters
 
-  module _ {offsets : List ℕ} (o : ArgumentsAt s names items f offsets) {b : Bool}
+  module _ {offsets : List ℕ} (g : ArgumentsAt s names items f offsets) {b : Bool}
       (h : b ≡ is_method (form_of f.form f.owner)) {c : Bool} (d : c ≡ (b || ltb 0 f.arguments)) where
-    -- however arguments and slot are written
-    pub parameters_by : (g : Argument → List ℕ) (slots : List (List ℕ)) {r t u v : Sink} →
-        Wrote r (commas false (receiver all this.form)) t → Wrote t (commas b (map g this.arguments)) u →
-        Wrote u (commas c slots) v →
-        Wrote r (commas false (receiver all this.form ++ map g this.arguments ++ slots)) v
-    parameters_by g slots p q w =
-        let one : is_some (receiver all this.form) ≡ b = receiver_count this.form ∙ sym (method_is a h) in
-        let two : is_some (map g this.arguments) ≡ ltb 0 f.arguments =
-        some_map g this.arguments ∙ some_count this.arguments (arguments_count o) in
-        wrote_as (p ▷ q ▷ w)
-        (sym (commas_three (receiver all this.form) (map g this.arguments) _ ∙ rw (one, two, ← d)))
-
     pub parameters : {r t u v : Sink} → Wrote r (commas false (receiver all this.form)) t →
         Wrote t (commas b (map (extern_arg all) this.arguments)) u →
         Wrote u (commas c (map (slot_parameter all) (slot all this))) v →
         Wrote r (commas false (extern_parameters all this)) v
     unfolding extern_parameters
-    parameters p q w = parameters_by (extern_arg all) _ p q w
+    parameters p q w =
+        let one : is_some (receiver all this.form) ≡ b = receiver_count this.form ∙ sym (method_is a h) in
+        let two : is_some (map (extern_arg all) this.arguments) ≡ ltb 0 f.arguments =
+        some_map (extern_arg all) this.arguments ∙ some_count this.arguments (arguments_count g) in
+        wrote_as (p ▷ q ▷ w)
+        (sym (commas_three (receiver all this.form) (map (extern_arg all) this.arguments) _ ∙ rw (one, two, ← d)))

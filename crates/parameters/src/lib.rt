@@ -20,7 +20,7 @@ use write_atom::write_space_after_type;
 // ---- the receiver
 
 // The receiver's parameter, where there is one.
-pub fn write_receiver(
+fn write_receiver(
     s: &[u8],
     t: &[u32; Table::PLACES],
     pool: &[u8; Pool::BYTES],

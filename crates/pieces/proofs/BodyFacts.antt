@@ -15,13 +15,12 @@ use Rattle.format.specs.Sheet.{Name}
 use Rattle.rules.specs.Rules.{gather}
 use Rattle.grammar.specs.Token.{Token, comment, quoted}
 use Rattle.grammar.specs.Tree as Tree
-use Rattle.grammar.specs.Tree.{Body, body_end, item, declares, defines, shim, cxx_shim}
+use Rattle.grammar.specs.Tree.{Body, body_end, item, declares, defines, shim}
 use Rattle.grammar.specs.Tokens.{item_tokens, block_tokens, body_tokens}
 use Rattle.grammar.specs.Rules.{max_namespaces, item_ok, body_ok}
 use Rattle.grammar.proofs.TextBack.{block_rules}
 use Rattle.grammar.proofs.Pieces.{usual_comment, usual_closings}
 use Rattle.agreement.specs.Agreement.{Declared, Defined, declarations, shims}
-use Rattle.agreement.specs.CxxAgreement.{CxxDefined, cxx_shims}
 use Rattle.bridge.specs.Block.{Block, user_defined_namespace, extern_c, same_block}
 use Rattle.pieces.proofs.Boundaries.{block_eq}
 use Rattle.pieces.proofs.BodyTree.{tree_block, Entry, body_of, fold_body, in_all, opens, closes, moves, fold_entries}
@@ -156,19 +155,11 @@ abbrev pub declared_by : List Name → Tree.Item → List Declared
 declared_by ns (declares d) = record { namespace = ns; declaration = d } ∷ []
 declared_by ns (defines d) = []
 declared_by ns (shim s) = []
-declared_by ns (cxx_shim s) = []
 
 abbrev pub defined_by : List Name → Tree.Item → List Defined
 defined_by ns (declares d) = []
 defined_by ns (defines d) = []
 defined_by ns (shim s) = record { namespace = ns; shim = s } ∷ []
-defined_by ns (cxx_shim s) = []
-
-abbrev pub cxx_defined_by : List Name → Tree.Item → List CxxDefined
-cxx_defined_by ns (declares d) = []
-cxx_defined_by ns (defines d) = []
-cxx_defined_by ns (shim s) = []
-cxx_defined_by ns (cxx_shim s) = record { namespace = ns; shim = s } ∷ []
 
 declarations_collect : (ns : List Name) (b : Body) → declarations ns b ≡ collect declared_by ns b
 unfolding declarations
@@ -177,7 +168,6 @@ declarations_collect ns (item (declares d) next) =
     ap (λ (x : List Declared). declared_by ns (declares d) ++ x) (declarations_collect ns next)
 declarations_collect ns (item (defines d) next) = declarations_collect ns next
 declarations_collect ns (item (shim s) next) = declarations_collect ns next
-declarations_collect ns (item (cxx_shim s) next) = declarations_collect ns next
 declarations_collect ns (Tree.block (Tree.namespace x) inside next) =
     rw (declarations_collect (ns ++ (x ∷ [])) inside, declarations_collect ns next)
 declarations_collect ns (Tree.block Tree.extern_c inside next) =
@@ -190,32 +180,15 @@ shims_collect ns (item (declares d) next) = shims_collect ns next
 shims_collect ns (item (defines d) next) = shims_collect ns next
 shims_collect ns (item (shim s) next) =
     ap (λ (x : List Defined). defined_by ns (shim s) ++ x) (shims_collect ns next)
-shims_collect ns (item (cxx_shim s) next) = shims_collect ns next
 shims_collect ns (Tree.block (Tree.namespace x) inside next) =
     rw (shims_collect (ns ++ (x ∷ [])) inside, shims_collect ns next)
 shims_collect ns (Tree.block Tree.extern_c inside next) = rw (shims_collect ns inside, shims_collect ns next)
-
-cxx_shims_collect : (ns : List Name) (b : Body) → cxx_shims ns b ≡ collect cxx_defined_by ns b
-unfolding cxx_shims
-cxx_shims_collect ns body_end = refl
-cxx_shims_collect ns (item (declares d) next) = cxx_shims_collect ns next
-cxx_shims_collect ns (item (defines d) next) = cxx_shims_collect ns next
-cxx_shims_collect ns (item (shim s) next) = cxx_shims_collect ns next
-cxx_shims_collect ns (item (cxx_shim s) next) =
-    ap (λ (x : List CxxDefined). cxx_defined_by ns (cxx_shim s) ++ x) (cxx_shims_collect ns next)
-cxx_shims_collect ns (Tree.block (Tree.namespace x) inside next) =
-    rw (cxx_shims_collect (ns ++ (x ∷ [])) inside, cxx_shims_collect ns next)
-cxx_shims_collect ns (Tree.block Tree.extern_c inside next) =
-    rw (cxx_shims_collect ns inside, cxx_shims_collect ns next)
 
 pub body_declarations : (es : List Entry) → declarations [] (body_of es) ≡ in_entries declared_by es
 body_declarations es = declarations_collect [] (body_of es) ∙ collected declared_by es
 
 pub body_shims : (es : List Entry) → shims [] (body_of es) ≡ in_entries defined_by es
 body_shims es = shims_collect [] (body_of es) ∙ collected defined_by es
-
-pub body_cxx_shims : (es : List Entry) → cxx_shims [] (body_of es) ≡ in_entries cxx_defined_by es
-body_cxx_shims es = cxx_shims_collect [] (body_of es) ∙ collected cxx_defined_by es
 
 -- ---- the rules
 

@@ -9,23 +9,17 @@ use Rattle.lexical.specs.Names.{name_char, name_shape, name_ok, keywords, altern
 use Rattle.lexical.proofs.BoolLaws.{by_cases, or_left, or_right}
 use Rattle.lexical.proofs.ByteLaws.{Each, byte_eq, same_eq, same_refl, every_cons}
 use Rattle.lexical.proofs.NameLaws.{name_chars}
-use Rattle.format.specs.Decode.{pick}
-use Rattle.format.specs.Sheet.{Name, Lang, rust, cxx, is_rust, Function, Body, struct, enum, cxx_type, rust_type}
-use Rattle.format.specs.Sheet.{function, Item, Sheet}
+use Rattle.format.specs.Sheet.{Name, Function, Body, struct, enum, cxx_type, rust_type, function, Item, Sheet}
 use Rattle.syntax.specs.Items.{item_at, self_type}
 use Rattle.syntax.specs.Symbol.{push_all, join}
 use Rattle.syntax.specs.Mangle.{version, extern_fn, operator}
 use Rattle.rules.specs.Rules.{gather}
 use Rattle.grammar.specs.Tree.{size, align}
 use Rattle.agreement.specs.Agreement.{RustFunction, rust_function, rust_functions, function_symbol, of_functions}
-use Rattle.agreement.specs.Agreement.{Matches, MatchAll, Agrees}
-use Rattle.agreement.specs.CxxAgreement.{CxxFunction, cxx_function, cxx_functions, CxxMatches, CxxMatchAll, CxxAgrees}
-use Rattle.agreement.specs.Demand3.{Demand3}
+use Rattle.agreement.specs.Agreement.{Matches, MatchAll, Agrees, Demand3}
 use Rattle.pieces.proofs.ForwardTree.{item_named}
 use Rattle.pieces.proofs.SheetEntries.{Trees, entries_of, Spelled, RulesKept, entries_spelled, entries_ok}
-use Rattle.pieces.proofs.SheetEntries.{function_declared_of, declared_of, function_defined_of, defined_of}
-use Rattle.pieces.proofs.SheetEntries.{function_cxx_defined_of, cxx_defined_of, sheet_declarations, sheet_shims}
-use Rattle.pieces.proofs.SheetEntries.{sheet_cxx_shims}
+use Rattle.pieces.proofs.SheetEntries.{declared_of, defined_of, sheet_declarations, sheet_shims}
 use Rattle.pieces.proofs.SheetReading.{tree_of, sheet_reading}
 
 -- ---- the last segment of a symbol
@@ -111,26 +105,17 @@ layout_differs items x name k ns f h =
 abbrev function_of : Item → Function → RustFunction
 function_of x f = record { namespace = x.namespace; cxx = x.cxx; function = f }
 
-abbrev cxx_function_of : Item → Function → CxxFunction
-cxx_function_of x f = record { namespace = x.namespace; cxx = x.cxx; function = f }
-
-abbrev pub MatchedBy : Trees → List Item → Item → Function → Lang → Type 0
-MatchedBy trees items x f rust =
-    (is_name f.rust ≡ true) ×
-    Matches items (function_of x f) (record { namespace = x.namespace; declaration = trees.function_declared x f })
-    (record { namespace = x.namespace; shim = trees.function_defined x f })
-MatchedBy trees items x f (cxx unwind elided) =
-    CxxMatches items (cxx_function_of x f)
-    (record { namespace = x.namespace; shim = trees.cxx_defined x f unwind elided })
-
 abbrev pub Matched : Trees → List Item → Item → Body → Type 0
 Matched trees items x (struct p ts) = Unit {0}
-Matched trees items x (enum p a owned) = Unit {0}
+Matched trees items x (enum p a cxx) = Unit {0}
 Matched trees items x (cxx_type p) = Unit {0}
 Matched trees items x (rust_type p) =
     ((trees.layout_declared x size).symbol ≡ operator x (bytes "sizeof")) ×
     ((trees.layout_declared x align).symbol ≡ operator x (bytes "alignof"))
-Matched trees items x (function f) = MatchedBy trees items x f f.lang
+Matched trees items x (function f) =
+    (is_name f.rust ≡ true) ×
+    Matches items (function_of x f) (record { namespace = x.namespace; declaration = trees.function_declared x f })
+    (record { namespace = x.namespace; shim = trees.function_defined x f })
 
 module _ (trees : Trees) (items : List Item) where
   abbrev symbols : List Item → List (List ℕ)
@@ -142,19 +127,13 @@ module _ (trees : Trees) (items : List Item) where
   layout_undeclared x name k [] h = refl
   layout_undeclared x name k (y ∷ ys) h = go y.body h.0 (layout_undeclared x name k ys h.1)
     where
-      by : (f : Function) (l : Lang) → MatchedBy trees items y f l → member (operator x name) (symbols ys) ≡ false →
-          member (operator x name)
-          (map (function_symbol items) (pick (is_rust l) (function_of y f ∷ []) [] ++ rust_functions ys)) ≡ false
-      by f rust m e = rw (layout_differs items x name k y.namespace f m.0) e
-      by f (cxx unwind elided) m e = e
-
       go : (b : Body) → Matched trees items y b → member (operator x name) (symbols ys) ≡ false →
           member (operator x name) (map (function_symbol items) (rust_function y b ++ rust_functions ys)) ≡ false
       go (struct p ts) m e = e
-      go (enum p a owned) m e = e
+      go (enum p a cxx) m e = e
       go (cxx_type p) m e = e
       go (rust_type p) m e = e
-      go (function f) m e = by f f.lang m e
+      go (function f) m e = rw (layout_differs items x name k y.namespace f m.0) e
 
   -- the functions of the items, each with its declaration and shim; the layouts are none of theirs
   all_match : (all xs : List Item) → Each (λ y. Matched trees items y y.body) all →
@@ -173,22 +152,6 @@ module _ (trees : Trees) (items : List Item) where
           (of_functions (symbols all) (gather (λ x. declared_of trees x x.body) xs))
           (gather (λ x. defined_of trees x x.body) xs)
 
-      by : (f : Function) (l : Lang) → MatchedBy trees items x f l →
-          ((s : List ℕ) → member s
-          (map (function_symbol items) (pick (is_rust l) (function_of x f ∷ []) [] ++ rust_functions xs)) ≡ true →
-          member s (symbols all) ≡ true) →
-          (((s : List ℕ) → member s (symbols xs) ≡ true → member s (symbols all) ≡ true) → Rest) →
-          MatchAll items (pick (is_rust l) (function_of x f ∷ []) [] ++ rust_functions xs)
-          (of_functions (symbols all) (function_declared_of trees x f l ++ gather (λ x. declared_of trees x x.body) xs))
-          (function_defined_of trees x f l ++ gather (λ x. defined_of trees x x.body) xs)
-      by f rust m among rest =
-          let symbol = function_symbol items (function_of x f) in
-          let a : member (trees.function_declared x f).symbol (symbols all) ≡ true =
-          rw m.1.declares
-          (among symbol (or_left (same symbol symbol) (member symbol (symbols xs)) (same_refl symbol))) in
-          rw a (m.1, rest (λ s e. among s (or_right (same s symbol) (member s (symbols xs)) e)))
-      by f (cxx unwind elided) m among rest = rest among
-
       go : (b : Body) → Matched trees items x b →
           ((s : List ℕ) → member s (map (function_symbol items) (rust_function x b ++ rust_functions xs)) ≡ true →
           member s (symbols all) ≡ true) →
@@ -197,7 +160,7 @@ module _ (trees : Trees) (items : List Item) where
           (of_functions (symbols all) (declared_of trees x b ++ gather (λ x. declared_of trees x x.body) xs))
           (defined_of trees x b ++ gather (λ x. defined_of trees x x.body) xs)
       go (struct p ts) m among rest = rest among
-      go (enum p a owned) m among rest = rest among
+      go (enum p a cxx) m among rest = rest among
       go (cxx_type p) m among rest = rest among
       go (rust_type p) m among rest =
           let a : member (trees.layout_declared x size).symbol (symbols all) ≡ false =
@@ -205,32 +168,12 @@ module _ (trees : Trees) (items : List Item) where
           let b : member (trees.layout_declared x align).symbol (symbols all) ≡ false =
           rw m.1 (layout_undeclared x (bytes "alignof") alignof_keyword all k) in
           rw (a, b) (rest among)
-      go (function f) m among rest = by f f.lang m among rest
-
-  -- the C++ functions of the items, each with its shim
-  cxx_all_match : (xs : List Item) → Each (λ y. Matched trees items y y.body) xs →
-      CxxMatchAll items (cxx_functions xs) (gather (λ x. cxx_defined_of trees x x.body) xs)
-  unfolding cxx_functions gather
-  cxx_all_match [] h = tt
-  cxx_all_match (x ∷ xs) h = go x.body h.0 (cxx_all_match xs h.1)
-    where
-      Rest : Type 0
-      Rest = CxxMatchAll items (cxx_functions xs) (gather (λ x. cxx_defined_of trees x x.body) xs)
-
-      by : (f : Function) (l : Lang) → MatchedBy trees items x f l → Rest →
-          CxxMatchAll items (pick (is_rust l) [] (cxx_function_of x f ∷ []) ++ cxx_functions xs)
-          (function_cxx_defined_of trees x f l ++ gather (λ x. cxx_defined_of trees x x.body) xs)
-      by f rust m rest = rest
-      by f (cxx unwind elided) m rest = (m, rest)
-
-      go : (b : Body) → Matched trees items x b → Rest →
-          CxxMatchAll items (cxx_function x b ++ cxx_functions xs)
-          (cxx_defined_of trees x b ++ gather (λ x. cxx_defined_of trees x x.body) xs)
-      go (struct p ts) m rest = rest
-      go (enum p a owned) m rest = rest
-      go (cxx_type p) m rest = rest
-      go (rust_type p) m rest = rest
-      go (function f) m rest = by f f.lang m rest
+      go (function f) m among rest =
+          let symbol = function_symbol items (function_of x f) in
+          let a : member (trees.function_declared x f).symbol (symbols all) ≡ true =
+          rw m.1.declares
+          (among symbol (or_left (same symbol symbol) (member symbol (symbols xs)) (same_refl symbol))) in
+          rw a (m.1, rest (λ s e. among s (or_right (same s symbol) (member s (symbols xs)) e)))
 
 -- ---- demand 3
 
@@ -248,11 +191,6 @@ sheet_agrees s trees h =
     rw (sheet_declarations trees s.items, sheet_shims trees s.items)
     (all_match trees s.items s.items s.items h.matched (λ r e. e) h.matched)
 
-sheet_cxx_agrees : (s : Sheet) (trees : Trees) → TreesFit s trees →
-    CxxAgrees s.items (tree_of s (entries_of trees s.items))
-sheet_cxx_agrees s trees h =
-    rw (sheet_cxx_shims trees s.items) (cxx_all_match trees s.items s.items h.matched)
-
 pub demand_3 : (s : Sheet) (trees : Trees) → TreesFit s trees → Demand3 s
 demand_3 s trees h =
     record {
@@ -260,5 +198,4 @@ demand_3 s trees h =
           sheet_reading s (entries_of trees s.items) (entries_spelled trees s h.no_header h.spelled)
           (entries_ok trees s.items h.named h.kept) h.named;
       agrees = sheet_agrees s trees h;
-      cxx_agrees = sheet_cxx_agrees s trees h;
     }

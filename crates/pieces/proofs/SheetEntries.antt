@@ -7,24 +7,19 @@ use lib.ListN.{length}
 use Rattle.lexical.specs.Bytes.{bytes, every}
 use Rattle.lexical.proofs.ByteLaws.{Each, every_cons, every_append}
 use Rattle.format.specs.Decode.{pick}
-use Rattle.format.specs.Sheet.{Name, Lang, rust, cxx, Function, Body, struct, enum, cxx_type, rust_type, function, Item}
-use Rattle.format.specs.Sheet.{Sheet}
+use Rattle.format.specs.Sheet.{Name, Function, Body, struct, enum, cxx_type, rust_type, function, Item, Sheet}
 use Rattle.rules.specs.Rules.{gather}
 use Rattle.rules.proofs.EveryLaws.{every_gather}
 use Rattle.grammar.specs.Tree as Tree
-use Rattle.grammar.specs.Tree.{Declaration, LayoutDefinition, Shim, CxxShim, Measure, size, align, declares, defines}
-use Rattle.grammar.specs.Tree.{shim, cxx_shim}
+use Rattle.grammar.specs.Tree.{Declaration, LayoutDefinition, Shim, Measure, size, align, declares, defines, shim}
 use Rattle.grammar.specs.Rules.{item_ok}
 use Rattle.agreement.specs.Agreement.{Declared, Defined, declarations, shims}
-use Rattle.agreement.specs.CxxAgreement.{CxxDefined, cxx_shims}
 use Rattle.bridge.specs.Block.{Block, user_defined_namespace, extern_c}
 use Rattle.bridge.specs.Write.{function_decl, layout_decl, layout_definition, function_shim, is_free}
-use Rattle.bridge.specs.Cxx.{cxx_function_shim}
-use Rattle.pieces.specs.Pieces.{Piece, namespaces, extern_text, declaration_pieces, shim_pieces}
-use Rattle.pieces.specs.Pieces.{definition_pieces, pieces}
+use Rattle.pieces.specs.Pieces.{Piece, namespaces, declaration_pieces, definition_pieces, pieces}
 use Rattle.pieces.proofs.BodyTree.{Entry, body_of}
-use Rattle.pieces.proofs.BodyFacts.{names_of, has_extern_c, entry_ok, in_entries, declared_by, defined_by, cxx_defined_by}
-use Rattle.pieces.proofs.BodyFacts.{body_declarations, body_shims, body_cxx_shims}
+use Rattle.pieces.proofs.BodyFacts.{names_of, has_extern_c, entry_ok, in_entries, declared_by, defined_by}
+use Rattle.pieces.proofs.BodyFacts.{body_declarations, body_shims}
 use Rattle.pieces.proofs.BodyLayout.{SpellsItem, SpellAll}
 use Rattle.pieces.proofs.ForwardTree.{item_named, named_item_lem}
 
@@ -82,38 +77,25 @@ pub record Trees : Type 0 where
   pub function_declared : Item → Function → Declaration
   pub layout_defined : Item → Measure → LayoutDefinition
   pub function_defined : Item → Function → Shim
-  pub cxx_defined : Item → Function → Bool → Bool → CxxShim  -- by the unwind bit and the elided bit
-
-abbrev extern_entry : Item → Tree.Item → Entry
-extern_entry x i = (namespaces x ++ (extern_c ∷ []), i)
 
 abbrev declared_entry : Item → Declaration → Entry
-declared_entry x d = extern_entry x (declares d)
-
--- what a function has in extern "C"
-abbrev pub extern_tree : Trees → Item → Function → Lang → Tree.Item
-extern_tree trees x f rust = declares (trees.function_declared x f)
-extern_tree trees x f (cxx unwind elided) = cxx_shim (trees.cxx_defined x f unwind elided)
+declared_entry x d = (namespaces x ++ (extern_c ∷ []), declares d)
 
 abbrev pub declared_entries : Trees → Item → Body → List Entry
 declared_entries trees x (struct p ts) = []
-declared_entries trees x (enum p a owned) = []
+declared_entries trees x (enum p a cxx) = []
 declared_entries trees x (cxx_type p) = []
 declared_entries trees x (rust_type p) =
     declared_entry x (trees.layout_declared x size) ∷ declared_entry x (trees.layout_declared x align) ∷ []
-declared_entries trees x (function f) = extern_entry x (extern_tree trees x f f.lang) ∷ []
-
-abbrev pub shim_entries : Trees → Item → Function → Lang → List Entry
-shim_entries trees x f rust = (namespaces x, shim (trees.function_defined x f)) ∷ []
-shim_entries trees x f (cxx unwind elided) = []
+declared_entries trees x (function f) = declared_entry x (trees.function_declared x f) ∷ []
 
 abbrev pub defined_entries : Trees → Item → Body → List Entry
 defined_entries trees x (struct p ts) = []
-defined_entries trees x (enum p a owned) = []
+defined_entries trees x (enum p a cxx) = []
 defined_entries trees x (cxx_type p) = []
 defined_entries trees x (rust_type p) =
     (namespaces x, defines (trees.layout_defined x size)) ∷ (namespaces x, defines (trees.layout_defined x align)) ∷ []
-defined_entries trees x (function f) = shim_entries trees x f f.lang
+defined_entries trees x (function f) = (namespaces x, shim (trees.function_defined x f)) ∷ []
 
 pub entries_of : Trees → List Item → List Entry
 entries_of trees items =
@@ -133,65 +115,47 @@ entries_every test keep P trees step items n h =
 
 -- ---- what the trees of an item must be
 
-abbrev pub SpelledBy : Trees → Sheet → Item → Function → Lang → Type 0
-SpelledBy trees s x f rust =
-    SpellsItem (function_decl s.items x f) (declares (trees.function_declared x f)) ×
-    SpellsItem (function_shim s x f) (shim (trees.function_defined x f))
-SpelledBy trees s x f (cxx unwind elided) =
-    SpellsItem (cxx_function_shim s.items x f unwind elided) (cxx_shim (trees.cxx_defined x f unwind elided))
-
 abbrev pub Spelled : Trees → Sheet → Item → Body → Type 0
 Spelled trees s x (struct p ts) = Unit {0}
-Spelled trees s x (enum p a owned) = Unit {0}
+Spelled trees s x (enum p a cxx) = Unit {0}
 Spelled trees s x (cxx_type p) = Unit {0}
 Spelled trees s x (rust_type p) =
     SpellsItem (layout_decl x (bytes "sizeof")) (declares (trees.layout_declared x size)) ×
     SpellsItem (layout_decl x (bytes "alignof")) (declares (trees.layout_declared x align)) ×
     SpellsItem (layout_definition x (bytes "size") (bytes "sizeof")) (defines (trees.layout_defined x size)) ×
     SpellsItem (layout_definition x (bytes "align") (bytes "alignof")) (defines (trees.layout_defined x align))
-Spelled trees s x (function f) = SpelledBy trees s x f f.lang
+Spelled trees s x (function f) =
+    SpellsItem (function_decl s.items x f) (declares (trees.function_declared x f)) ×
+    SpellsItem (function_shim s x f) (shim (trees.function_defined x f))
 
 -- the rules of a declaration and of a definition, in the item's namespaces
-abbrev pub extern_ok : Item → Tree.Item → Bool
-extern_ok x i = item_ok (length x.namespace) true i
-
 abbrev pub declared_ok : Item → Declaration → Bool
-declared_ok x d = extern_ok x (declares d)
+declared_ok x d = item_ok (length x.namespace) true (declares d)
 
 abbrev pub defined_ok : Item → Tree.Item → Bool
 defined_ok x i = item_ok (length x.namespace) false i
 
-abbrev pub RulesKeptBy : Trees → Item → Function → Lang → Type 0
-RulesKeptBy trees x f rust =
-    (declared_ok x (trees.function_declared x f) ≡ true) × (defined_ok x (shim (trees.function_defined x f)) ≡ true)
-RulesKeptBy trees x f (cxx unwind elided) = extern_ok x (cxx_shim (trees.cxx_defined x f unwind elided)) ≡ true
-
 abbrev pub RulesKept : Trees → Item → Body → Type 0
 RulesKept trees x (struct p ts) = Unit {0}
-RulesKept trees x (enum p a owned) = Unit {0}
+RulesKept trees x (enum p a cxx) = Unit {0}
 RulesKept trees x (cxx_type p) = Unit {0}
 RulesKept trees x (rust_type p) =
     (declared_ok x (trees.layout_declared x size) ≡ true) × (declared_ok x (trees.layout_declared x align) ≡ true) ×
     (defined_ok x (defines (trees.layout_defined x size)) ≡ true) ×
     (defined_ok x (defines (trees.layout_defined x align)) ≡ true)
-RulesKept trees x (function f) = RulesKeptBy trees x f f.lang
+RulesKept trees x (function f) =
+    (declared_ok x (trees.function_declared x f) ≡ true) × (defined_ok x (shim (trees.function_defined x f)) ≡ true)
 
 -- ---- spelled by the pieces
-
-extern_spelled : (trees : Trees) (s : Sheet) (x : Item) (f : Function) (l : Lang) → SpelledBy trees s x f l →
-    SpellsItem (extern_text s.items x f l) (extern_tree trees x f l)
-extern_spelled trees s x f rust h = h.0
-extern_spelled trees s x f (cxx unwind elided) h = h
 
 declared_spelled : (trees : Trees) (s : Sheet) (x : Item) (b : Body) → Spelled trees s x b →
     SpellAll (declaration_pieces s.items x b) (declared_entries trees x b)
 declared_spelled trees s x (struct p ts) h = tt
-declared_spelled trees s x (enum p a owned) h = tt
+declared_spelled trees s x (enum p a cxx) h = tt
 declared_spelled trees s x (cxx_type p) h = tt
 declared_spelled trees s x (rust_type p) h =
     (record { around = refl; spells = h.0 }, (record { around = refl; spells = h.1 }, tt))
-declared_spelled trees s x (function f) h =
-    (record { around = refl; spells = extern_spelled trees s x f f.lang h }, tt)
+declared_spelled trees s x (function f) h = (record { around = refl; spells = h.0 }, tt)
 
 picked : {A : Type 0} (b : Bool) (x y : A) → b ≡ false → pick b x y ≡ y
 picked true x y e = absurd (false≢true (sym e))
@@ -201,20 +165,15 @@ shown : (header method : Bool) → header ≡ false → (header && method) ≡ f
 shown true method e = absurd (false≢true (sym e))
 shown false method e = refl
 
-shim_spelled : (trees : Trees) (s : Sheet) (x : Item) (f : Function) (l : Lang) → s.header ≡ false →
-    SpelledBy trees s x f l → SpellAll (shim_pieces s x f l) (shim_entries trees x f l)
-shim_spelled trees s x f rust e h =
-    rw (shown s.header (not (is_free f.form)) e) (record { around = refl; spells = h.1 }, tt)
-shim_spelled trees s x f (cxx unwind elided) e h = tt
-
 defined_spelled : (trees : Trees) (s : Sheet) (x : Item) (b : Body) → s.header ≡ false → Spelled trees s x b →
     SpellAll (definition_pieces s x b) (defined_entries trees x b)
 defined_spelled trees s x (struct p ts) e h = tt
-defined_spelled trees s x (enum p a owned) e h = tt
+defined_spelled trees s x (enum p a cxx) e h = tt
 defined_spelled trees s x (cxx_type p) e h = tt
 defined_spelled trees s x (rust_type p) e h =
     rw e (record { around = refl; spells = h.2 }, (record { around = refl; spells = h.3 }, tt))
-defined_spelled trees s x (function f) e h = shim_spelled trees s x f f.lang e h
+defined_spelled trees s x (function f) e h =
+    rw (shown s.header (not (is_free f.form)) e) (record { around = refl; spells = h.1 }, tt)
 
 pub entries_spelled : (trees : Trees) (s : Sheet) → s.header ≡ false →
     Each (λ x. Spelled trees s x x.body) s.items → SpellAll (pieces s) (entries_of trees s.items)
@@ -269,34 +228,23 @@ module _ (x : Item) (named : item_named x ≡ true) where
       let n = named_item_lem x named in
       rw (defined_names x, not_in_extern_c x, n.namespaces, n.shallow) h
 
-  extern_ok_lem : (trees : Trees) (f : Function) (l : Lang) → RulesKeptBy trees x f l →
-      extern_ok x (extern_tree trees x f l) ≡ true
-  extern_ok_lem trees f rust h = h.0
-  extern_ok_lem trees f (cxx unwind elided) h = h
-
   declared_entries_ok : (trees : Trees) (b : Body) → RulesKept trees x b →
       every entry_ok (declared_entries trees x b) ≡ true
   unfolding every
   declared_entries_ok trees (struct p ts) h = refl
-  declared_entries_ok trees (enum p a owned) h = refl
+  declared_entries_ok trees (enum p a cxx) h = refl
   declared_entries_ok trees (cxx_type p) h = refl
   declared_entries_ok trees (rust_type p) h = rw (declared_ok_lem _ h.0, declared_ok_lem _ h.1)
-  declared_entries_ok trees (function f) h = rw (declared_ok_lem _ (extern_ok_lem trees f f.lang h))
-
-  shim_entries_ok : (trees : Trees) (f : Function) (l : Lang) → RulesKeptBy trees x f l →
-      every entry_ok (shim_entries trees x f l) ≡ true
-  unfolding every
-  shim_entries_ok trees f rust h = rw (defined_ok_lem _ h.1)
-  shim_entries_ok trees f (cxx unwind elided) h = refl
+  declared_entries_ok trees (function f) h = rw (declared_ok_lem _ h.0)
 
   defined_entries_ok : (trees : Trees) (b : Body) → RulesKept trees x b →
       every entry_ok (defined_entries trees x b) ≡ true
   unfolding every
   defined_entries_ok trees (struct p ts) h = refl
-  defined_entries_ok trees (enum p a owned) h = refl
+  defined_entries_ok trees (enum p a cxx) h = refl
   defined_entries_ok trees (cxx_type p) h = refl
   defined_entries_ok trees (rust_type p) h = rw (defined_ok_lem _ h.2, defined_ok_lem _ h.3)
-  defined_entries_ok trees (function f) h = shim_entries_ok trees f f.lang h
+  defined_entries_ok trees (function f) h = rw (defined_ok_lem _ h.1)
 
 pub entries_ok : (trees : Trees) (items : List Item) → every item_named items ≡ true →
     Each (λ x. RulesKept trees x x.body) items → every entry_ok (entries_of trees items) ≡ true
@@ -309,127 +257,54 @@ entries_ok trees =
 abbrev declared_in : Item → Declaration → Declared
 declared_in x d = record { namespace = x.namespace; declaration = d }
 
-abbrev pub function_declared_of : Trees → Item → Function → Lang → List Declared
-function_declared_of trees x f rust = declared_in x (trees.function_declared x f) ∷ []
-function_declared_of trees x f (cxx unwind elided) = []
-
 abbrev pub declared_of : Trees → Item → Body → List Declared
 declared_of trees x (struct p ts) = []
-declared_of trees x (enum p a owned) = []
+declared_of trees x (enum p a cxx) = []
 declared_of trees x (cxx_type p) = []
 declared_of trees x (rust_type p) =
     declared_in x (trees.layout_declared x size) ∷ declared_in x (trees.layout_declared x align) ∷ []
-declared_of trees x (function f) = function_declared_of trees x f f.lang
-
-abbrev pub function_defined_of : Trees → Item → Function → Lang → List Defined
-function_defined_of trees x f rust = record { namespace = x.namespace; shim = trees.function_defined x f } ∷ []
-function_defined_of trees x f (cxx unwind elided) = []
+declared_of trees x (function f) = declared_in x (trees.function_declared x f) ∷ []
 
 abbrev pub defined_of : Trees → Item → Body → List Defined
 defined_of trees x (struct p ts) = []
-defined_of trees x (enum p a owned) = []
+defined_of trees x (enum p a cxx) = []
 defined_of trees x (cxx_type p) = []
 defined_of trees x (rust_type p) = []
-defined_of trees x (function f) = function_defined_of trees x f f.lang
+defined_of trees x (function f) = record { namespace = x.namespace; shim = trees.function_defined x f } ∷ []
 
-abbrev pub function_cxx_defined_of : Trees → Item → Function → Lang → List CxxDefined
-function_cxx_defined_of trees x f rust = []
-function_cxx_defined_of trees x f (cxx unwind elided) =
-    record { namespace = x.namespace; shim = trees.cxx_defined x f unwind elided } ∷ []
+declared_declared : (trees : Trees) (x : Item) (b : Body) →
+    in_entries declared_by (declared_entries trees x b) ≡ declared_of trees x b
+unfolding gather
+declared_declared trees x (struct p ts) = refl
+declared_declared trees x (enum p a cxx) = refl
+declared_declared trees x (cxx_type p) = refl
+declared_declared trees x (rust_type p) = rw (declared_names x)
+declared_declared trees x (function f) = rw (declared_names x)
 
-abbrev pub cxx_defined_of : Trees → Item → Body → List CxxDefined
-cxx_defined_of trees x (struct p ts) = []
-cxx_defined_of trees x (enum p a owned) = []
-cxx_defined_of trees x (cxx_type p) = []
-cxx_defined_of trees x (rust_type p) = []
-cxx_defined_of trees x (function f) = function_cxx_defined_of trees x f f.lang
+defined_declared : (trees : Trees) (x : Item) (b : Body) → in_entries declared_by (defined_entries trees x b) ≡ []
+unfolding gather
+defined_declared trees x (struct p ts) = refl
+defined_declared trees x (enum p a cxx) = refl
+defined_declared trees x (cxx_type p) = refl
+defined_declared trees x (rust_type p) = refl
+defined_declared trees x (function f) = refl
 
-module _ (trees : Trees) (x : Item) where
-  -- a function's entries, by its language
+declared_defined : (trees : Trees) (x : Item) (b : Body) → in_entries defined_by (declared_entries trees x b) ≡ []
+unfolding gather
+declared_defined trees x (struct p ts) = refl
+declared_defined trees x (enum p a cxx) = refl
+declared_defined trees x (cxx_type p) = refl
+declared_defined trees x (rust_type p) = refl
+declared_defined trees x (function f) = refl
 
-  function_declared_lem : (f : Function) (l : Lang) →
-      in_entries declared_by (extern_entry x (extern_tree trees x f l) ∷ []) ≡ function_declared_of trees x f l
-  unfolding gather
-  function_declared_lem f rust = rw (declared_names x)
-  function_declared_lem f (cxx unwind elided) = refl
-
-  function_not_defined : (f : Function) (l : Lang) →
-      in_entries defined_by (extern_entry x (extern_tree trees x f l) ∷ []) ≡ []
-  unfolding gather
-  function_not_defined f rust = refl
-  function_not_defined f (cxx unwind elided) = refl
-
-  function_cxx_defined : (f : Function) (l : Lang) →
-      in_entries cxx_defined_by (extern_entry x (extern_tree trees x f l) ∷ []) ≡ function_cxx_defined_of trees x f l
-  unfolding gather
-  function_cxx_defined f rust = refl
-  function_cxx_defined f (cxx unwind elided) = rw (declared_names x)
-
-  shim_not_declared : (f : Function) (l : Lang) → in_entries declared_by (shim_entries trees x f l) ≡ []
-  unfolding gather
-  shim_not_declared f rust = refl
-  shim_not_declared f (cxx unwind elided) = refl
-
-  shim_defined : (f : Function) (l : Lang) →
-      in_entries defined_by (shim_entries trees x f l) ≡ function_defined_of trees x f l
-  unfolding gather
-  shim_defined f rust = rw (defined_names x)
-  shim_defined f (cxx unwind elided) = refl
-
-  shim_not_cxx : (f : Function) (l : Lang) → in_entries cxx_defined_by (shim_entries trees x f l) ≡ []
-  unfolding gather
-  shim_not_cxx f rust = refl
-  shim_not_cxx f (cxx unwind elided) = refl
-
-  -- an item's entries
-
-  declared_declared : (b : Body) → in_entries declared_by (declared_entries trees x b) ≡ declared_of trees x b
-  unfolding gather
-  declared_declared (struct p ts) = refl
-  declared_declared (enum p a owned) = refl
-  declared_declared (cxx_type p) = refl
-  declared_declared (rust_type p) = rw (declared_names x)
-  declared_declared (function f) = function_declared_lem f f.lang
-
-  defined_declared : (b : Body) → in_entries declared_by (defined_entries trees x b) ≡ []
-  unfolding gather
-  defined_declared (struct p ts) = refl
-  defined_declared (enum p a owned) = refl
-  defined_declared (cxx_type p) = refl
-  defined_declared (rust_type p) = refl
-  defined_declared (function f) = shim_not_declared f f.lang
-
-  declared_defined : (b : Body) → in_entries defined_by (declared_entries trees x b) ≡ []
-  unfolding gather
-  declared_defined (struct p ts) = refl
-  declared_defined (enum p a owned) = refl
-  declared_defined (cxx_type p) = refl
-  declared_defined (rust_type p) = refl
-  declared_defined (function f) = function_not_defined f f.lang
-
-  defined_defined : (b : Body) → in_entries defined_by (defined_entries trees x b) ≡ defined_of trees x b
-  unfolding gather
-  defined_defined (struct p ts) = refl
-  defined_defined (enum p a owned) = refl
-  defined_defined (cxx_type p) = refl
-  defined_defined (rust_type p) = refl
-  defined_defined (function f) = shim_defined f f.lang
-
-  declared_cxx : (b : Body) → in_entries cxx_defined_by (declared_entries trees x b) ≡ cxx_defined_of trees x b
-  unfolding gather
-  declared_cxx (struct p ts) = refl
-  declared_cxx (enum p a owned) = refl
-  declared_cxx (cxx_type p) = refl
-  declared_cxx (rust_type p) = refl
-  declared_cxx (function f) = function_cxx_defined f f.lang
-
-  defined_cxx : (b : Body) → in_entries cxx_defined_by (defined_entries trees x b) ≡ []
-  unfolding gather
-  defined_cxx (struct p ts) = refl
-  defined_cxx (enum p a owned) = refl
-  defined_cxx (cxx_type p) = refl
-  defined_cxx (rust_type p) = refl
-  defined_cxx (function f) = shim_not_cxx f f.lang
+defined_defined : (trees : Trees) (x : Item) (b : Body) →
+    in_entries defined_by (defined_entries trees x b) ≡ defined_of trees x b
+unfolding gather
+defined_defined trees x (struct p ts) = refl
+defined_defined trees x (enum p a cxx) = refl
+defined_defined trees x (cxx_type p) = refl
+defined_defined trees x (rust_type p) = refl
+defined_defined trees x (function f) = rw (defined_names x)
 
 module _ {D : Type 0} (found : List Name → Tree.Item → List D) (trees : Trees) (items : List Item) where
   in_sheet : in_entries found (entries_of trees items)
@@ -457,11 +332,3 @@ sheet_shims trees items =
     body_shims (entries_of trees items) ∙ in_sheet defined_by trees items ∙
     ap₂ (λ (a b : List Defined). a ++ b) (gather_none _ (λ x. declared_defined trees x x.body) items)
     (gather_same _ (λ x. defined_of trees x x.body) (λ x. defined_defined trees x x.body) items)
-
-pub sheet_cxx_shims : (trees : Trees) (items : List Item) →
-    cxx_shims [] (body_of (entries_of trees items)) ≡ gather (λ x. cxx_defined_of trees x x.body) items
-sheet_cxx_shims trees items =
-    body_cxx_shims (entries_of trees items) ∙ in_sheet cxx_defined_by trees items ∙
-    ap₂ (λ (a b : List CxxDefined). a ++ b)
-    (gather_same _ (λ x. cxx_defined_of trees x x.body) (λ x. declared_cxx trees x x.body) items)
-    (gather_none _ (λ x. defined_cxx trees x x.body) items) ∙ append-nil _

@@ -6,45 +6,37 @@ use Prim.Native.Nat.{ℕ, zero, suc, ◌+◌}
 use Rattle.lexical.specs.Bytes.{every}
 use Rattle.lexical.proofs.BoolLaws.{both}
 use Rattle.lexical.proofs.ByteLaws.{Each, every_cons, every_append, every_split, every_weaken}
-use Rattle.format.specs.Sheet.{Name, Lang, rust, cxx, Function, Body, struct, enum, cxx_type, rust_type, function, Item}
-use Rattle.format.specs.Sheet.{Sheet}
+use Rattle.format.specs.Sheet.{Name, Body, struct, enum, cxx_type, rust_type, function, Item, Sheet}
 use Rattle.grammar.specs.Tree as Tree
 use Rattle.grammar.specs.Tree.{Forward, forward_end, Text, size, align, body_end, item}
 use Rattle.grammar.specs.Reading.{Reading}
-use Rattle.agreement.specs.Names.{names_of_declaration, names_of_layout, names_of_shim, names_of_cxx_shim, names_of_item}
-use Rattle.agreement.specs.Names.{names_of_block, names_of_body, names_of_forward, names_of}
+use Rattle.agreement.specs.Names.{names_of_declaration, names_of_layout, names_of_shim, names_of_item, names_of_block}
+use Rattle.agreement.specs.Names.{names_of_body, names_of_forward, names_of}
 use Rattle.bridge.specs.Block.{Block, user_defined_namespace, extern_c}
 use Rattle.bridge.specs.Nested.{nested_content}
-use Rattle.bridge.specs.Text.{text}
+use Rattle.bridge.specs.Write.{text}
 use Rattle.pieces.proofs.BodyTree.{Entry, body_of, fold_body, opens, fold_entries, fold_body_of}
 use Rattle.pieces.proofs.BodyFacts as Facts
 use Rattle.pieces.proofs.ForwardTree.{line_tree, lines_tree, namespaces_tree, entries_tree, forward_of, every_filter}
 use Rattle.pieces.proofs.ForwardTree.{nested_kept, direct_every, inner_every}
-use Rattle.pieces.proofs.SheetEntries.{Trees, extern_tree, declared_entries, shim_entries, defined_entries}
-use Rattle.pieces.proofs.SheetEntries.{entries_of, entries_every}
+use Rattle.pieces.proofs.SheetEntries.{Trees, declared_entries, defined_entries, entries_of, entries_every}
 use Rattle.pieces.proofs.SheetEntries.{entries_spelled, declared_names, defined_names, entries_ok}
 use Rattle.pieces.proofs.SheetReading.{tree_of, sheet_reads}
 use Rattle.pieces.proofs.SheetAgreement.{TreesFit, demand_3}
 
--- the names of the trees of a function, and of an item, keep the rule
-
-abbrev pub NamesKeptBy : (Name → Bool) → Trees → Item → Function → Lang → Type 0
-NamesKeptBy rule trees x f rust =
-    (every rule (names_of_declaration (trees.function_declared x f)) ≡ true) ×
-    (every rule (names_of_shim (trees.function_defined x f)) ≡ true)
-NamesKeptBy rule trees x f (cxx unwind elided) =
-    every rule (names_of_cxx_shim (trees.cxx_defined x f unwind elided)) ≡ true
-
+-- the names of the trees of an item keep the rule
 abbrev pub NamesKept : (Name → Bool) → Trees → Item → Body → Type 0
 NamesKept rule trees x (struct p ts) = Unit {0}
-NamesKept rule trees x (enum p a owned) = Unit {0}
+NamesKept rule trees x (enum p a cxx) = Unit {0}
 NamesKept rule trees x (cxx_type p) = Unit {0}
 NamesKept rule trees x (rust_type p) =
     (every rule (names_of_declaration (trees.layout_declared x size)) ≡ true) ×
     (every rule (names_of_declaration (trees.layout_declared x align)) ≡ true) ×
     (every rule (names_of_layout (trees.layout_defined x size)) ≡ true) ×
     (every rule (names_of_layout (trees.layout_defined x align)) ≡ true)
-NamesKept rule trees x (function f) = NamesKeptBy rule trees x f f.lang
+NamesKept rule trees x (function f) =
+    (every rule (names_of_declaration (trees.function_declared x f)) ≡ true) ×
+    (every rule (names_of_shim (trees.function_defined x f)) ≡ true)
 
 -- ---- the names of a body as a fold
 
@@ -78,7 +70,7 @@ module _ (rule : Name → Bool) where
       Kept (names_of_forward (line_tree x b next))
   unfolding names_of_forward every
   line_kept x (struct p ts) next n h = rw (item_names_lem x n).1 h
-  line_kept x (enum p a owned) next n h = rw (item_names_lem x n).1 h
+  line_kept x (enum p a cxx) next n h = rw (item_names_lem x n).1 h
   line_kept x (cxx_type p) next n h =
       rw (item_names_lem x n).1 (every_append rule (x.namespace ++ (x.cxx ∷ [])) (names_of_forward next) n h)
   line_kept x (rust_type p) next n h = rw (item_names_lem x n).1 h
@@ -144,29 +136,16 @@ module _ (rule : Name → Bool) where
 
   -- ---- the sheet
 
-  extern_kept : (trees : Trees) (x : Item) (f : Function) (l : Lang) → NamesKeptBy rule trees x f l →
-      Kept (names_of_item (extern_tree trees x f l))
-  extern_kept trees x f rust h = h.0
-  extern_kept trees x f (cxx unwind elided) h = h
-
-  shim_kept : (trees : Trees) (x : Item) (f : Function) (l : Lang) → item_kept x ≡ true →
-      NamesKeptBy rule trees x f l → every entry_kept (shim_entries trees x f l) ≡ true
-  unfolding every
-  shim_kept trees x f rust n h = rw (defined_names x, (item_names_lem x n).0, h.1)
-  shim_kept trees x f (cxx unwind elided) n h = refl
-
   item_kept_lem : (trees : Trees) (x : Item) (b : Body) → item_kept x ≡ true → NamesKept rule trees x b →
       (every entry_kept (declared_entries trees x b) ≡ true) × (every entry_kept (defined_entries trees x b) ≡ true)
   unfolding every
   item_kept_lem trees x (struct p ts) n h = (refl, refl)
-  item_kept_lem trees x (enum p a owned) n h = (refl, refl)
+  item_kept_lem trees x (enum p a cxx) n h = (refl, refl)
   item_kept_lem trees x (cxx_type p) n h = (refl, refl)
   item_kept_lem trees x (rust_type p) n h =
       (rw (declared_names x, (item_names_lem x n).0, h.0, h.1), rw (defined_names x, (item_names_lem x n).0, h.2, h.3))
-  item_kept_lem trees x (function f) n h = (
-    rw (declared_names x, (item_names_lem x n).0, extern_kept trees x f f.lang h),
-    shim_kept trees x f f.lang n h,
-  )
+  item_kept_lem trees x (function f) n h =
+      (rw (declared_names x, (item_names_lem x n).0, h.0), rw (defined_names x, (item_names_lem x n).0, h.1))
 
   pub sheet_names : (s : Sheet) (trees : Trees) →
       every (λ x. every rule (x.namespace ++ (x.cxx ∷ []))) s.items ≡ true →

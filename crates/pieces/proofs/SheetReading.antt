@@ -16,8 +16,7 @@ use Rattle.grammar.proofs.Braces.{body_filled, text_filled}
 use Rattle.grammar.proofs.Unique.{one_reading}
 use Rattle.grammar.proofs.Pieces.{usual_closings}
 use Rattle.bridge.specs.Out.{some}
-use Rattle.bridge.specs.Write.{forward_declarations}
-use Rattle.bridge.specs.Text.{text}
+use Rattle.bridge.specs.Write.{forward_declarations, text}
 use Rattle.pieces.specs.Pieces.{pieces, body_text}
 use Rattle.pieces.proofs.TextPieces.{text_pieces}
 use Rattle.pieces.proofs.BodyTree.{Entry, body_of, body_filled_lem}

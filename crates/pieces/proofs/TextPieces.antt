@@ -7,8 +7,7 @@ use Rattle.lexical.specs.Bytes.{bytes}
 use Rattle.lexical.specs.Decimal.{pick_text}
 use Rattle.lexical.proofs.BoolLaws.{by_cases}
 use Rattle.format.specs.Decode.{pick}
-use Rattle.format.specs.Sheet.{Name, Lang, rust, cxx, Function, Body, struct, enum, cxx_type, rust_type, function, Item}
-use Rattle.format.specs.Sheet.{Sheet}
+use Rattle.format.specs.Sheet.{Name, Function, Body, struct, enum, cxx_type, rust_type, function, Item, Sheet}
 use Rattle.rules.specs.Rules.{gather}
 use Rattle.syntax.specs.Mangle.{extern_fn}
 use Rattle.bridge.specs.Block.{Block, extern_c, write_begin, same_block}
@@ -16,11 +15,8 @@ use Rattle.bridge.specs.Out.{Content, new, some, next_section, set_namespace, wr
 use Rattle.bridge.specs.Write.{extern_return, commas, extern_parameters, write_doc, shim_decl}
 use Rattle.bridge.specs.Write.{forward_declarations, function_decl, write_rust_function_decl, layout_decl, is_free, shim_body}
 use Rattle.bridge.specs.Write.{write_opaque_type_layout_decls, layout_definition, write_opaque_type_layout, function_shim}
-use Rattle.bridge.specs.Write.{write_rust_function_shim}
-use Rattle.bridge.specs.Cxx.{cxx_indirect_return, cxx_head, pointer_line, cxx_body, cxx_function_shim, write_cxx_function_shim}
-use Rattle.bridge.specs.Text.{declare_function, define_function, declare, define, for_each, write_functions, content, text}
-use Rattle.pieces.specs.Pieces.{Piece, namespaces, declared, defined, extern_text, declaration_pieces, shim_pieces}
-use Rattle.pieces.specs.Pieces.{definition_pieces, pieces}
+use Rattle.bridge.specs.Write.{write_rust_function_shim, declare, define, for_each, write_functions, content, text}
+use Rattle.pieces.specs.Pieces.{Piece, namespaces, declared, defined, declaration_pieces, definition_pieces, pieces}
 use Rattle.pieces.specs.Pieces.{blank_line, openings, closings, change, pieces_text, body_text}
 use Rattle.pieces.specs.Between.{named, standing}
 use Rattle.pieces.proofs.Machine.{some_right, some_closings, change_append, Ends, push_begin_block}
@@ -96,16 +92,6 @@ some_shim s x f =
     behind true = refl
     behind false = refl
 
-pub some_cxx_shim : (items : List Item) (x : Item) (f : Function) (unwind elided : Bool) →
-    some (cxx_function_shim items x f unwind elided) ≡ true
-unfolding cxx_function_shim cxx_body
-some_cxx_shim items x f unwind elided =
-    let indirect = cxx_indirect_return items f elided f.return in
-    some_right (cxx_head items x f unwind indirect ++ pointer_line items x f) (cxx_body items f indirect) (behind indirect)
-  where
-    behind : (indirect : Bool) → some (cxx_body items f indirect) ≡ true
-    behind indirect = refl
-
 -- ---- the machine run from any state between two items
 
 -- what K writes and what it leaves
@@ -176,19 +162,14 @@ shim_runs false s x f K ps run t ns P asks =
     )
     (run (t ++ change (some t) true P (namespaces x) (function_shim s x f)) x.namespace (namespaces x) false)
 
-shim_of_runs : (s : Sheet) (x : Item) (f : Function) (l : Lang) (K : Content → Content) (ps : List Piece) → Runs K ps →
-    Runs (λ c. K (define_function s x f l c)) (shim_pieces s x f l ++ ps)
-unfolding write_rust_function_shim
-shim_of_runs s x f rust K ps run = shim_runs (s.header && not (is_free f.form)) s x f K ps run
-shim_of_runs s x f (cxx unwind elided) K ps run = run
-
 define_runs : (s : Sheet) (x : Item) (b : Body) (K : Content → Content) (ps : List Piece) → Runs K ps →
     Runs (λ c. K (define s x b c)) (definition_pieces s x b ++ ps)
+unfolding write_rust_function_shim
 define_runs s x (struct p ts) K ps run = run
-define_runs s x (enum p a owned) K ps run = run
+define_runs s x (enum p a cxx) K ps run = run
 define_runs s x (cxx_type p) K ps run = run
 define_runs s x (rust_type p) K ps run = layout_runs s.header x K ps run
-define_runs s x (function f) K ps run = shim_of_runs s x f f.lang K ps run
+define_runs s x (function f) K ps run = shim_runs (s.header && not (is_free f.form)) s x f K ps run
 
 -- ---- declarations
 
@@ -232,38 +213,13 @@ function_declared_runs items x f K ps run t ns P asks rested =
     )
     (run t₁ x.namespace Q false refl)
 
-cxx_shim_runs : (items : List Item) (x : Item) (f : Function) (unwind elided : Bool) (K : Content → Content)
-    (ps : List Piece) → RunsRested K ps →
-    RunsRested (λ c. K (write_cxx_function_shim items x f unwind elided c))
-    (declared x true (cxx_function_shim items x f unwind elided) ∷ ps)
-unfolding write_cxx_function_shim namespaces
-cxx_shim_runs items x f unwind elided K ps run t ns P asks rested =
-    let r = cxx_function_shim items x f unwind elided in
-    let Q = namespaces x ++ (extern_c ∷ []) in
-    let t₁ = t ++ change (some t) true P Q r in
-    rw (
-      section_asked t ns P (named ns) asks,
-      namespace_set t ns P true x.namespace,
-      push_begin_block t x.namespace P (namespaces x) true extern_c,
-      piece_written t x.namespace P Q true r (some_cxx_shim items x f unwind elided),
-      push_end_block t₁ x.namespace Q (namespaces x) false extern_c,
-      ← piece_text t P (declared x true r) ps (some_cxx_shim items x f unwind elided),
-    )
-    (run t₁ x.namespace Q false refl)
-
-function_runs : (items : List Item) (x : Item) (f : Function) (l : Lang) (K : Content → Content) (ps : List Piece) →
-    RunsRested K ps →
-    RunsRested (λ c. K (declare_function items x f l c)) (declared x true (extern_text items x f l) ∷ ps)
-function_runs items x f rust K ps run = function_declared_runs items x f K ps run
-function_runs items x f (cxx unwind elided) K ps run = cxx_shim_runs items x f unwind elided K ps run
-
 declare_runs : (items : List Item) (x : Item) (b : Body) (K : Content → Content) (ps : List Piece) → RunsRested K ps →
     RunsRested (λ c. K (declare items x b c)) (declaration_pieces items x b ++ ps)
 declare_runs items x (struct p ts) K ps run = run
-declare_runs items x (enum p a owned) K ps run = run
+declare_runs items x (enum p a cxx) K ps run = run
 declare_runs items x (cxx_type p) K ps run = run
 declare_runs items x (rust_type p) K ps run = layouts_declared_run x K ps run
-declare_runs items x (function f) K ps run = function_runs items x f f.lang K ps run
+declare_runs items x (function f) K ps run = function_declared_runs items x f K ps run
 
 -- ---- the two passes
 

@@ -3,12 +3,11 @@
 use Rattle.std.specs.Prelude.{List, [], ◌∷◌, ◌++◌, map, Bool, true, false, not, ◌&&◌, cond, ℕ}
 use Rattle.lexical.specs.Bytes.{bytes}
 use Rattle.format.specs.Decode.{pick}
-use Rattle.format.specs.Sheet.{Lang, rust, cxx, Function, Body, struct, enum, cxx_type, rust_type, function, Item, Sheet}
+use Rattle.format.specs.Sheet.{Body, struct, enum, cxx_type, rust_type, function, Item, Sheet}
 use Rattle.rules.specs.Rules.{gather}
 use Rattle.bridge.specs.Block.{Block, user_defined_namespace, extern_c, write_begin, write_end, same_block}
 use Rattle.bridge.specs.Out.{some}
 use Rattle.bridge.specs.Write.{forward_declarations, function_decl, layout_decl, layout_definition, function_shim, is_free}
-use Rattle.bridge.specs.Cxx.{cxx_function_shim}
 
 pub record Piece : Type 0 where
   pub around : List Block  -- outermost first
@@ -26,34 +25,25 @@ declared x asks s = record { around = namespaces x ++ (extern_c ∷ []); asks = 
 abbrev pub defined : Item → List ℕ → Piece
 defined x s = record { around = namespaces x; asks = true; bytes = s }
 
--- what a function has in extern "C": a Rust function its declaration, a C++ function its shim
-abbrev pub extern_text : List Item → Item → Function → Lang → List ℕ
-extern_text items x f rust = function_decl items x f
-extern_text items x f (cxx unwind elided) = cxx_function_shim items x f unwind elided
-
 abbrev pub declaration_pieces : List Item → Item → Body → List Piece
 declaration_pieces items x (struct p ts) = []
-declaration_pieces items x (enum p a owned) = []
+declaration_pieces items x (enum p a cxx) = []
 declaration_pieces items x (cxx_type p) = []
 declaration_pieces items x (rust_type p) =
     declared x false (layout_decl x (bytes "sizeof")) ∷ declared x false (layout_decl x (bytes "alignof")) ∷ []
-declaration_pieces items x (function f) = declared x true (extern_text items x f f.lang) ∷ []
+declaration_pieces items x (function f) = declared x true (function_decl items x f) ∷ []
 
--- a header shows no method
-abbrev pub shim_pieces : Sheet → Item → Function → Lang → List Piece
-shim_pieces s x f rust = pick (s.header && not (is_free f.form)) [] (defined x (function_shim s x f) ∷ [])
-shim_pieces s x f (cxx unwind elided) = []
-
--- and has no layout
+-- a header has no layout and shows no method
 abbrev pub definition_pieces : Sheet → Item → Body → List Piece
 definition_pieces s x (struct p ts) = []
-definition_pieces s x (enum p a owned) = []
+definition_pieces s x (enum p a cxx) = []
 definition_pieces s x (cxx_type p) = []
 definition_pieces s x (rust_type p) =
     pick s.header []
     (defined x (layout_definition x (bytes "size") (bytes "sizeof")) ∷
     defined x (layout_definition x (bytes "align") (bytes "alignof")) ∷ [])
-definition_pieces s x (function f) = shim_pieces s x f f.lang
+definition_pieces s x (function f) =
+    pick (s.header && not (is_free f.form)) [] (defined x (function_shim s x f) ∷ [])
 
 -- a header has no declarations
 unfoldable pub pieces : Sheet → List Piece

@@ -1,9 +1,9 @@
--- The number of each refusal: the table of document 01, "The sheet"; document 02, order 1.
+-- The number of each refusal: the table of document 01, "The sheet".
 use Rattle.std.specs.Prelude.{ℕ}
 use Rattle.refusal.specs.declared.Refusal.{Refusal}
 use Rattle.refusal.specs.declared.Refusal.TheVariants.{CutSheet, Edition, BadName, LooseIndex, BadKind, TooDeep}
 use Rattle.refusal.specs.declared.Refusal.TheVariants.{BadComment, Tail, WrongPart, Taken, UnfitArgument, Ring}
-use Rattle.refusal.specs.declared.Refusal.TheVariants.{Overrun, TwoWaysOut, BareCallback}
+use Rattle.refusal.specs.declared.Refusal.TheVariants.{Overrun}
 
 abbrev pub number_of : Refusal → ℕ
 number_of CutSheet = 1
@@ -19,5 +19,3 @@ number_of Taken = 10
 number_of UnfitArgument = 11
 number_of Ring = 12
 number_of Overrun = 13
-number_of TwoWaysOut = 14
-number_of BareCallback = 15

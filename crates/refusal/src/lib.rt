@@ -1,6 +1,5 @@
-// The refusals of documents 01 and 02, in their order. `number_of` of specs/Refusal.antt gives each its number.
+// The refusals of document 01, in its order. `number_of` of specs/Refusal.antt gives each its number.
 
-#![tactic(auto)]
 ghost use Rattle.std.specs.Prelude.{◌≡◌};
 ghost use Rattle.refusal.specs.Refusal.{number_of};
 
@@ -14,7 +13,7 @@ pub enum Refusal {
     BadName,
     // 4: an index with no such entry.
     LooseIndex,
-    // 5: item kind 6 or 7, type kind 12 or 15, enum atom outside 2 to 11.
+    // 5: item kind 5 to 7, type kind 12 or 15, enum atom outside 2 to 11.
     BadKind,
     // 6: a type at depth 9.
     TooDeep,
@@ -32,10 +31,6 @@ pub enum Refusal {
     Ring,
     // 13: the answer is longer than the buffer.
     Overrun,
-    // 14: a throws bit and an unwind bit both set.
-    TwoWaysOut,
-    // 15: a C++ function's argument of type kind 11.
-    BareCallback,
 }
 
 // The number of a refusal.
@@ -56,7 +51,5 @@ pub fn number(r: Refusal) -> u8
         Refusal::UnfitArgument => 11,
         Refusal::Ring => 12,
         Refusal::Overrun => 13,
-        Refusal::TwoWaysOut => 14,
-        Refusal::BareCallback => 15,
     }
 }

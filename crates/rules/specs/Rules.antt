@@ -1,12 +1,12 @@
--- Rules 9 to 12 of document 01's table, and 14 and 15 of document 02's order 1, on the items of a decoded sheet.
+-- Rules 9 to 12 of document 01's table, on the items of a decoded sheet.
 use Rattle.std.specs.Prelude.{List, [], ◌∷◌, ◌++◌, map, Bool, true, false, not, ◌&&◌, ◌||◌, ℕ, ◌+◌, length}
 use Rattle.lexical.specs.Bytes.{bytes, same}
 use Rattle.format.specs.Decode.{pick}
 use Rattle.format.specs.declared.Template.{Template}
 use Rattle.format.specs.declared.Template.TheVariants.{RustBox, RustVec, UniquePtr, SharedPtr, WeakPtr, CxxVector}
 use Rattle.format.specs.Types.{Ty, atom, named, template, pointer, str, fn, array, Ret, none, gives, Tys, nil, cons}
-use Rattle.format.specs.Sheet.{Name, Form, free, const_method, mut_method, associated, Argument, is_rust, unwinds}
-use Rattle.format.specs.Sheet.{Function, Body, struct, enum, cxx_type, rust_type, function, Item}
+use Rattle.format.specs.Sheet.{Name, Form, free, const_method, mut_method, associated, Argument, Function, Body, struct}
+use Rattle.format.specs.Sheet.{enum, cxx_type, rust_type, function, Item}
 use Rattle.syntax.specs.Items.{item_at, full_name, self_type, is_function, is_struct}
 use Rattle.syntax.specs.Mangle.{extern_fn}
 use Rattle.syntax.specs.Types.{needs_indirect_abi, is_rust_string}
@@ -121,13 +121,11 @@ is_method (const_method i) = true
 is_method (mut_method i) = true
 is_method (associated i) = false
 
--- "kind 10 as argument; `self` in a method; `error` in a throwing function, if its type is indirect and not
--- RustString"; in a C++ function "`error` is free"
+-- "kind 10 as argument; `self` in a method; `error` in a throwing function, if its type is indirect and not RustString"
 unfoldable pub unfit : List Item → Function → Argument → Bool
 unfit items f a =
     is_cxx_vector a.type || is_method f.form && same a.name (bytes "self")
-    || (is_rust f.lang && f.throws) && same a.name (bytes "error") && needs_indirect_abi items a.type
-    && not (is_rust_string a.type)
+    || f.throws && same a.name (bytes "error") && needs_indirect_abi items a.type && not (is_rust_string a.type)
 
 unfoldable pub unfit_argument : List Item → Bool
 unfit_argument items = any (λ f. any (unfit items f) f.arguments) (functions items)
@@ -170,24 +168,3 @@ RingOf items = Ring (held_structs items) (structs items)
 -- the same as a test: theorem `ring_rule` shows that it is RingOf
 unfoldable pub ring : List Item → Bool
 ring items = ringed (held_structs items) (length items) (structs items)
-
--- ---- 14: two ways out
-
--- "a throws bit and an unwind bit both set"
-unfoldable pub two_ways_out : List Item → Bool
-two_ways_out items = any (λ f. f.throws && unwinds f.lang) (functions items)
-
--- ---- 15: bare callback
-
-abbrev pub is_fn : Ty → Bool
-is_fn (fn r ts) = true
-is_fn (atom a) = false
-is_fn (named i) = false
-is_fn (template k t) = false
-is_fn (pointer k m t) = false
-is_fn str = false
-is_fn (array t n) = false
-
--- "a C++ function's argument of type kind 11"
-unfoldable pub bare_callback : List Item → Bool
-bare_callback items = any (λ f. not (is_rust f.lang) && any (λ a. is_fn a.type) f.arguments) (functions items)

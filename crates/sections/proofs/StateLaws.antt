@@ -146,30 +146,6 @@ module _ {s names buf : List ℕ} {xs : List Name} {c c₁ c₂ : Content} (sets
             (ends.each (placed p (ready.each (asked a (begins.each (sets.each h.stands)))) w));
       }
 
-  -- a text
-  pub runs_inside : (t : List ℕ) {mid after : List ℕ} {c₃ c₄ r : Content} {at : ℕ} → some t ≡ true →
-      Prepares s names buf mid c₂ c₃ → Wrote (sink mid c₃.at) t (sink after at) → c₄ ≡ behind c₃ at →
-      Turns s names inside named c₄ r →
-      Runs s names buf after
-      (λ m. end_block extern_c (machine.write t (begin_block extern_c (machine.set_namespace xs m)))) c r
-  runs_inside t e ready w p ends =
-      record {
-        each = λ h.
-            let Q = inside xs in
-            let u = h.text ++ change (some h.text) h.asks h.opened Q t in
-            represent
-            (rw (
-              h.is,
-              namespace_set h.text h.namespace h.opened h.asks xs,
-              push_begin_block h.text xs h.opened (named xs) h.asks extern_c,
-              piece_written h.text xs h.opened Q h.asks t e,
-              push_end_block u xs Q (named xs) false extern_c,
-            )
-            (ap (λ (x : List ℕ). standing x xs Q (named xs) false)
-            (ready_text h.text (some h.text) h.asks h.opened Q t)))
-            (ends.each (placed p (ready.each (begins.each (sets.each h.stands))) w));
-      }
-
   -- two declarations with no section between them
   pub runs_declared_two : (t u : List ℕ) {mid after : List ℕ} {c₃ c₄ r : Content} {at : ℕ} → some t ≡ true → some u ≡ true →
       Prepares s names buf mid c₂ c₃ → Wrote (sink mid c₃.at) (t ++ u) (sink after at) → c₄ ≡ behind c₃ at →

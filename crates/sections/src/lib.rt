@@ -2,11 +2,10 @@
 // item. Every function is lent the sheet, the table and the pool, the digests of the names, and the buffer; a
 // function's writer also the summaries that are kept, and room for one.
 ghost use Rattle.std.specs.Prelude.{◌≡◌, false, ◌≤◌, length};
-ghost use Rattle.format.specs.declared.ItemKind.TheVariants.{RustFunction, CxxFunction};
+ghost use Rattle.format.specs.declared.ItemKind.TheVariants.{RustFunction};
 ghost use Rattle.syntax.specs.Items.{item_at};
 ghost use Rattle.bridge.specs.Write.{write_rust_function_decl, write_opaque_type_layout_decls, layout_definition};
 ghost use Rattle.bridge.specs.Write.{write_opaque_type_layout};
-ghost use Rattle.bridge.specs.Text.{declare_function};
 ghost use Rattle.names.specs.Digests.{digests_at};
 ghost use Rattle.out.specs.State.{content_of};
 ghost use Rattle.sections.specs.Runs.{Representing, Runs, hidden_form, section_of, shim_section, sheet_of};
@@ -14,13 +13,12 @@ ghost use Rattle.summary.specs.Summaries.{Summaries};
 ghost use Rattle.tables.specs.Tables.{names_in, items_of, function_of, Item, Lent};
 
 use content::{begin_extern_c, end_extern_c, set_namespace};
-use cxx_shim::write_cxx_shim;
 use declaration::{write_function_decl, write_layout_decl, write_layout_definition};
 use out::{Content, next_section, placed, prepare};
 use shim::write_function_shim;
 use summary::load_summary;
 use tables::{Pool, Table, function};
-use view::{ItemView, cxx_bits};
+use view::ItemView;
 
 // ---- declarations
 
@@ -51,51 +49,6 @@ pub fn write_rust_function_decl(
     next_section(c);
     prepare(s, t, pool, c, out);
     let at = write_function_decl(s, t, pool, v, f, offsets, out, c[Content::AT]);
-    placed(c, at);
-    end_extern_c(s, t, digests, c);
-}
-
-// A C++ function's shim, which a Rust function calls.
-pub fn write_cxx_function_shim(
-    s: &[u8],
-    t: &[u32; Table::PLACES],
-    pool: &[u8; Pool::BYTES],
-    digests: &[u32],
-    v: ItemView,
-    kept: &[u32],
-    offsets: &mut [u32],
-    c: &mut [usize; Content::PLACES],
-    out: &mut [u8],
-)
-    requires { Lent s.now t.now pool.now × (digests.now ≡ digests_at s.now (names_in t.now)) ×
-        Item s.now t.now v × (v.kind ≡ CxxFunction) × Summaries s.now t.now kept.now ×
-        (36 ≤ length offsets.old) × Representing s.now (names_in t.now) out.old (content_of c.old) }
-    ensures { Runs s.now (names_in t.now) out.old out.new
-        (declare_function (items_of s.now t.now)
-        (item_at (items_of s.now t.now) v.number)
-        (function_of s.now t.now v.number)
-        (function_of s.now t.now v.number).lang) (content_of c.old)
-        (content_of c.new) }
-{
-    let f = function(s, t, v);
-    let comment = load_summary(s, t, f, kept, offsets);
-    let bits = cxx_bits(s, comment);
-    next_section(c);
-    set_namespace(s, t, digests, c, v);
-    begin_extern_c(s, t, digests, c);
-    prepare(s, t, pool, c, out);
-    let at = write_cxx_shim(
-        s,
-        t,
-        pool,
-        v,
-        f,
-        bits.unwind,
-        bits.elided,
-        offsets,
-        out,
-        c[Content::AT],
-    );
     placed(c, at);
     end_extern_c(s, t, digests, c);
 }

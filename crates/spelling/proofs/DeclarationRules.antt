@@ -1,9 +1,10 @@
 -- The trees of declarations and layout definitions keep the grammar's rules.
-use Rattle.std.proofs.Common.{◌≡◌, ℕ, suc, ◌+◌, ◌≤◌, Bool, true, false, not, List, [], ◌++◌, map, length, sym, refl, ◌∙◌, arith, leb-true}
+use Rattle.std.proofs.Common.{◌≡◌, ℕ, suc, ◌+◌, ◌≤◌, Bool, true, false, not, List, [], ◌∷◌, ◌++◌, map, length, sym, refl, ◌∙◌, arith, leb-true}
 use lib.ListN.{length-map}
 use Rattle.lexical.specs.Bytes.{bytes, every, same, member}
 use Rattle.lexical.specs.Names.{name_shape, name_ok, keywords, alternative_tokens, reserved, is_name}
-use Rattle.lexical.proofs.ByteLaws.{Each, every_append, every_map}
+use Rattle.lexical.proofs.BoolLaws.{both}
+use Rattle.lexical.proofs.ByteLaws.{Each, every_append}
 use Rattle.format.specs.Decode.{pick}
 use Rattle.format.specs.declared.Template.{Template}
 use Rattle.format.specs.declared.Template.TheVariants.{RustBox, UniquePtr}
@@ -21,13 +22,13 @@ use Rattle.bridge.specs.Write.{indirect_return, Shape, shape, returned_if, slot}
 use Rattle.grammar.specs.Types as Cxx
 use Rattle.grammar.specs.Types.{CxxType}
 use Rattle.grammar.specs.Tree as Tree
-use Rattle.grammar.specs.Tree.{Parameter, Measure}
+use Rattle.grammar.specs.Tree.{Measure}
 use Rattle.grammar.specs.Rules.{levels, parts_ok, type_ok, result_ok, is_root_main, declared_ok, is_self, is_slot, declaration_ok}
 use Rattle.grammar.specs.Rules.{at_most_one, few_arguments, layout_ok}
 use Rattle.spelling.specs.TypeTree.{pointer_to, cxx_type}
-use Rattle.spelling.specs.DeclarationTree.{direct_result, direct_result_of, declared_result_by, declared_result}
-use Rattle.spelling.specs.DeclarationTree.{declared_receiver, declared_type, declared_argument, slot_tree}
-use Rattle.spelling.specs.DeclarationTree.{declared_slot, declared_parameters, declaration_of, layout_declaration_of}
+use Rattle.spelling.specs.DeclarationTree.{direct_result, direct_result_of, declared_result, declared_receiver}
+use Rattle.spelling.specs.DeclarationTree.{declared_type, declared_argument, slot_tree, declared_slot}
+use Rattle.spelling.specs.DeclarationTree.{declared_parameters, declaration_of, layout_declaration_of}
 use Rattle.spelling.specs.DeclarationTree.{layout_definition_of}
 use Rattle.spelling.proofs.Lists.{few_between, none_or_one}
 use Rattle.spelling.proofs.TypeSpelling.{item_kept_lem}
@@ -54,14 +55,14 @@ pub mapped_few : {A : Type 0} (g : Argument → A) {items : List Item} (f : Func
     length (map g f.arguments) ≤ 31
 mapped_few g f k = rw (length-map f.arguments g) (leb-true (length f.arguments) 31 k.few_arguments)
 
-pub returned_few : (indirect : Bool) (r : Ret) → length (returned_if indirect r) ≤ 1
-returned_few indirect none = omega arith
-returned_few true (gives t) = omega arith
-returned_few false (gives t) = omega arith
-
 pub slot_few : (items : List Item) (f : Function) → length (slot items f) ≤ 1
 unfolding slot
-slot_few items f = returned_few (indirect_return items f f.return) f.return
+slot_few items f = go (indirect_return items f f.return) f.return
+  where
+    go : (indirect : Bool) (r : Ret) → length (returned_if indirect r) ≤ 1
+    go indirect none = omega arith
+    go true (gives t) = omega arith
+    go false (gives t) = omega arith
 
 receiver_self : (items : List Item) (form : Form) →
     length (declared_receiver items form) ≤ at_most_one is_self (declared_receiver items form)
@@ -78,12 +79,12 @@ module _ (items : List Item) (kept : Each (ItemKept items) items) where
       type_ok (suc limit) (pointer_to m (cxx_type items t)) ≡ true
   pointer_ok_lem m limit t h = suffix_ok limit (Cxx.pointer (not m)) (cxx_type items t) (type_ok_lem items kept limit t h)
 
-  pub template_below : (k : Template) (t : Ty) → type_fits 8 (length items) (template k t) ≡ true →
+  template_below : (k : Template) (t : Ty) → type_fits 8 (length items) (template k t) ≡ true →
       type_fits 7 (length items) t ≡ true
   unfolding depth parts_fit
   template_below k t h = below 7 (length items) (template k t) t refl refl h
 
-  pub pointer_below : (k : Pointer) (m : Bool) (t : Ty) → type_fits 8 (length items) (pointer k m t) ≡ true →
+  pointer_below : (k : Pointer) (m : Bool) (t : Ty) → type_fits 8 (length items) (pointer k m t) ≡ true →
       type_fits 7 (length items) t ≡ true
   unfolding depth parts_fit
   pointer_below k m t h = below 7 (length items) (pointer k m t) t refl refl h
@@ -118,10 +119,10 @@ module _ (items : List Item) (kept : Each (ItemKept items) items) where
   direct_result_ok main (is_slice m t) h = refl
   direct_result_ok main (is_other t plain) h = type_ok_lem items kept 8 t h
 
-  pub result_ok_lem : (main : Bool) (f : Function) → FunctionKept items f → (indirect : Bool) →
-      result_ok main (declared_result_by items f indirect) ≡ true
-  unfolding result_ok return_fits
-  result_ok_lem main f g indirect = go f.throws indirect f.return g.return_fits
+  declared_result_ok : (main : Bool) (f : Function) → FunctionKept items f →
+      result_ok main (declared_result items f) ≡ true
+  unfolding result_ok declared_result return_fits
+  declared_result_ok main f g = go f.throws (indirect_return items f f.return) f.return g.return_fits
     where
       go : (throws indirect : Bool) (r : Ret) → return_fits (length items) r ≡ true →
           result_ok main (pick throws Tree.ptr_len (pick indirect Tree.void (direct_result_of items r))) ≡ true
@@ -145,60 +146,50 @@ module _ (items : List Item) (kept : Each (ItemKept items) items) where
   star_ok true x h = suffix_ok 8 (Cxx.pointer false) x h
   star_ok false x h = higher_ok 8 x h
 
-  pub argument_ok_lem : (a : Argument) → argument_fits (length items) a ≡ true →
-      declared_ok (declared_argument items a) ≡ true
-  unfolding declared_ok declared_argument
-  argument_ok_lem a h =
-      let t = declared_type_ok (shaped a.type) (argument_type (length items) a h) in
-      rw (star_ok (needs_indirect_abi items a.type) _ t, argument_name (length items) a h)
+  arguments_ok : (xs : List Argument) → every (argument_fits (length items)) xs ≡ true →
+      every declared_ok (map (declared_argument items) xs) ≡ true
+  unfolding every declared_ok declared_argument
+  arguments_ok [] h = refl
+  arguments_ok (a ∷ xs) h =
+      let q = both (argument_fits (length items) a) _ h in
+      let t = declared_type_ok (shaped a.type) (argument_type (length items) a q.0) in
+      rw (star_ok (needs_indirect_abi items a.type) _ t, argument_name (length items) a q.0)
+      (arguments_ok xs q.1)
 
-  slot_ok : (t : Ty) → type_fits 8 (length items) t ≡ true → declared_ok (declared_slot items t) ≡ true
-  unfolding declared_ok
-  slot_ok t h = suffix_ok 8 (Cxx.pointer false) (slot_tree items t (shape t)) (slot_tree_ok (shaped t) h)
+  slots_ok : (ts : List Ty) → every (type_fits 8 (length items)) ts ≡ true →
+      every declared_ok (map (declared_slot items) ts) ≡ true
+  unfolding every declared_ok
+  slots_ok [] h = refl
+  slots_ok (t ∷ ts) h =
+      let q = both (type_fits 8 (length items) t) _ h in
+      rw (suffix_ok 8 (Cxx.pointer false) (slot_tree items t (shape t)) (slot_tree_ok (shaped t) q.0))
+      (slots_ok ts q.1)
 
-  -- the receiver, the arguments, the slot
-  pub parameters_ok : (f : Function) → FunctionKept items f → (argument : Argument → Parameter) →
-      ((a : Argument) → argument_fits (length items) a ≡ true → declared_ok (argument a) ≡ true) →
-      (back : Ty → Parameter) → ((t : Ty) → type_fits 8 (length items) t ≡ true → declared_ok (back t) ≡ true) →
-      (indirect : Bool) →
-      every declared_ok
-      (declared_receiver items f.form ++ map argument f.arguments ++ map back (returned_if indirect f.return)) ≡
-      true
-  parameters_ok f g argument p back q indirect =
-      every_append declared_ok (declared_receiver items f.form ++ map argument f.arguments) _
-      (every_append declared_ok (declared_receiver items f.form) _ (receiver_ok f.form g.form_fits)
-      (every_map (argument_fits (length items)) declared_ok argument p f.arguments g.arguments_fit))
-      (every_map (type_fits 8 (length items)) declared_ok back q (returned_if indirect f.return)
-      (slot_fits (length items) indirect f.return g.return_fits))
-
-  declared_ok_lem : (f : Function) → FunctionKept items f → every declared_ok (declared_parameters items f) ≡ true
+  parameters_ok : (f : Function) → FunctionKept items f → every declared_ok (declared_parameters items f) ≡ true
   unfolding declared_parameters slot
-  declared_ok_lem f g =
-      parameters_ok f g (declared_argument items) argument_ok_lem (declared_slot items) slot_ok
-      (indirect_return items f f.return)
+  parameters_ok f g =
+      every_append declared_ok (declared_receiver items f.form ++ map (declared_argument items) f.arguments) _
+      (every_append declared_ok (declared_receiver items f.form) _ (receiver_ok f.form g.form_fits)
+      (arguments_ok f.arguments g.arguments_fit))
+      (slots_ok (slot items f)
+      (slot_fits (length items) (indirect_return items f f.return) f.return g.return_fits))
 
   few_parameters : (f : Function) → FunctionKept items f →
       few_arguments is_self is_slot (declared_parameters items f) ≡ true
   unfolding declared_parameters is_slot
   few_parameters f g =
       few_between is_self is_slot (declared_receiver items f.form) (map (declared_argument items) f.arguments)
-      (map (declared_slot items) (slot items f)) (receiver_self items f.form)
-      (mapped_few (declared_argument items) f g)
+      (map (declared_slot items) (slot items f)) (receiver_self items f.form) (mapped_few (declared_argument items) f g)
       (none_or_one is_slot (declared_slot items) (λ t. refl) (slot items f) (slot_few items f))
 
   -- ---- declarations
 
   pub declaration_ok_lem : (x : Item) → ItemKept items x → (f : Function) → FunctionKept items f → (depth : ℕ) →
       declaration_ok depth (declaration_of items x f) ≡ true
-  unfolding declaration_ok declared_result
+  unfolding declaration_ok
   declaration_ok_lem x k f g depth =
       let main = is_root_main depth (Tree.free (extern_fn items x.namespace f)) in
-      rw (
-        extern_fn_symbol items kept x k f g,
-        result_ok_lem main f g (indirect_return items f f.return),
-        declared_ok_lem f g,
-        few_parameters f g,
-      )
+      rw (extern_fn_symbol items kept x k f g, declared_result_ok main f g, parameters_ok f g, few_parameters f g)
 
 -- ---- layouts
 

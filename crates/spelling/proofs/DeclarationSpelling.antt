@@ -14,8 +14,8 @@ use Rattle.decoded.specs.Fits.{parts_fit, type_fits, return_fits, argument_fits,
 use Rattle.decoded.proofs.Decoded.{fits_parts}
 use Rattle.decoded.proofs.Kept.{argument_name, argument_type, ItemKept, FunctionKept}
 use Rattle.bridge.specs.WriteType.{const_unless, space_after_type, write_type_space}
-use Rattle.bridge.specs.Write.{indirect_return, write_pointer, Shape, shape, direct_return, direct_return_of}
-use Rattle.bridge.specs.Write.{extern_return_by, extern_return, extern_arg_type, extern_arg, receiver, slot_type, returned_if, slot, extern_parameters}
+use Rattle.bridge.specs.Write.{indirect_return, write_pointer, Shape, shape, direct_return, direct_return_of, extern_return}
+use Rattle.bridge.specs.Write.{extern_arg_type, extern_arg, receiver, slot_type, returned_if, slot, extern_parameters}
 use Rattle.bridge.specs.Write.{function_decl, layout_decl, layout_definition}
 use Rattle.grammar.specs.Token.{quoted}
 use Rattle.grammar.specs.Types as Cxx
@@ -26,9 +26,9 @@ use Rattle.grammar.specs.Tokens.{measure_tokens, type_tokens, result_tokens, par
 use Rattle.grammar.specs.Tokens.{layout_tokens}
 use Rattle.spelling.proofs.Suffixes.{suffix_tokens_lem}
 use Rattle.spelling.specs.TypeTree.{pointer_to, cxx_type}
-use Rattle.spelling.specs.DeclarationTree.{direct_result, direct_result_of, declared_result_by, declared_result}
-use Rattle.spelling.specs.DeclarationTree.{declared_receiver, declared_type, declared_argument, slot_tree}
-use Rattle.spelling.specs.DeclarationTree.{declared_slot, declared_parameters, declaration_of, layout_declaration_of, measure_name}
+use Rattle.spelling.specs.DeclarationTree.{direct_result, direct_result_of, declared_result, declared_receiver}
+use Rattle.spelling.specs.DeclarationTree.{declared_type, declared_argument, slot_tree, declared_slot}
+use Rattle.spelling.specs.DeclarationTree.{declared_parameters, declaration_of, layout_declaration_of, measure_name}
 use Rattle.spelling.specs.DeclarationTree.{operator_name, layout_definition_of}
 use Rattle.spelling.proofs.Spells.{closed, inside, Spells, ◌▷◌, ◌▷⟨◌⟩◌, as_tokens, empty, lit, name_spells}
 use Rattle.spelling.proofs.Lists.{SpellsEach, none, more, each_append, list_spells, map_spells}
@@ -77,9 +77,10 @@ module _ (items : List Item) (kept : Each (ItemKept items) items) where
   direct_return_of_spells none h = lit "void " refl
   direct_return_of_spells (gives t) h = direct_return_spells (shaped t) (fits_parts 8 (length items) t h)
 
-  pub return_spells : (f : Function) → FunctionKept items f → (indirect : Bool) →
-      Spells closed (extern_return_by items f indirect) (result_tokens (declared_result_by items f indirect))
-  return_spells f g = go f.throws
+  return_spells : (f : Function) → FunctionKept items f →
+      Spells closed (extern_return items f) (result_tokens (declared_result items f))
+  unfolding extern_return declared_result
+  return_spells f g = go f.throws (indirect_return items f f.return)
     where
       go : (throws indirect : Bool) →
           Spells closed
@@ -92,7 +93,7 @@ module _ (items : List Item) (kept : Each (ItemKept items) items) where
 
   -- ---- parameters
 
-  pub receiver_spells : (form : Form) → form_fits (length items) form ≡ true →
+  receiver_spells : (form : Form) → form_fits (length items) form ≡ true →
       SpellsEach parameter_tokens (receiver items form) (declared_receiver items form)
   unfolding form_fits
   receiver_spells free h = none
@@ -113,7 +114,7 @@ module _ (items : List Item) (kept : Each (ItemKept items) items) where
   extern_type_spells (is_slice m t) h = type_space_spells items kept (pointer SliceRef m t) h
   extern_type_spells (is_other t plain) h = type_space_spells items kept t h
 
-  pub argument_spells : (a : Argument) → argument_fits (length items) a ≡ true →
+  argument_spells : (a : Argument) → argument_fits (length items) a ≡ true →
       Spells inside (extern_arg items a) (parameter_tokens (declared_argument items a))
   unfolding extern_arg declared_argument
   argument_spells a h =
@@ -156,9 +157,9 @@ module _ (items : List Item) (kept : Each (ItemKept items) items) where
 
   pub declaration_spells : (x : Item) → ItemKept items x → (f : Function) → FunctionKept items f →
       Spells closed (function_decl items x f) (declaration_tokens (declaration_of items x f))
-  unfolding function_decl extern_return declared_result
+  unfolding function_decl
   declaration_spells x k f g =
-      return_spells f g (indirect_return items f f.return) ▷ extern_fn_spells items kept x k f g ▷⟨ refl ⟩ lit "(" refl
+      return_spells f g ▷ extern_fn_spells items kept x k f g ▷⟨ refl ⟩ lit "(" refl
       ▷ list_spells parameter_tokens (parameters_spell f g) ▷⟨ refl ⟩ lit ") noexcept;\n" refl
 
 -- ---- layouts

@@ -9,11 +9,8 @@ pub mod DeclarationSpelling
 pub mod DeclarationRules
 pub mod Comments
 pub mod ShimSpelling
-pub mod CxxSpelling
 pub mod ShimRules
-pub mod CxxRules
 pub mod Matching
-pub mod CxxMatching
 pub mod Pieces
 pub mod TreeNames
 pub mod Reserved

@@ -22,16 +22,16 @@ use Rattle.spelling.specs.DeclarationTree.{declared_receiver, declared_argument,
 use Rattle.spelling.specs.DeclarationTree.{declaration_of}
 use Rattle.spelling.specs.ShimTree.{head_of, argument_of, operand_of, slot_address_of, operands_of, shim_tree}
 
-pub map_parts : {A B : Type 0} (f : A → B) (a b c : List A) {x y z : List B} → map f a ≡ x → map f b ≡ y → map f c ≡ z →
+map_parts : {A B : Type 0} (f : A → B) (a b c : List A) {x y z : List B} → map f a ≡ x → map f b ≡ y → map f c ≡ z →
     map f (a ++ b ++ c) ≡ x ++ y ++ z
 map_parts f a b c p q r = map-append f (a ++ b) c ∙ ap₂ ◌++◌ (map-append f a b ∙ ap₂ ◌++◌ p q) r
 
 -- ---- equal names
 
-pub same_sym : (s t : List ℕ) → same s t ≡ false → same t s ≡ false
+same_sym : (s t : List ℕ) → same s t ≡ false → same t s ≡ false
 same_sym s t h = fails_too (same t s) (same s t) (λ e. rw (same_eq t s e) (same_refl s)) h
 
-abbrev pub names : List Argument → List Name
+abbrev names : List Argument → List Name
 names xs = map (λ a. a.name) xs
 
 module _ (a : Argument) (after : List Argument) where
@@ -40,7 +40,7 @@ module _ (a : Argument) (after : List Argument) where
   member_at [] = rw (same_refl a.name)
   member_at (b ∷ before) = or_right (same a.name b.name) _ (member_at before)
 
-  pub any_at : (test : Name → Bool) (before : List Argument) → any test (names (before ++ (a ∷ after))) ≡ false →
+  any_at : (test : Name → Bool) (before : List Argument) → any test (names (before ++ (a ∷ after))) ≡ false →
       test a.name ≡ false
   unfolding any
   any_at test [] h = (neither (test a.name) _ h).0
@@ -77,24 +77,21 @@ module _ (items : List Item) where
       let m : member a.name heads ≡ true = rw (e, p) (member_at a after before) in
       rw (m, and-false (same a.name (bytes "self")), p) (one_operand before a after (rw p at h))
 
-  -- no argument of a method is named `self`
-  pub not_self : (f : Function) (a : Argument) → unfit items f a ≡ false →
-      (is_method f.form && same a.name (bytes "self")) ≡ false
-  unfolding unfit
-  not_self f a u = (neither (is_cxx_vector a.type) _ (neither _ _ u).0).1
-
   -- ---- the operands fit the parameters
 
   module _ (f : Function) (g : FunctionKept items f) (heads : List Name) (e : heads ≡ argument_names f) where
+    -- no argument of a method is named `self`
     no_self : is_method f.form ≡ true → member (bytes "self") heads ≡ false
-    unfolding any member
+    unfolding any member unfit
     no_self h = rw e (go f.arguments g.fitting)
       where
         go : (xs : List Argument) → any (unfit items f) xs ≡ false → member (bytes "self") (names xs) ≡ false
         go [] u = refl
         go (a ∷ xs) u =
             let q = neither (unfit items f a) (any (unfit items f) xs) u in
-            rw (same_sym a.name (bytes "self") (rw h at (not_self f a q.0))) (go xs q.1)
+            let p : (is_method f.form && same a.name (bytes "self")) ≡ false =
+            (neither (is_cxx_vector a.type) _ (neither _ _ q.0).0).1 in
+            rw (same_sym a.name (bytes "self") (rw h at p)) (go xs q.1)
 
     receiver_fits : (form : Form) → (is_method form ≡ true → member (bytes "self") heads ≡ false) →
         map (fitting items f heads) (declared_receiver items form) ≡
@@ -133,7 +130,7 @@ module _ (items : List Item) where
 
   -- ---- the parameters are the function's
 
-  pub receiver_name : (form : Form) →
+  receiver_name : (form : Form) →
       map parameter_name (declared_receiver items form) ≡ pick (is_method form) (bytes "self" ∷ []) []
   receiver_name free = refl
   receiver_name (const_method i) = refl

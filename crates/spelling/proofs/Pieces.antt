@@ -1,26 +1,22 @@
 -- The pieces of a text in front of any rest: each is laid out as its tree, which keeps the rules.
-use Rattle.std.proofs.Common.{◌≡◌, ℕ, Bool, true, false, List, ◌++◌, length, refl}
+use Rattle.std.proofs.Common.{◌≡◌, ℕ, true, false, List, ◌++◌, length, refl}
 use Rattle.lexical.proofs.ByteLaws.{Each}
 use Rattle.format.specs.Sheet.{Function, Item, Sheet}
 use Rattle.decoded.proofs.Kept.{ItemKept, FunctionKept}
 use Rattle.bridge.specs.Write.{function_decl, layout_decl, layout_definition, function_shim}
-use Rattle.bridge.specs.Cxx.{cxx_function_shim}
 use Rattle.grammar.specs.Token.{Token}
 use Rattle.grammar.specs.Layout.{Layout}
-use Rattle.grammar.specs.Tree.{Measure, declares, defines, shim, cxx_shim}
+use Rattle.grammar.specs.Tree.{Measure, declares, defines, shim}
 use Rattle.grammar.specs.Tokens.{item_tokens}
 use Rattle.grammar.specs.Rules.{item_ok}
 use Rattle.spelling.specs.DeclarationTree.{declaration_of, layout_declaration_of, measure_name, operator_name}
 use Rattle.spelling.specs.DeclarationTree.{layout_definition_of}
 use Rattle.spelling.specs.ShimTree.{shim_tree}
-use Rattle.spelling.specs.CxxTree.{cxx_shim_tree}
 use Rattle.spelling.proofs.DeclarationSpelling.{declaration_spells, layout_declaration_spells}
 use Rattle.spelling.proofs.DeclarationSpelling.{layout_definition_spells}
 use Rattle.spelling.proofs.DeclarationRules.{declaration_ok_lem, layout_declaration_ok, layout_definition_ok}
 use Rattle.spelling.proofs.ShimSpelling.{shim_spells}
 use Rattle.spelling.proofs.ShimRules.{shim_ok_lem}
-use Rattle.spelling.proofs.CxxSpelling.{cxx_shim_spells}
-use Rattle.spelling.proofs.CxxRules.{cxx_shim_ok_lem}
 
 module _ (s : Sheet) (kept : Each (ItemKept s.items) s.items) (x : Item) (k : ItemKept s.items x) where
   -- ---- declarations
@@ -65,15 +61,3 @@ module _ (s : Sheet) (kept : Each (ItemKept s.items) s.items) (x : Item) (k : It
     pub shim_keeps : item_ok (length x.namespace) false (shim (shim_tree s x f)) ≡ true
     unfolding item_ok
     shim_keeps = shim_ok_lem s kept x k f g
-
-    -- ---- C++ shims
-
-    module _ (unwind elided : Bool) where
-      pub cxx_shim_laid : (ts : List Token) (r : List ℕ) → Layout ts r →
-          Layout (item_tokens (cxx_shim (cxx_shim_tree s.items x f unwind elided)) ts)
-          (cxx_function_shim s.items x f unwind elided ++ r)
-      cxx_shim_laid ts r d = (cxx_shim_spells s.items kept x k f g unwind elided).laid ts r refl d
-
-      pub cxx_shim_keeps : (depth : ℕ) → item_ok depth true (cxx_shim (cxx_shim_tree s.items x f unwind elided)) ≡ true
-      unfolding item_ok
-      cxx_shim_keeps depth = cxx_shim_ok_lem s.items kept x k f g unwind elided depth

@@ -48,7 +48,7 @@ use Rattle.spelling.proofs.Comments.{doc_spells}
 module _ (items : List Item) (kept : Each (ItemKept items) items) where
   -- ---- heads
 
-  pub return_spells : (r : Ret) → return_fits (length items) r ≡ true →
+  return_spells : (r : Ret) → return_fits (length items) r ≡ true →
       Spells closed (write_return_type items r) (result_tokens (result_of items r))
   unfolding return_fits
   return_spells none h = lit "void " refl
@@ -92,11 +92,11 @@ module _ (items : List Item) (kept : Each (ItemKept items) items) where
   noexcept_meets true = refl
   noexcept_meets false = refl
 
-  pub const_spells : (b : Bool) → Spells inside (pick_text b (bytes " const") []) (const_tokens b)
+  const_spells : (b : Bool) → Spells inside (pick_text b (bytes " const") []) (const_tokens b)
   const_spells true = lit " const" refl
   const_spells false = empty
 
-  pub noexcept_spells : (throws : Bool) →
+  noexcept_spells : (throws : Bool) →
       Spells inside (pick_text throws [] (bytes " noexcept")) (optional_tokens (not throws) (quoted "noexcept" []))
   noexcept_spells true = empty
   noexcept_spells false = lit " noexcept" refl
@@ -255,13 +255,13 @@ module _ (items : List Item) (kept : Each (ItemKept items) items) where
   rust_string_indirect (fn r ts) h = absurd (false≢true h)
   rust_string_indirect (array t n) h = absurd (false≢true h)
 
-  plain_operand_lem : (x : List ℕ) → is_name x ≡ true → (string indirect : Bool) → (string ≡ true → indirect ≡ true) →
+  plain_operand : (x : List ℕ) → is_name x ≡ true → (string indirect : Bool) → (string ≡ true → indirect ≡ true) →
       Spells inside (pick_text indirect (bytes "&") [] ++ x ++ pick_text (not string && indirect) (bytes "$.value") [])
       (operand_tokens (argument_operand (pick string rust_string (pick indirect other_indirect Agreement.direct)) x))
-  plain_operand_lem x n true true h = lit "&" refl ▷ name_spells x n ▷⟨ refl ⟩ empty
-  plain_operand_lem x n true false h = absurd (false≢true (h refl))
-  plain_operand_lem x n false true h = dollar_behind (lit "&" refl) x n refl (lit ".value" refl)
-  plain_operand_lem x n false false h = name_spells x n ▷⟨ refl ⟩ empty
+  plain_operand x n true true h = lit "&" refl ▷ name_spells x n ▷⟨ refl ⟩ empty
+  plain_operand x n true false h = absurd (false≢true (h refl))
+  plain_operand x n false true h = dollar_behind (lit "&" refl) x n refl (lit ".value" refl)
+  plain_operand x n false false h = name_spells x n ▷⟨ refl ⟩ empty
 
   shaped_operand : {t : Ty} {k : Shape} (x : List ℕ) → is_name x ≡ true → Shaped t k →
       Spells inside (pick_text (needs_indirect_abi items t) (bytes "&") [] ++ x ++ operand_end k (is_held items t))
@@ -273,7 +273,7 @@ module _ (items : List Item) (kept : Each (ItemKept items) items) where
   shaped_operand x n is_str = name_spells x n ▷⟨ refl ⟩ empty
   shaped_operand x n (is_slice m t) = name_spells x n ▷⟨ refl ⟩ empty
   shaped_operand x n (is_other t plain) =
-      rw (plain _) (plain_operand_lem x n (is_rust_string t) (needs_indirect_abi items t) (rust_string_indirect t))
+      rw (plain _) (plain_operand x n (is_rust_string t) (needs_indirect_abi items t) (rust_string_indirect t))
 
   operand_spells : (a : Argument) → argument_fits (length items) a ≡ true →
       Spells inside (operand items a) (operand_tokens (operand_of items a))

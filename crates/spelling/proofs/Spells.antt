@@ -7,8 +7,7 @@ use Rattle.lexical.specs.Names.{is_name}
 use Rattle.lexical.proofs.BoolLaws.{both}
 use Rattle.grammar.specs.Token.{Token, word, word_char}
 use Rattle.grammar.specs.Layout.{well_formed, no_word_char, Layout, token}
-use Rattle.grammar.proofs.Lexer.{Mode, between, in_word, after_colon, after_dot, after_slash, after_quote, after_quote_c}
-use Rattle.grammar.proofs.Lexer.{in_comment, lex}
+use Rattle.grammar.proofs.Lexer.{Mode, between, in_word, after_colon, after_slash, after_quote, after_quote_c, in_comment, lex}
 use Rattle.grammar.proofs.LexedLayout.{all_sound}
 use Rattle.grammar.proofs.Pieces.{name_word, dollar_laid}
 use Rattle.grammar.proofs.Literal.{final, seam, literal}
@@ -70,7 +69,6 @@ abbrev pub end_of : Mode → End
 end_of between = closed
 end_of (in_word a) = inside
 end_of after_colon = inside
-end_of after_dot = inside
 end_of after_slash = inside
 end_of after_quote = inside
 end_of after_quote_c = inside
@@ -80,7 +78,6 @@ abbrev pub ends : Mode → Bool
 ends between = true
 ends (in_word a) = true
 ends after_colon = false
-ends after_dot = false
 ends after_slash = false
 ends after_quote = false
 ends after_quote_c = false
@@ -90,7 +87,6 @@ ends_seam : (m : Mode) (r : List ℕ) → ends m ≡ true → clear (end_of m) r
 ends_seam between r h k = refl
 ends_seam (in_word a) r h k = k
 ends_seam after_colon r h k = absurd (false≢true h)
-ends_seam after_dot r h k = absurd (false≢true h)
 ends_seam after_slash r h k = absurd (false≢true h)
 ends_seam after_quote r h k = absurd (false≢true h)
 ends_seam after_quote_c r h k = absurd (false≢true h)

@@ -1,5 +1,5 @@
 -- The trees of a sheet's declarations and layout definitions.
-use Rattle.std.specs.Prelude.{Bool, true, false, List, [], ◌∷◌, ◌++◌, map}
+use Rattle.std.specs.Prelude.{true, false, List, [], ◌∷◌, ◌++◌, map}
 use Rattle.lexical.specs.Bytes.{bytes}
 use Rattle.format.specs.Decode.{pick}
 use Rattle.format.specs.Types.{Ty, Ret, none, gives}
@@ -29,13 +29,10 @@ abbrev pub direct_result_of : List Item → Ret → Result
 direct_result_of items none = Tree.void
 direct_result_of items (gives t) = direct_result items t (shape t)
 
--- where it is known whether the return is indirect
-abbrev pub declared_result_by : List Item → Function → Bool → Result
-declared_result_by items f indirect =
-    pick f.throws Tree.ptr_len (pick indirect Tree.void (direct_result_of items f.return))
-
 unfoldable pub declared_result : List Item → Function → Result
-declared_result items f = declared_result_by items f (indirect_return items f f.return)
+declared_result items f =
+    pick f.throws Tree.ptr_len
+    (pick (indirect_return items f f.return) Tree.void (direct_result_of items f.return))
 
 -- ---- parameters
 

@@ -1,4 +1,3 @@
 pub mod TypeTree
 pub mod DeclarationTree
 pub mod ShimTree
-pub mod CxxTree

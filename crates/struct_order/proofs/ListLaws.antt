@@ -7,10 +7,7 @@ use native.Mathlib.Omega.{arith}
 use lib.ListN.{length, take}
 use lib.Seq.{length-take-le}
 use borrow.Author.Tests.{le-leb, lt-leb}
-use Rattle.refusal.specs.declared.Refusal.{Refusal}
 use Rattle.refusal.specs.declared.Refusal.TheVariants as Refusal
-use Rattle.rules.specs.declared.Checked.{Checked}
-use Rattle.rules.specs.declared.Checked.TheVariants as Checked
 use Rattle.format.specs.Sheet.{Item}
 use Rattle.toposort.specs.declared.Traversal.{Traversal}
 use Rattle.toposort.specs.declared.Traversal.TheVariants.{Done, Cycle}
@@ -27,8 +24,8 @@ pub list_inside : {items : List Item} {r : Traversal} {out : List ℕ} {end : �
 list_inside o e = (answered o e).inside
 
 module _ {items : List Item} {r : Traversal} {out : List ℕ} (o : Ordered items r out) (buffer : List ℕ) where
-  pub list_ring : (calls : Checked) → r ≡ Cycle → Lists items calls buffer (Refused Refusal.Ring) buffer
-  list_ring calls e =
+  pub list_ring : r ≡ Cycle → Lists items buffer (Refused Refusal.Ring) buffer
+  list_ring e =
       let a = answered o e in
       record { answers = rw (← a.rings); leaves = rw (← a.rings) }
 
@@ -39,21 +36,17 @@ module _ {items : List Item} {r : Traversal} {out : List ℕ} (o : Ordered items
     no_ring_lem : ring items ≡ false
     no_ring_lem = sym (answered o e).rings
 
-    pub list_uncalled : {calls : Checked} {d : Refusal} → calls ≡ Checked.Refused d → Lists items calls buffer (Refused d) buffer
-    list_uncalled h = record { answers = rw (no_ring_lem, h); leaves = rw (no_ring_lem, h) }
-
-    pub list_long : {calls : Checked} → calls ≡ Checked.Accepted → length buffer < end →
-        Lists items calls buffer (Refused Refusal.Overrun) buffer
-    list_long a h =
+    pub list_long : length buffer < end → Lists items buffer (Refused Refusal.Overrun) buffer
+    list_long h =
         let t = lt-leb (length (order_of items)) (length buffer) (omega (arith, size)) in
-        record { answers = rw (no_ring_lem, a, t); leaves = rw (no_ring_lem, a, t) }
+        record { answers = rw (no_ring_lem, t); leaves = rw (no_ring_lem, t) }
 
-    pub list_fits : {calls : Checked} {after : List ℕ} {at : ℕ} → calls ≡ Checked.Accepted → end ≤ length buffer → length buffer < 2 ^ 63 →
-        Wrote (sink buffer 0) (take end out) (sink after at) → Lists items calls buffer (Length end) after
-    list_fits {after = after} {at} a h small w =
+    pub list_fits : {after : List ℕ} {at : ℕ} → end ≤ length buffer → length buffer < 2 ^ 63 →
+        Wrote (sink buffer 0) (take end out) (sink after at) → Lists items buffer (Length end) after
+    list_fits {after} {at} h small w =
         let t = le-leb (length (order_of items)) (length buffer) (omega (arith, size)) in
         let v : Wrote (sink buffer 0) (order_of items) (sink after at) = rw (← (answered o e).list) w in
         record {
-          answers = rw (no_ring_lem, a, t, size);
-          leaves = rw (no_ring_lem, a, t) (written buffer v (omega (arith, size)) small);
+          answers = rw (no_ring_lem, t, size);
+          leaves = rw (no_ring_lem, t) (written buffer v (omega (arith, size)) small);
         }

@@ -9,7 +9,7 @@ use lib.Dec.{leb}
 use lib.ListN.{length, take, replicate}
 use borrow.Author.Tests.{leb-true}
 use Rattle.refusal.specs.declared.Refusal.{Refusal}
-use Rattle.refusal.specs.declared.Refusal.TheVariants.{WrongPart, Taken, UnfitArgument, Ring, Overrun, TwoWaysOut, BareCallback}
+use Rattle.refusal.specs.declared.Refusal.TheVariants.{WrongPart, Taken, UnfitArgument, Ring, Overrun}
 use Rattle.format.specs.Limits.{most_names, most_items}
 use Rattle.format.specs.Decode.{fault, pick}
 use Rattle.format.specs.Sheet.{Sheet}
@@ -20,15 +20,15 @@ use Rattle.view.specs.Values.{items_at}
 use Rattle.view.proofs.WholeLaws.{items_are_lem}
 use Rattle.rules.specs.declared.Checked.{Checked}
 use Rattle.rules.specs.declared.Checked.TheVariants as Checked
-use Rattle.rules.specs.Rules.{wrong_part, taken, unfit_argument, ring, two_ways_out, bare_callback}
+use Rattle.rules.specs.Rules.{wrong_part, taken, unfit_argument, ring}
 use Rattle.rules.specs.Judge.{Judged, refused, accepted, ruled, judged, judge}
 use Rattle.marks.specs.Marking.{places}
-use Rattle.check_sheet.specs.Ruled.{ruled_parts, ruled_calls}
+use Rattle.check_sheet.specs.Ruled.{ruled_parts}
 use Rattle.check_sheet.proofs.CheckLaws.{ready_tables, marked_tables}
 use Rattle.services.specs.declared.Written.{Written}
 use Rattle.services.specs.declared.Written.TheVariants as Written
 use Rattle.services.specs.Services.{struct_order, fitted, answer_of, buffer_of, Serves, Orders}
-use Rattle.struct_order.specs.Lists.{else_written, else_left, Lists, Decodes}
+use Rattle.struct_order.specs.Lists.{Lists, Decodes}
 
 -- ---- a sheet that was decoded, with its tables cut to their lengths
 
@@ -61,24 +61,8 @@ else_judged (Checked.Refused e) next = refused e
 else_judged Checked.Accepted next = next
 
 module _ (s : List ℕ) {names items digests marks : List ℕ} (d : Decodes s names items digests marks) where
-  abbrev by_calls : Judged
-  by_calls =
-      pick (two_ways_out d.sheet.items) (refused TwoWaysOut)
-      (pick (bare_callback d.sheet.items) (refused BareCallback) (accepted d.sheet))
-
   abbrev by_ring : Judged
-  by_ring = pick (ring d.sheet.items) (refused Ring) by_calls
-
-  calls_are : by_calls ≡ else_judged (ruled_calls d.sheet.items) (accepted d.sheet)
-  unfolding ruled_calls
-  calls_are = let x = d.sheet.items in by_both (two_ways_out x) (bare_callback x) (accepted d.sheet)
-    where
-      by_both : (a b : Bool) (next : Judged) →
-          pick a (refused TwoWaysOut) (pick b (refused BareCallback) next) ≡
-          else_judged (pick a (Checked.Refused TwoWaysOut) (pick b (Checked.Refused BareCallback) Checked.Accepted)) next
-      by_both true b next = refl
-      by_both false true next = refl
-      by_both false false next = refl
+  by_ring = pick (ring d.sheet.items) (refused Ring) (accepted d.sheet)
 
   judge_parts : judge s ≡ else_judged (ruled_parts d.sheet.items) by_ring
   unfolding judge ruled ruled_parts
@@ -103,31 +87,25 @@ module _ (s : List ℕ) {names items digests marks : List ℕ} (d : Decodes s na
     orders_unruled e = orders_refused s buffer (judge_answered ∙ ap (λ (c : Checked). else_judged c by_ring) e)
 
     -- rules 1 to 11 hold, and the list is written
-    pub orders_listed : {after : List ℕ} {w : Written} {calls : Checked} → r ≡ Checked.Accepted →
-        calls ≡ ruled_calls (items_at s names items) → Lists (items_at s names items) calls buffer w after →
-        Orders s buffer w after
+    pub orders_listed : {after : List ℕ} {w : Written} → r ≡ Checked.Accepted →
+        Lists (items_at s names items) buffer w after → Orders s buffer w after
     unfolding struct_order
-    orders_listed {after} {w} {calls} e c l =
+    orders_listed {after} {w} e l =
         let x = d.sheet in
-        let o : by_calls ≡ else_judged calls (accepted x) =
-        calls_are ∙ ap (λ (k : Checked). else_judged k (accepted x)) (sym (c ∙ ap ruled_calls d.same)) in
-        let j : judge s ≡ pick (ring x.items) (refused Ring) (else_judged calls (accepted x)) =
-        judge_answered ∙ (ap (λ (k : Checked). else_judged k by_ring) e ∙
-        ap (λ (k : Judged). pick (ring x.items) (refused Ring) k) o) in
-        let m : Lists x.items calls buffer w after = rw d.same at l in
+        let j : judge s ≡ by_ring = judge_answered ∙ ap (λ (c : Checked). else_judged c by_ring) e in
+        let m : Lists x.items buffer w after = rw d.same at l in
         record {
-          answers = rw j (m.answers ∙ (by_rules (ring x.items) calls).0);
-          leaves = rw j (m.leaves ∙ (by_rules (ring x.items) calls).1);
+          answers = rw j (m.answers ∙ (by_ring_lem (ring x.items)).0);
+          leaves = rw j (m.leaves ∙ (by_ring_lem (ring x.items)).1);
         }
       where
-        by_rules : (t : Bool) (k : Checked) →
-            (pick t (Written.Refused Ring) (else_written k (answer_of struct_order (accepted d.sheet) (length buffer))) ≡
-            answer_of struct_order (pick t (refused Ring) (else_judged k (accepted d.sheet))) (length buffer)) ×
-            (pick t buffer (else_left k buffer (buffer_of struct_order (accepted d.sheet) buffer)) ≡
-            buffer_of struct_order (pick t (refused Ring) (else_judged k (accepted d.sheet))) buffer)
-        by_rules true k = (refl, refl)
-        by_rules false (Checked.Refused e) = (refl, refl)
-        by_rules false Checked.Accepted = (refl, refl)
+        by_ring_lem : (t : Bool) →
+            (pick t (Written.Refused Ring) (answer_of struct_order (accepted d.sheet) (length buffer)) ≡
+            answer_of struct_order (pick t (refused Ring) (accepted d.sheet)) (length buffer)) ×
+            (pick t buffer (buffer_of struct_order (accepted d.sheet) buffer) ≡
+            buffer_of struct_order (pick t (refused Ring) (accepted d.sheet)) buffer)
+        by_ring_lem true = (refl, refl)
+        by_ring_lem false = (refl, refl)
 
 -- ---- an answered length is at most the buffer's
 

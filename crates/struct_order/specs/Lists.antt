@@ -6,8 +6,6 @@ use Rattle.format.specs.Sheet.{Item, Sheet}
 use Rattle.format.specs.Decoding.{decode}
 use Rattle.view.specs.Values.{items_at, Ready}
 use Rattle.toposort.specs.Sort.{order}
-use Rattle.rules.specs.declared.Checked.{Checked}
-use Rattle.rules.specs.declared.Checked.TheVariants as Checked
 use Rattle.rules.specs.Rules.{held_structs, structs, ring}
 use Rattle.services.specs.declared.Written.{Written}
 use Rattle.services.specs.declared.Written.TheVariants as Written
@@ -18,22 +16,10 @@ use Rattle.services.specs.Services.{fitted, overlaid}
 abbrev pub order_of : List Item → List ℕ
 order_of items = order (held_structs items) (length items) (structs items)
 
--- a refusal, else the next answer
-abbrev pub else_written : Checked → Written → Written
-else_written (Checked.Refused e) next = Written.Refused e
-else_written Checked.Accepted next = next
-
--- a refusal leaves the buffer
-abbrev pub else_left : Checked → List ℕ → List ℕ → List ℕ
-else_left (Checked.Refused e) buffer next = buffer
-else_left Checked.Accepted buffer next = next
-
--- 12, else the answer of 14 and 15, else 13, else the list, and every byte of the buffer
-pub record Lists (items : List Item) (calls : Checked) (buffer : List ℕ) (answer : Written) (after : List ℕ)
-    : Type 0 where
-  pub answers : answer ≡
-      pick (ring items) (Written.Refused Ring) (else_written calls (fitted (order_of items) (length buffer)))
-  pub leaves : after ≡ pick (ring items) buffer (else_left calls buffer (overlaid (order_of items) buffer))
+-- 12, else 13, else the list, and every byte of the buffer
+pub record Lists (items : List Item) (buffer : List ℕ) (answer : Written) (after : List ℕ) : Type 0 where
+  pub answers : answer ≡ pick (ring items) (Written.Refused Ring) (fitted (order_of items) (length buffer))
+  pub leaves : after ≡ pick (ring items) buffer (overlaid (order_of items) buffer)
 
 -- the sheet s is decoded, and its items are those that the tables give
 pub record Decodes (s names items digests marks : List ℕ) : Type 0 where

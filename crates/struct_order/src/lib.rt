@@ -8,7 +8,7 @@ ghost use Rattle.services.specs.Services.{Orders};
 ghost use Rattle.view.specs.Values.{items_at, Whole};
 ghost use Rattle.struct_order.specs.Lists.{Lists, Decodes};
 
-use check_sheet::{judge_calls, judge_parts};
+use check_sheet::judge_parts;
 use decode::{Decoded, decode};
 use format::Outline;
 use marks::Mark;
@@ -19,32 +19,28 @@ use services::Written;
 use sink::put_bytes;
 use toposort::Traversal;
 
-// Lists the structs of a decoded sheet for which rules 9 to 11 hold; calls is the answer of rules 14 and 15, which come
-// behind 12. A refusal leaves `buf` as it was.
-pub fn list_order(s: &[u8], names: &[u32], items: &[u32], calls: Checked, buf: &mut [u8]) -> Written
+// Lists the structs of a decoded sheet for which rules 9 to 11 hold. A refusal leaves `buf` as it was.
+pub fn list_order(s: &[u8], names: &[u32], items: &[u32], buf: &mut [u8]) -> Written
     requires { Whole s.now names.now items.now }
-    ensures { Lists (items_at s.now names.now items.now) calls
-        buf.old result buf.new }
+    ensures { Lists (items_at s.now names.now items.now) buf.old result
+        buf.new }
 {
     let mut out = [0u8; Traversal::NUMBERS];
     let mut held = [0u8; Traversal::HELD];
     let r = order_of(s, names, items, &mut held, &mut out);
     match r {
         Traversal::Cycle => Written::Refused(Refusal::Ring),
-        Traversal::Done(end) => match calls {
-            Checked::Refused(e) => Written::Refused(e),
-            Checked::Accepted => {
-                if buf.len() < end {
-                    return Written::Refused(Refusal::Overrun);
-                }
-                put_bytes(buf, 0, &out[..end]);
-                Written::Length(end)
+        Traversal::Done(end) => {
+            if buf.len() < end {
+                return Written::Refused(Refusal::Overrun);
             }
-        },
+            put_bytes(buf, 0, &out[..end]);
+            Written::Length(end)
+        }
     }
 }
 
-// A decoded sheet: rules 9 to 11, then the list under the others.
+// A decoded sheet: rules 9 to 11, then the list.
 fn order_ruled(
     s: &[u8],
     names: &[u32],
@@ -59,10 +55,7 @@ fn order_ruled(
     let parts = judge_parts(s, names, items, digests, marks);
     match parts {
         Checked::Refused(e) => Written::Refused(e),
-        Checked::Accepted => {
-            let calls = judge_calls(s, names, items, marks);
-            list_order(s, names, items, calls, buf)
-        }
+        Checked::Accepted => list_order(s, names, items, buf),
     }
 }
 

@@ -11,7 +11,8 @@ use Rattle.bridge.specs.Write.{commas, extern_arg, held_local, operand}
 use Rattle.cursor.specs.declared.Cursor.{Cursor}
 use Rattle.cursor.proofs.CheckLaws.{many_length}
 use Rattle.view.specs.declared.FunctionView.{FunctionView}
-use Rattle.view.specs.Views.{CommentAt}
+use Rattle.view.specs.Values.{Yields}
+use Rattle.view.specs.Views.{comment_lines}
 use Rattle.tables.specs.Tables.{items_in, items_of, function_of, Function, Arguments, behind_arguments}
 use Rattle.count_type.specs.Counts.{Counts}
 use Rattle.summary.specs.Summaries.{Summary, Summaries, Keeping}
@@ -116,7 +117,7 @@ counted_none text = record { exact = λ z. absurd (z refl) }
 
 -- views of the arguments, with the five words behind them
 pub summary_filled : {s : List ℕ} (t : List ℕ) {a : List ℕ} {f : FunctionView} (c : ℕ) → Arguments s t f a →
-    f.arguments + 5 ≤ length a → CommentAt s c (function_of s t f.number) →
+    f.arguments + 5 ≤ length a → Yields (comment_lines s c) (function_of s t f.number).comment →
     Summary s t f (set (four a f.arguments 0 0 0 0) (f.arguments + 4) c)
 summary_filled t {a} {f} c x h e =
     let n = f.arguments in
@@ -143,7 +144,7 @@ summary_filled t {a} {f} c x h e =
 
 -- the comment stands behind the arguments
 pub comment_behind : {s : List ℕ} (t : List ℕ) {f : FunctionView} {c : ℕ} → Function s t f → c ≡ behind_arguments s t f →
-    CommentAt s c (function_of s t f.number)
+    Yields (comment_lines s c) (function_of s t f.number).comment
 comment_behind t x e = rw e x.view.comment
 
 -- all views of a function have one summary
@@ -323,7 +324,7 @@ module _ {s t kept : List ℕ} (words : List ℕ) {f : FunctionView} (x : Functi
         rw e (get_or-take (from + m - from) (drop from kept) j 0 (omega (arith, l))))
 
     pub comment_loaded : {c : Cursor} → c ≡ record { at = get_or (a ++ drop m words) (m - 1) 0 } →
-        CommentAt s c.at (function_of s t f.number)
+        Yields (comment_lines s c.at) (function_of s t f.number).comment
     comment_loaded d =
         let q : m - 1 ≡ f.arguments + 4 = omega arith in
         rw (d, q) summary_loaded.comment

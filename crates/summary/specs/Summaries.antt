@@ -4,7 +4,8 @@ use Rattle.bridge.specs.WriteType.{write_type_space}
 use Rattle.rules.specs.Rules.{gather}
 use Rattle.bridge.specs.Write.{commas, extern_arg, held_local, operand}
 use Rattle.view.specs.declared.FunctionView.{FunctionView}
-use Rattle.view.specs.Views.{CommentAt}
+use Rattle.view.specs.Values.{Yields}
+use Rattle.view.specs.Views.{comment_lines}
 use Rattle.tables.specs.Tables.{items_of, function_of, Function, Arguments}
 use Rattle.count_type.specs.Counts.{Counts}
 
@@ -21,7 +22,7 @@ pub record Summary (s t : List ℕ) (f : FunctionView) (words : List ℕ) : Type
       (slice_index words (f.arguments + 2))
   pub operands : Counts (commas false (map (operand (items_of s t)) (function_of s t f.number).arguments))
       (slice_index words (f.arguments + 3))
-  pub comment : CommentAt s (slice_index words (f.arguments + 4)) (function_of s t f.number)
+  pub comment : Yields (comment_lines s (slice_index words (f.arguments + 4))) (function_of s t f.number).comment
 
 -- entry i of kept is 0, or says where the summary of function i begins
 pub record Summaries (s t kept : List ℕ) : Type 0 where

@@ -49,7 +49,7 @@ fn star_length(indirect: bool) -> usize
     0
 }
 
-pub fn name_length(s: &[u8], t: &[u32; Table::PLACES], pool: &[u8; Pool::BYTES], i: u32) -> usize
+fn name_length(s: &[u8], t: &[u32; Table::PLACES], pool: &[u8; Pool::BYTES], i: u32) -> usize
     requires { Lent s.now t.now pool.now × (i < length (names_in t.now)) }
     ensures { result ≡ min limit (length (name_at s.now (slice_index (names_in t.now) i))) }
 {
@@ -63,7 +63,7 @@ pub fn name_length(s: &[u8], t: &[u32; Table::PLACES], pool: &[u8; Pool::BYTES],
 }
 
 // The length of the type at c, with the space behind it; 0 only where it is too long for a word.
-pub fn type_length(s: &[u8], t: &[u32; Table::PLACES], pool: &[u8; Pool::BYTES], c: Cursor) -> usize
+fn type_length(s: &[u8], t: &[u32; Table::PLACES], pool: &[u8; Pool::BYTES], c: Cursor) -> usize
     requires { Lent s.now t.now pool.now × Typed s.now t.now c.at }
     ensures { Counts (write_type_space (items_of s.now t.now)
         (type_of s.now t.now c.at)) result }
@@ -85,7 +85,7 @@ pub fn type_length(s: &[u8], t: &[u32; Table::PLACES], pool: &[u8; Pool::BYTES],
 }
 
 // The place behind the type at c as a declaration has it; n is its length as it is written.
-pub fn declared_type(
+fn declared_type(
     s: &[u8],
     t: &[u32; Table::PLACES],
     pool: &[u8; Pool::BYTES],

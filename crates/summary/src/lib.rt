@@ -1,17 +1,19 @@
 // Summaries of functions: what both passes over a sheet ask of a function's arguments, gathered once.
 mod count;
 
-ghost use Rattle.std.specs.Prelude.{◌≡◌, ◌+◌, ◌<◌, ◌≤◌, true, length, replicate};
-ghost use Rattle.view.specs.Views.{is_function_kind, CommentAt};
+ghost use Rattle.std.specs.Prelude.{◌≡◌, ◌+◌, ◌<◌, ◌≤◌, length, replicate};
+ghost use Rattle.format.specs.declared.ItemKind.TheVariants.{RustFunction};
+ghost use Rattle.view.specs.Values.{Yields};
+ghost use Rattle.view.specs.Views.{comment_lines};
 ghost use Rattle.tables.specs.Tables.{items_in, function_of, Tabled, Item, Function, Lent};
 ghost use Rattle.summary.specs.Summaries.{Summary, Summaries, Keeping};
 
 use crate::count::count_summary;
-pub use count::{declared_type, is_held, kept_length, name_length, type_length};
+pub use count::{is_held, kept_length};
 use cursor::Cursor;
 use format::{ItemKind, Outline};
 use tables::{Pool, Table, copy_words, fill_arguments, function, item};
-use view::{FunctionView, ItemView, is_function};
+use view::{FunctionView, ItemView};
 
 // The summary of one function: a word for each argument and five more.
 #[derive(Clone, Copy)]
@@ -30,7 +32,8 @@ impl Words {
 fn fill_summary(s: &[u8], t: &[u32], f: FunctionView, words: &mut [u32]) -> Cursor
     requires { Tabled s.now t.now × Function s.now t.now f × (36 ≤ length words.old) }
     ensures { Summary s.now t.now f words.new ×
-        CommentAt s.now result.at (function_of s.now t.now f.number) }
+        Yields (comment_lines s.now result.at)
+        (function_of s.now t.now f.number).comment }
 {
     let comment = fill_arguments(s, t, f, words);
     let n = f.arguments as usize;
@@ -42,38 +45,22 @@ fn fill_summary(s: &[u8], t: &[u32], f: FunctionView, words: &mut [u32]) -> Curs
     comment
 }
 
-// The same, counted where that can be; the texts that are counted are those of a Rust function.
+// The same, counted where that can be.
 fn make_summary(
     s: &[u8],
     t: &[u32; Table::PLACES],
     pool: &[u8; Pool::BYTES],
     f: FunctionView,
-    rust: bool,
     words: &mut [u32],
 )
     requires { Lent s.now t.now pool.now × Function s.now t.now f × (36 ≤ length words.old) }
     ensures { Summary s.now t.now f words.new }
 {
     fill_summary(s, t, f, words);
-    if !rust {
-        return;
-    }
     count_summary(s, t, pool, f, words);
 }
 
 // ---- all functions
-
-fn is_rust(kind: ItemKind) -> bool {
-    match kind {
-        ItemKind::RustFunction => true,
-        ItemKind::CxxFunction => false,
-        ItemKind::Struct => false,
-        ItemKind::Enum => false,
-        ItemKind::CxxType => false,
-        ItemKind::RustType => false,
-        ItemKind::Bad => false,
-    }
-}
 
 // The summary of function v, behind the first `end` words; the answer is the place behind it.
 fn keep(
@@ -84,14 +71,12 @@ fn keep(
     end: usize,
     kept: &mut [u32],
 ) -> usize
-    requires { Lent s.now t.now pool.now × Item s.now t.now v × (is_function_kind v.kind ≡ true) ×
+    requires { Lent s.now t.now pool.now × Item s.now t.now v × (v.kind ≡ RustFunction) ×
         Keeping s.now t.now v.number end kept.old × (end + 36 ≤ length kept.old) }
     ensures { Keeping s.now t.now (v.number + 1) result kept.new }
 {
     let f = function(s, t, v);
-    let kind = v.kind;
-    let rust = is_rust(kind);
-    make_summary(s, t, pool, f, rust, &mut kept[end..]);
+    make_summary(s, t, pool, f, &mut kept[end..]);
     let i = v.number as usize;
     kept[i] = end as u32;
     end + (f.arguments as usize + 5)
@@ -115,10 +100,14 @@ fn keep_item(
     }
     let v = item(s, t, i);
     let kind = v.kind;
-    if !is_function(kind) {
-        return end;
+    match kind {
+        ItemKind::RustFunction => keep(s, t, pool, v, end, kept),
+        ItemKind::Struct => end,
+        ItemKind::Enum => end,
+        ItemKind::CxxType => end,
+        ItemKind::RustType => end,
+        ItemKind::Bad => end,
     }
-    keep(s, t, pool, v, end, kept)
 }
 
 // The summaries of a sheet's functions, as far as they have room.
@@ -146,7 +135,8 @@ pub fn load_summary(s: &[u8], t: &[u32], f: FunctionView, kept: &[u32], words: &
     requires { Tabled s.now t.now × Function s.now t.now f × Summaries s.now t.now kept.now ×
         (36 ≤ length words.old) }
     ensures { Summary s.now t.now f words.new ×
-        CommentAt s.now result.at (function_of s.now t.now f.number) }
+        Yields (comment_lines s.now result.at)
+        (function_of s.now t.now f.number).comment }
 {
     let i = f.number as usize;
     if kept.len() <= i {

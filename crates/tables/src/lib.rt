@@ -1,16 +1,17 @@
 // What every writer is lent beside the sheet: the positions of its names and items in one table, and their texts in a
 // pool. A table of known length costs a writer one register.
-ghost use Rattle.std.specs.Prelude.{◌≡◌, [], true, ◌+◌, ◌/◌, ◌%◌, ◌≤◌, ◌<◌, length, get_or, drop, replicate};
+ghost use Rattle.std.specs.Prelude.{◌≡◌, [], ◌+◌, ◌/◌, ◌%◌, ◌≤◌, ◌<◌, length, get_or, drop, replicate};
 ghost use Rattle.std.proofs.Math.Seq.{slice};
 ghost use Rattle.lexical.specs.Bytes.{same};
 ghost use Rattle.sink.specs.Sink.{sink, Wrote};
 ghost use Rattle.format.specs.Limits.{most_names, most_items, most_arguments};
 ghost use Rattle.format.specs.Decoding.{type};
+ghost use Rattle.format.specs.declared.ItemKind.TheVariants.{RustFunction};
 ghost use Rattle.syntax.specs.Items.{item_at};
 ghost use Rattle.syntax.specs.Types.{needs_indirect_abi};
 ghost use Rattle.bridge.specs.WriteType.{write_type_space};
 ghost use Rattle.view.specs.Values.{name_at};
-ghost use Rattle.view.specs.Views.{is_function_kind, kind_of_type, EntryOf};
+ghost use Rattle.view.specs.Views.{kind_of_type, EntryOf};
 ghost use Rattle.tables.specs.Tables.{names_in, items_in, Listed, items_of, Tabled, Item};
 ghost use Rattle.tables.specs.Tables.{Function, Arguments, behind_arguments, Part, Lent, Filled, type_of};
 ghost use Rattle.tables.specs.Tables.{Typed, Known};
@@ -136,7 +137,7 @@ pub fn namespace(s: &[u8], t: &[u32], v: ItemView, d: u32) -> u32
 
 // The function of an item.
 pub fn function(s: &[u8], t: &[u32], v: ItemView) -> FunctionView
-    requires { Tabled s.now t.now × Item s.now t.now v × (is_function_kind v.kind ≡ true) }
+    requires { Tabled s.now t.now × Item s.now t.now v × (v.kind ≡ RustFunction) }
     ensures { (result.number ≡ v.number) × Function s.now t.now result }
 {
     let n = t[Table::NAMES] as usize;

@@ -1,7 +1,7 @@
 -- Laws of functions by number.
 use mathlib.Core.Path.{◌≡◌, refl, sym, ap, ◌∙◌}
-use mathlib.Core.List.{List, []}
-use mathlib.Core.Bool.{Bool, true, false, false≢true}
+use mathlib.Core.List.{List}
+use mathlib.Core.Bool.{Bool, true, false}
 use Prim.Native.Nat.{ℕ, ◌+◌, ◌*◌, ◌/◌, ◌%◌, ◌≤◌}
 use native.Mathlib.Omega.{arith}
 use lib.ListN.{length}
@@ -10,10 +10,10 @@ use borrow.Author.Tests.{eq-eqb, ne_eqb}
 use Rattle.format.specs.Decode.{got, many}
 use Rattle.format.specs.Bits.{bits_at, bits, bit, width_of, index}
 use Rattle.format.specs.Types.{Ty, Ret, none}
-use Rattle.format.specs.Sheet.{Name, Form, free, rust, is_rust, Function, function}
-use Rattle.format.specs.Decoding.{form, form_of, type, optional, argument, cxx_lang, item_body, function_body}
+use Rattle.format.specs.Sheet.{Form, free, Function, function}
+use Rattle.format.specs.Decoding.{form, form_of, type, optional, argument, item_body, function_body}
 use Rattle.format.specs.declared.ItemKind.{ItemKind}
-use Rattle.format.specs.declared.ItemKind.TheVariants.{Struct, Enum, CxxType, RustType, RustFunction, CxxFunction, Bad}
+use Rattle.format.specs.declared.ItemKind.TheVariants.{RustFunction}
 use Rattle.syntax.specs.Items.{item_at}
 use Rattle.cursor.specs.Checking.{Limited}
 use Rattle.cursor.proofs.BitLaws.{bits_split, bits_lt}
@@ -22,12 +22,10 @@ use Rattle.cursor.specs.declared.Found.{Found}
 use Rattle.view.specs.declared.FormView.{FormView}
 use Rattle.view.specs.declared.ItemView.{ItemView}
 use Rattle.view.specs.Values.{value_or, next_of, Yields, names_at, items_at, function_at, type_here}
-use Rattle.view.specs.Views.{Finds, function_kind, is_function_kind, ItemAt, FormOf, Formed, return_of, return_here}
-use Rattle.view.specs.Views.{comment_lines, CommentAt, lang_behind, FunctionOf}
+use Rattle.view.specs.Views.{Finds, ItemAt, FormOf, Formed, return_of, return_here, comment_lines, FunctionOf}
 use Rattle.cursor.proofs.YieldLaws.{yields, yielded, in_turn, got_value, got_next, found_value, found_next}
 use Rattle.cursor.proofs.YieldLaws.{bits_there, bit_value, bit_next}
-use Rattle.view.proofs.PartLaws.{finds, name_room, bit_room, bit_end, lang_of_kind, lang_kind, lang_there}
-use Rattle.view.proofs.PartLaws.{FunctionParts, function_parts}
+use Rattle.view.proofs.PartLaws.{finds, name_room, bit_room, bit_end, FunctionParts, function_parts}
 use Rattle.names.proofs.NameLaws.{Read, name_read}
 use Rattle.types.proofs.KindLaws.{type_yields}
 
@@ -104,155 +102,118 @@ module _ (n : ℕ) (s : List ℕ) (at : ℕ) {b : Bool} where
 
 -- ---- a view of the function at a position
 
-module _ (k : ItemKind) (s names : List ℕ) (n at : ℕ) (f : Function)
-    (p : FunctionParts (names_at s names) n s (lang_of_kind k) at f) (l : Limited s) {w : ℕ} (z : w ≡ width_of (length names))
-  where
-    -- all bits of its Rust name's index are there
-    pub rust_room : at + w ≤ 8 * length s
-    rust_room = name_room s names at p.rust z
+module _ (s names : List ℕ) (n at : ℕ) (f : Function) (p : FunctionParts (names_at s names) n s at f) (l : Limited s)
+    {w : ℕ} (z : w ≡ width_of (length names)) where
+  -- all bits of its Rust name's index are there
+  pub rust_room : at + w ≤ 8 * length s
+  rust_room = name_room s names at p.rust z
 
-    name : {r : ℕ} → r ≡ bits_at s at w →
-        Read s names f.rust p.form_at (record { value = r; next = record { at = at + w } })
-    name {r} e =
-        let g : Finds (bits (width_of (length names)) s at) w (record { value = r; next = record { at = at + w } }) =
-        rw (← z) (finds w s at l rust_room e) in
-        name_read s names at p.rust g
+  name : {r : ℕ} → r ≡ bits_at s at w →
+      Read s names f.rust p.form_at (record { value = r; next = record { at = at + w } })
+  name {r} e =
+      let g : Finds (bits (width_of (length names)) s at) w (record { value = r; next = record { at = at + w } }) =
+      rw (← z) (finds w s at l rust_room e) in
+      name_read s names at p.rust g
 
-    behind_name : form n s (at + w) ≡ got f.form p.throws_at
-    behind_name = ap (λ (a : ℕ). form n s a) (sym (name refl).next) ∙ p.form
+  behind_name : form n s (at + w) ≡ got f.form p.throws_at
+  behind_name = ap (λ (a : ℕ). form n s a) (sym (name refl).next) ∙ p.form
 
-    pub form_there : Yields (form n s (at + w)) (value_or free (form n s (at + w)))
-    form_there = let y = yields behind_name in rw (yielded free y) y
+  pub form_there : Yields (form n s (at + w)) (value_or free (form n s (at + w)))
+  form_there = let y = yields behind_name in rw (yielded free y) y
 
-    module _ {g : FormView} (fg : Formed (form n s (at + w)) n g) where
-      formed : FormOf f.form p.throws_at n g
-      formed = fg.there f.form p.throws_at behind_name
+  module _ {g : FormView} (fg : Formed (form n s (at + w)) n g) where
+    formed : FormOf f.form p.throws_at n g
+    formed = fg.there f.form p.throws_at behind_name
 
-      throws : bit s g.next.at ≡ got f.throws p.return_at
-      throws = ap (λ (a : ℕ). bit s a) (sym formed.next) ∙ p.throws
+    throws : bit s g.next.at ≡ got f.throws p.return_at
+    throws = ap (λ (a : ℕ). bit s a) (sym formed.next) ∙ p.throws
 
-      return : optional (type n) s (g.next.at + 1) ≡ got f.return p.count_at
-      return = ap (λ (a : ℕ). optional (type n) s a) (sym (bit_end s g.next.at throws)) ∙ p.return
+    return : optional (type n) s (g.next.at + 1) ≡ got f.return p.count_at
+    return = ap (λ (a : ℕ). optional (type n) s a) (sym (bit_end s g.next.at throws)) ∙ p.return
 
-      -- both bits are there
-      pub both_room : g.next.at + 2 ≤ 8 * length s
-      both_room =
-          in_turn (bit s (g.next.at + 1)) _ return (λ v m e h. omega (arith, bit_room s (g.next.at + 1) e))
+    -- both bits are there
+    pub both_room : g.next.at + 2 ≤ 8 * length s
+    both_room =
+        in_turn (bit s (g.next.at + 1)) _ return (λ v m e h. omega (arith, bit_room s (g.next.at + 1) e))
 
-      module _ {h : ℕ} (both : h ≡ bits_at s g.next.at 2) where
-        split : (h / 2 ≡ bits_at s g.next.at 1) × (h % 2 ≡ bits_at s (g.next.at + 1) 1)
-        split =
-            let a = both ∙ bits_split s g.next.at 1 1 in
-            let b = bits_lt s (g.next.at + 1) 1 in
-            (omega (arith, a, b), omega (arith, a, b))
+    module _ {h : ℕ} (both : h ≡ bits_at s g.next.at 2) where
+      split : (h / 2 ≡ bits_at s g.next.at 1) × (h % 2 ≡ bits_at s (g.next.at + 1) 1)
+      split =
+          let a = both ∙ bits_split s g.next.at 1 1 in
+          let b = bits_lt s (g.next.at + 1) 1 in
+          (omega (arith, a, b), omega (arith, a, b))
 
-        first_bit : Finds (bits 1 s g.next.at) 1 (record { value = h / 2; next = record { at = g.next.at + 1 } })
-        first_bit = finds 1 s g.next.at l (omega (arith, both_room)) split.0
+      first_bit : Finds (bits 1 s g.next.at) 1 (record { value = h / 2; next = record { at = g.next.at + 1 } })
+      first_bit = finds 1 s g.next.at l (omega (arith, both_room)) split.0
 
-        second_bit : Finds (bits 1 s (g.next.at + 1)) 1
-            (record { value = h % 2; next = record { at = g.next.at + 2 } })
-        second_bit =
-            let q : g.next.at + 1 + 1 ≡ g.next.at + 2 = omega arith in
-            rw q at (finds 1 s (g.next.at + 1) l (omega (arith, both_room)) split.1)
+      second_bit : Finds (bits 1 s (g.next.at + 1)) 1
+          (record { value = h % 2; next = record { at = g.next.at + 2 } })
+      second_bit =
+          let q : g.next.at + 1 + 1 ≡ g.next.at + 2 = omega arith in
+          rw q at (finds 1 s (g.next.at + 1) l (omega (arith, both_room)) split.1)
 
-        returned : return_of (eqb (h % 2) 1) (type n) s (g.next.at + 2) ≡ got f.return p.count_at
-        returned =
-            in_turn (bit s (g.next.at + 1)) _ return (λ v m e h₁.
-            rw (← bit_value s (g.next.at + 1) e second_bit, ← bit_next s (g.next.at + 1) e second_bit) h₁)
+      returned : return_of (eqb (h % 2) 1) (type n) s (g.next.at + 2) ≡ got f.return p.count_at
+      returned =
+          in_turn (bit s (g.next.at + 1)) _ return (λ v m e h₁.
+          rw (← bit_value s (g.next.at + 1) e second_bit, ← bit_next s (g.next.at + 1) e second_bit) h₁)
 
-        pub return_there : Yields (return_of (eqb (h % 2) 1) (type n) s (g.next.at + 2))
-            (return_here (eqb (h % 2) 1) n s (g.next.at + 2))
-        unfolding return_here
-        return_there = let y = yields returned in rw (yielded none y) y
+      pub return_there : Yields (return_of (eqb (h % 2) 1) (type n) s (g.next.at + 2))
+          (return_here (eqb (h % 2) 1) n s (g.next.at + 2))
+      unfolding return_here
+      return_there = let y = yields returned in rw (yielded none y) y
 
-        module _ {j : ℕ} (e : j ≡ next_of (return_of (eqb (h % 2) 1) (type n) s (g.next.at + 2))) where
-          counted : bits 5 s j ≡ got p.count p.first
-          counted = let u : j ≡ p.count_at = e ∙ ap next_of returned in rw u p.counted
+      module _ {k : ℕ} (e : k ≡ next_of (return_of (eqb (h % 2) 1) (type n) s (g.next.at + 2))) where
+        counted : bits 5 s k ≡ got p.count p.first
+        counted = let u : k ≡ p.count_at = e ∙ ap next_of returned in rw u p.counted
 
-          -- all bits of the count are there
-          pub count_room : j + 5 ≤ 8 * length s
-          count_room = (bits_there 5 s j counted).0
+        -- all bits of the count are there
+        pub count_room : k + 5 ≤ 8 * length s
+        count_room = (bits_there 5 s k counted).0
 
-          pub function_of_lem : (i : ℕ) {r c : ℕ} → r ≡ bits_at s at w → c ≡ bits_at s j 5 →
-              FunctionOf s names n f (record {
-                number = i;
-                rust = r;
-                form = g.form;
-                owner = g.owner;
-                throws = eqb (h / 2) 1;
-                returns = eqb (h % 2) 1;
-                result = record { at = g.next.at + 2 };
-                arguments = c;
-                first = record { at = j + 5 };
-              })
-          unfolding comment_lines
-          function_of_lem i {r} {c} fr ec =
-              let fc = finds 5 s j l count_room ec in
-              let xs : many c (argument (names_at s names) n) s (j + 5) ≡ got f.arguments p.comment_at =
-              rw (← found_value fc counted, ← found_next fc counted) p.arguments in
-              let ls : comment_lines s p.comment_at ≡ got f.comment p.lang_at = rw p.lined p.comment in
-              let cs : comment_lines s (next_of (many c (argument (names_at s names) n) s (j + 5))) ≡ got f.comment p.lang_at =
-              ap (λ (a : ℕ). comment_lines s a) (ap next_of xs) ∙ ls in
-              record {
-                named = (name fr).there;
-                rust = (name fr).name;
-                form = formed.form;
-                low = fg.low;
-                owner = formed.owner;
-                throws = sym (bit_value s g.next.at throws first_bit);
-                result = yields returned;
-                few = omega (arith, fc.low);
-                arguments = yields xs;
-                comment = record {
-                  lines = yields cs;
-                  lang = λ q.
-                      yields (ap (λ (a : ℕ). cxx_lang s a) (ap next_of cs) ∙ lang_there s p.lang_at k p.lang q);
-                };
-              }
+        pub function_of_lem : (i : ℕ) {r c : ℕ} → r ≡ bits_at s at w → c ≡ bits_at s k 5 →
+            FunctionOf s names n f (record {
+              number = i;
+              rust = r;
+              form = g.form;
+              owner = g.owner;
+              throws = eqb (h / 2) 1;
+              returns = eqb (h % 2) 1;
+              result = record { at = g.next.at + 2 };
+              arguments = c;
+              first = record { at = k + 5 };
+            })
+        unfolding comment_lines
+        function_of_lem i {r} {c} fr ec =
+            let fc = finds 5 s k l count_room ec in
+            let xs : many c (argument (names_at s names) n) s (k + 5) ≡ got f.arguments p.comment_at =
+            rw (← found_value fc counted, ← found_next fc counted) p.arguments in
+            let ls : comment_lines s p.comment_at ≡ got f.comment p.end = rw p.lined p.comment in
+            record {
+              named = (name fr).there;
+              rust = (name fr).name;
+              form = formed.form;
+              low = fg.low;
+              owner = formed.owner;
+              throws = sym (bit_value s g.next.at throws first_bit);
+              result = yields returned;
+              few = omega (arith, fc.low);
+              arguments = yields xs;
+              comment = yields (ap (λ (a : ℕ). comment_lines s a) (ap next_of xs) ∙ ls);
+            }
 
 -- ---- the function of an item's view
 
--- a function's kind says what stands behind its comment
-pub function_body_lem : (k : ItemKind) (ns : List Name) (n : ℕ) (s : List ℕ) (at : ℕ) → is_function_kind k ≡ true →
-    function_body (lang_of_kind k) ns n s at ≡ item_body k ns n s at
-unfolding lang_of_kind
-function_body_lem RustFunction ns n s at z = refl
-function_body_lem CxxFunction ns n s at z = refl
-function_body_lem Struct ns n s at z = absurd (false≢true z)
-function_body_lem Enum ns n s at z = absurd (false≢true z)
-function_body_lem CxxType ns n s at z = absurd (false≢true z)
-function_body_lem RustType ns n s at z = absurd (false≢true z)
-function_body_lem Bad ns n s at z = absurd (false≢true z)
-
-module _ {s names items : List ℕ} {v : ItemView} (at : ItemAt s names items v) (k : is_function_kind v.kind ≡ true) where
-  body : function_body (lang_of_kind v.kind) (names_at s names) (length items) s v.body.at ≡
+module _ {s names items : List ℕ} {v : ItemView} (at : ItemAt s names items v) (k : v.kind ≡ RustFunction) where
+  body : function_body (names_at s names) (length items) s v.body.at ≡
       got (item_at (items_at s names items) v.number).body
       (next_of (item_body v.kind (names_at s names) (length items) s v.body.at))
-  body = function_body_lem v.kind (names_at s names) (length items) s v.body.at k ∙ at.view.body.is
+  body =
+      ap (λ (j : ItemKind). item_body j (names_at s names) (length items) s v.body.at) (sym k) ∙ at.view.body.is
 
   pub function_there :
       ((item_at (items_at s names items) v.number).body ≡ function (function_at s names items v.number)) ×
-      FunctionParts (names_at s names) (length items) s (lang_of_kind v.kind) v.body.at
-      (function_at s names items v.number)
+      FunctionParts (names_at s names) (length items) s v.body.at (function_at s names items v.number)
   unfolding function_at
   function_there =
-      let q = function_parts (names_at s names) (length items) s (lang_of_kind v.kind) v.body.at body in
+      let q = function_parts (names_at s names) (length items) s v.body.at body in
       (rw q.1, rw q.1 q.2)
-
-  -- its kind is its language's
-  pub function_kind_lem : v.kind ≡ function_kind (function_at s names items v.number).lang
-  function_kind_lem = let p = function_there.1 in lang_kind s p.lang_at v.kind p.lang k
-
--- ---- what stands behind the comment
-
-module _ {s : List ℕ} {at : ℕ} {f : Function} (h : CommentAt s at f) where
-  pub comment_there : Yields (comment_lines s at) (value_or [] (comment_lines s at))
-  comment_there = rw (yielded [] h.lines) h.lines
-
-  module _ (z : is_rust f.lang ≡ false) where
-    pub lang_behind_lem : lang_behind s at ≡ f.lang
-    unfolding lang_behind
-    lang_behind_lem = yielded rust (h.lang z)
-
-    pub cxx_there : Yields (cxx_lang s (next_of (comment_lines s at))) (lang_behind s at)
-    cxx_there = rw lang_behind_lem (h.lang z)

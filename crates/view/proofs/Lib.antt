@@ -5,4 +5,3 @@ pub mod ArgumentLaws
 pub mod TypeLaws
 pub mod SkipLaws
 pub mod WholeLaws
-pub mod CommentLaws

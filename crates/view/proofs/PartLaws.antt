@@ -1,17 +1,16 @@
 -- Laws of items and functions: where the whole is decoded, so are its parts.
 use mathlib.Core.Path.{◌≡◌, refl, sym, ap, ◌∙◌}
 use mathlib.Core.List.{List}
-use mathlib.Core.Bool.{Bool, true, false, not, false≢true}
+use mathlib.Core.Bool.{Bool, not}
 use Prim.Native.Nat.{ℕ, ◌+◌, ◌*◌, ◌≤◌}
 use native.Mathlib.Omega.{arith}
 use lib.ListN.{length}
 use Rattle.refusal.specs.declared.Refusal.TheVariants.{BadKind}
 use Rattle.lexical.specs.Bytes.{within}
-use Rattle.format.specs.Decode.{got, Dec, pure, many}
+use Rattle.format.specs.Decode.{got, many}
 use Rattle.format.specs.Bits.{bits_at, bits, bit, width_of}
-use Rattle.format.specs.Sheet.{Name, Lang, rust, cxx, is_rust, Function, Body, struct, enum, cxx_type, rust_type, function, Item}
-use Rattle.syntax.specs.Items.{is_function}
-use Rattle.format.specs.Decoding.{name_of, type, optional, argument, form, line, function_body, cxx_lang, struct_body, enum_body}
+use Rattle.format.specs.Sheet.{Name, Function, Body, function, Item}
+use Rattle.format.specs.Decoding.{name_of, type, optional, argument, form, line, function_body, struct_body, enum_body}
 use Rattle.format.specs.Decoding.{part_of, is_bad, item_body, namespace, item}
 use Rattle.format.specs.declared.ItemKind.{ItemKind}
 use Rattle.format.specs.declared.ItemKind.TheVariants as Part
@@ -21,7 +20,7 @@ use Rattle.cursor.proofs.CodeLaws.{bits_whole}
 use Rattle.cursor.proofs.YieldLaws.{in_turn, passed, got_value, got_next, bits_there}
 use Rattle.names.proofs.NameLaws.{indexed}
 use Rattle.view.specs.Values.{names_at}
-use Rattle.view.specs.Views.{Finds, function_kind, kind_of_body, is_function_kind}
+use Rattle.view.specs.Views.{Finds, kind_of_body}
 
 -- ---- fields that are there, read without a test
 
@@ -44,52 +43,6 @@ bit_room s at h = in_turn (bits 1 s at) _ h (λ v a e g. (bits_there 1 s at e).0
 pub bit_end : (s : List ℕ) (at : ℕ) {b : Bool} {m : ℕ} → bit s at ≡ got b m → m ≡ at + 1
 unfolding bit
 bit_end s at e = in_turn (bits 1 s at) _ e (λ v a f h. sym (got_next h) ∙ (bits_there 1 s at f).2)
-
--- ---- what stands behind a function's comment
-
-unfoldable pub lang_of_kind : ItemKind → Dec Lang
-lang_of_kind Part.CxxFunction = cxx_lang
-lang_of_kind Part.RustFunction = pure rust
-lang_of_kind Part.Struct = pure rust
-lang_of_kind Part.Enum = pure rust
-lang_of_kind Part.CxxType = pure rust
-lang_of_kind Part.RustType = pure rust
-lang_of_kind Part.Bad = pure rust
-
--- a function's kind is its language's
-pub lang_kind : (s : List ℕ) (at : ℕ) {l : Lang} {m : ℕ} (k : ItemKind) → lang_of_kind k s at ≡ got l m →
-    is_function_kind k ≡ true → k ≡ function_kind l
-unfolding cxx_lang lang_of_kind
-lang_kind s at Part.CxxFunction h z =
-    in_turn (bit s at) _ h (λ u a e₁ h₁. in_turn (bit s a) _ h₁ (λ e b e₂ h₂. ap function_kind (got_value h₂)))
-lang_kind s at Part.RustFunction h z = ap function_kind (got_value h)
-lang_kind s at Part.Struct h z = absurd (false≢true z)
-lang_kind s at Part.Enum h z = absurd (false≢true z)
-lang_kind s at Part.CxxType h z = absurd (false≢true z)
-lang_kind s at Part.RustType h z = absurd (false≢true z)
-lang_kind s at Part.Bad h z = absurd (false≢true z)
-
-pub lang_there : (s : List ℕ) (at : ℕ) {l : Lang} {m : ℕ} (k : ItemKind) → lang_of_kind k s at ≡ got l m →
-    is_rust l ≡ false → cxx_lang s at ≡ got l m
-unfolding lang_of_kind
-lang_there s at Part.CxxFunction h z = h
-lang_there s at Part.RustFunction h z = absurd (false≢true (sym z ∙ sym (ap is_rust (got_value h))))
-lang_there s at Part.Struct h z = absurd (false≢true (sym z ∙ sym (ap is_rust (got_value h))))
-lang_there s at Part.Enum h z = absurd (false≢true (sym z ∙ sym (ap is_rust (got_value h))))
-lang_there s at Part.CxxType h z = absurd (false≢true (sym z ∙ sym (ap is_rust (got_value h))))
-lang_there s at Part.RustType h z = absurd (false≢true (sym z ∙ sym (ap is_rust (got_value h))))
-lang_there s at Part.Bad h z = absurd (false≢true (sym z ∙ sym (ap is_rust (got_value h))))
-
-pub kind_is : (b : Body) → is_function_kind (kind_of_body b) ≡ is_function b
-kind_is (struct p ts) = refl
-kind_is (enum p a c) = refl
-kind_is (cxx_type p) = refl
-kind_is (rust_type p) = refl
-kind_is (function f) = by_lang f.lang
-  where
-    by_lang : (l : Lang) → is_function_kind (function_kind l) ≡ true
-    by_lang rust = refl
-    by_lang (cxx u e) = refl
 
 -- ---- parts
 
@@ -132,7 +85,7 @@ module _ (ns : List Name) (n : ℕ) (s : List ℕ) where
         body = e₅;
       })))))
 
-  pub record FunctionParts (lang_of_lem : Dec Lang) (at : ℕ) (f : Function) : Type 0 where
+  pub record FunctionParts (at : ℕ) (f : Function) : Type 0 where
     pub form_at : ℕ
     pub throws_at : ℕ
     pub return_at : ℕ
@@ -142,7 +95,6 @@ module _ (ns : List Name) (n : ℕ) (s : List ℕ) where
     pub comment_at : ℕ
     pub lines : ℕ
     pub line_at : ℕ
-    pub lang_at : ℕ
     pub end : ℕ
     pub rust : name_of ns s at ≡ got f.rust form_at
     pub form : form n s form_at ≡ got f.form throws_at
@@ -151,13 +103,12 @@ module _ (ns : List Name) (n : ℕ) (s : List ℕ) where
     pub counted : bits 5 s count_at ≡ got count first
     pub arguments : many count (argument ns n) s first ≡ got f.arguments comment_at
     pub lined : bits 5 s comment_at ≡ got lines line_at
-    pub comment : many lines line s line_at ≡ got f.comment lang_at
-    pub lang : lang_of_lem s lang_at ≡ got f.lang end
+    pub comment : many lines line s line_at ≡ got f.comment end
 
-  pub function_parts : (lang_of_lem : Dec Lang) (at : ℕ) {m : ℕ} {x : Body} → function_body lang_of_lem ns n s at ≡ got x m →
-      (f : Function) × (x ≡ function f) × FunctionParts lang_of_lem at f
+  pub function_parts : (at : ℕ) {m : ℕ} {x : Body} → function_body ns n s at ≡ got x m →
+      (f : Function) × (x ≡ function f) × FunctionParts at f
   unfolding function_body
-  function_parts lang_of_lem at {x} h =
+  function_parts at {x} h =
       in_turn (name_of ns s at) _ h (λ r a e₁ h₁.
       in_turn (form n s a) _ h₁ (λ f b e₂ h₂.
       in_turn (bit s b) _ h₂ (λ t c e₃ h₃.
@@ -165,10 +116,9 @@ module _ (ns : List Name) (n : ℕ) (s : List ℕ) where
       in_turn (bits 5 s d) _ h₄ (λ k e e₅ h₅.
       in_turn (many k (argument ns n) s e) _ h₅ (λ xs g e₆ h₆.
       in_turn (bits 5 s g) _ h₆ (λ l i e₇ h₇.
-      in_turn (many l line s i) _ h₇ (λ ls j e₈ h₈.
-      in_turn (lang_of_lem s j) _ h₈ (λ o m e₉ h₉. (
-        record { lang = o; rust = r; form = f; throws = t; return = y; arguments = xs; comment = ls },
-        sym (got_value h₉),
+      in_turn (many l line s i) _ h₇ (λ ls m e₈ h₈. (
+        record { rust = r; form = f; throws = t; return = y; arguments = xs; comment = ls },
+        sym (got_value h₈),
         record {
           form_at = a;
           throws_at = b;
@@ -179,7 +129,6 @@ module _ (ns : List Name) (n : ℕ) (s : List ℕ) where
           comment_at = g;
           lines = l;
           line_at = i;
-          lang_at = j;
           end = m;
           rust = e₁;
           form = e₂;
@@ -189,13 +138,12 @@ module _ (ns : List Name) (n : ℕ) (s : List ℕ) where
           arguments = e₆;
           lined = e₇;
           comment = e₈;
-          lang = e₉;
         },
-      ))))))))))
+      )))))))))
 
   -- a body says its kind
   pub body_kind : (at : ℕ) {m : ℕ} {x : Body} (k : ItemKind) → item_body k ns n s at ≡ got x m → k ≡ kind_of_body x
-  unfolding struct_body enum_body lang_of_kind
+  unfolding struct_body enum_body
   body_kind at Part.Struct h =
       in_turn (bit s at) _ h (λ p a e₁ h₁.
       in_turn (bits 6 s a) _ h₁ (λ k b e₂ h₂.
@@ -206,10 +154,5 @@ module _ (ns : List Name) (n : ℕ) (s : List ℕ) where
       in_turn (bit s b) _ (passed (within 2 11 k) _ BadKind h₂) (λ t c e₃ h₃. ap kind_of_body (got_value h₃))))
   body_kind at Part.CxxType h = in_turn (bit s at) _ h (λ p a e₁ h₁. ap kind_of_body (got_value h₁))
   body_kind at Part.RustType h = in_turn (bit s at) _ h (λ p a e₁ h₁. ap kind_of_body (got_value h₁))
-  body_kind at Part.RustFunction h =
-      let p = function_parts (pure rust) at h in
-      lang_kind s p.2.lang_at Part.RustFunction p.2.lang refl ∙ ap kind_of_body (sym p.1)
-  body_kind at Part.CxxFunction h =
-      let p = function_parts cxx_lang at h in
-      lang_kind s p.2.lang_at Part.CxxFunction p.2.lang refl ∙ ap kind_of_body (sym p.1)
+  body_kind at Part.RustFunction h = ap kind_of_body (sym (function_parts at h).1)
   body_kind at Part.Bad h = absurd (let z : ◌≡◌ {A = ℕ} 0 1 = cc in omega arith)

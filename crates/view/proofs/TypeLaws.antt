@@ -74,7 +74,6 @@ module _ (ns : List Name) (n : ℕ) (s : List ℕ) (at : ℕ) {x : Body} {m : �
   pointer_type Part.RustType h z =
       in_turn (bit s at) _ h (λ p a e₁ h₁. sym (ap pointer_bit (got_value h₁)) ∙ bit_value s at e₁ f)
   pointer_type Part.RustFunction h z = absurd (let y : ◌≡◌ {A = ℕ} 0 1 = cc in omega arith)
-  pointer_type Part.CxxFunction h z = absurd (let y : ◌≡◌ {A = ℕ} 0 1 = cc in omega arith)
   pointer_type Part.Bad h z = absurd (let y : ◌≡◌ {A = ℕ} 0 1 = cc in omega arith)
 
 -- its bit is there
@@ -86,7 +85,6 @@ pointer_room ns n s at Part.Enum h z = in_turn (bit s at) _ h (λ p a e g. bit_r
 pointer_room ns n s at Part.CxxType h z = in_turn (bit s at) _ h (λ p a e g. bit_room s at e)
 pointer_room ns n s at Part.RustType h z = in_turn (bit s at) _ h (λ p a e g. bit_room s at e)
 pointer_room ns n s at Part.RustFunction h z = absurd (let y : ◌≡◌ {A = ℕ} 0 1 = cc in omega arith)
-pointer_room ns n s at Part.CxxFunction h z = absurd (let y : ◌≡◌ {A = ℕ} 0 1 = cc in omega arith)
 pointer_room ns n s at Part.Bad h z = absurd (let y : ◌≡◌ {A = ℕ} 0 1 = cc in omega arith)
 
 module _ {s names items : List ℕ} {v : ItemView} {i : ℕ} (a : ItemAt s names items v) (e : v.number ≡ i) where

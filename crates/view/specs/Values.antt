@@ -2,7 +2,7 @@
 use Rattle.std.specs.Prelude.{◌≡◌, List, [], map, false, ℕ, ◌<◌, ◌≤◌, length, get_or}
 use Rattle.format.specs.Limits.{most_items}
 use Rattle.format.specs.Types.{str, none}
-use Rattle.format.specs.Sheet.{free, Argument, rust, Function, Body, struct, enum, cxx_type, rust_type, function, Item}
+use Rattle.format.specs.Sheet.{free, Argument, Function, Body, struct, enum, cxx_type, rust_type, function, Item}
 use Rattle.format.specs.Decoding.{item, type}
 use Rattle.syntax.specs.Items.{item_at}
 pub use Rattle.cursor.specs.Yielding.{value_or, next_of, Yields}
@@ -14,15 +14,7 @@ use Rattle.names.specs.Digests.{digests_at}
 -- ---- values by position
 
 abbrev no_function : Function
-no_function = record {
-  lang = rust;
-  rust = [];
-  form = free;
-  throws = false;
-  return = none;
-  arguments = [];
-  comment = [];
-}
+no_function = record { rust = []; form = free; throws = false; return = none; arguments = []; comment = [] }
 
 -- the item at a position, in a sheet with these two tables
 unfoldable pub one_item_at : List ℕ → List ℕ → List ℕ → ℕ → Item

@@ -4,15 +4,14 @@ use Rattle.format.specs.Limits.{most_bits, most_namespaces, most_arguments}
 use Rattle.format.specs.Decode.{Got, got, Dec, pick, ◌>>◌, pure, many}
 use Rattle.format.specs.Bits.{bits}
 use Rattle.format.specs.Types.{Ty, named, Ret, none, gives}
-use Rattle.format.specs.Sheet.{Form, Argument, Lang, rust, cxx, is_rust, Function, Body, struct, enum, cxx_type, rust_type}
-use Rattle.format.specs.Sheet.{function, Item}
-use Rattle.format.specs.Decoding.{name_of, type, line, argument, form_of, cxx_lang, item_body}
+use Rattle.format.specs.Sheet.{Form, Argument, Function, Body, struct, enum, cxx_type, rust_type, function, Item}
+use Rattle.format.specs.Decoding.{name_of, type, line, argument, form_of, item_body}
 use Rattle.format.specs.declared.Template.{Template}
 use Rattle.format.specs.declared.Template.TheVariants.{RustBox, RustVec, UniquePtr, SharedPtr, WeakPtr, CxxVector}
 use Rattle.format.specs.declared.TypeKind.{TypeKind}
 use Rattle.format.specs.declared.TypeKind.TheVariants as Kind
 use Rattle.format.specs.declared.ItemKind.{ItemKind}
-use Rattle.format.specs.declared.ItemKind.TheVariants.{Struct, Enum, CxxType, RustType, RustFunction, CxxFunction, Bad}
+use Rattle.format.specs.declared.ItemKind.TheVariants.{Struct, Enum, CxxType, RustType, RustFunction, Bad}
 use Rattle.syntax.specs.Items.{item_at}
 use Rattle.syntax.specs.Types.{is_indirect_template, needs_indirect_abi, is_rust_string}
 pub use Rattle.cursor.specs.Yielding.{Finds}
@@ -23,21 +22,16 @@ use Rattle.view.specs.declared.FunctionView.{FunctionView}
 use Rattle.view.specs.declared.ArgumentView.{ArgumentView}
 use Rattle.view.specs.Values.{value_or, next_of, Yields, name_at, names_at, items_at, function_at, argument_at, type_here}
 
-abbrev pub function_kind : Lang → ItemKind
-function_kind rust = RustFunction
-function_kind (cxx u e) = CxxFunction
-
 -- what a body's kind is
 abbrev pub kind_of_body : Body → ItemKind
 kind_of_body (struct p ts) = Struct
 kind_of_body (enum p a c) = Enum
 kind_of_body (cxx_type p) = CxxType
 kind_of_body (rust_type p) = RustType
-kind_of_body (function f) = function_kind f.lang
+kind_of_body (function f) = RustFunction
 
 abbrev pub is_function_kind : ItemKind → Bool
 is_function_kind RustFunction = true
-is_function_kind CxxFunction = true
 is_function_kind Struct = false
 is_function_kind Enum = false
 is_function_kind CxxType = false
@@ -85,15 +79,6 @@ return_here b n s at = value_or none (return_of b (type n) s at)
 unfoldable pub comment_lines : Dec (List (List ℕ))
 comment_lines = bits 5 >> λ c. many c line
 
--- a comment stands at a position, and behind it what a C++ function has more
-pub record CommentAt (s : List ℕ) (at : ℕ) (f : Function) : Type 0 where
-  pub lines : Yields (comment_lines s at) f.comment
-  pub lang : is_rust f.lang ≡ false → Yields (cxx_lang s (next_of (comment_lines s at))) f.lang
-
--- what stands behind the comment at a position
-unfoldable pub lang_behind : List ℕ → ℕ → Lang
-lang_behind s at = value_or rust (cxx_lang s (next_of (comment_lines s at)))
-
 -- v is a view of the function f, in a sheet of n items
 pub record FunctionOf (s names : List ℕ) (n : ℕ) (f : Function) (v : FunctionView) : Type 0 where
   pub named : v.rust < length names
@@ -105,7 +90,9 @@ pub record FunctionOf (s names : List ℕ) (n : ℕ) (f : Function) (v : Functio
   pub result : Yields (return_of v.returns (type n) s v.result.at) f.return
   pub few : v.arguments ≤ most_arguments
   pub arguments : Yields (many v.arguments (argument (names_at s names) n) s v.first.at) f.arguments
-  pub comment : CommentAt s (next_of (many v.arguments (argument (names_at s names) n) s v.first.at)) f
+  pub comment :
+      Yields (comment_lines s (next_of (many v.arguments (argument (names_at s names) n) s v.first.at)))
+      f.comment
 
 -- v is the view of the function of its number
 pub record FunctionAt (s names items : List ℕ) (v : FunctionView) : Type 0 where

@@ -1,11 +1,11 @@
 // Random access into a decoded sheet: its names, items and types by number. Every reader is lent the sheet and the
 // tables of the positions of its names and items, cut to their lengths.
-#![tactic(auto)]
-ghost use Rattle.std.specs.Prelude.{◌≡◌, [], true, ◌≤◌, ◌<◌, eqb, length, get_or};
+ghost use Rattle.std.specs.Prelude.{◌≡◌, [], ◌≤◌, ◌<◌, eqb, length, get_or};
 ghost use Rattle.format.specs.Limits.{most_names, most_bits};
 ghost use Rattle.format.specs.Bits.{bits_at};
-ghost use Rattle.format.specs.Sheet.{free, cxx};
-ghost use Rattle.format.specs.Decoding.{kind_of, type, form, cxx_lang};
+ghost use Rattle.format.specs.Sheet.{free};
+ghost use Rattle.format.specs.Decoding.{kind_of, type, form};
+ghost use Rattle.format.specs.declared.ItemKind.TheVariants.{RustFunction};
 ghost use Rattle.syntax.specs.Items.{item_at};
 ghost use Rattle.syntax.specs.Types.{pointer_bit, is_indirect_template, needs_indirect_abi};
 ghost use Rattle.cursor.specs.Checking.{Limited};
@@ -13,7 +13,7 @@ ghost use Rattle.view.specs.Values.{value_or, next_of, Yields, name_at, items_at
 ghost use Rattle.view.specs.Values.{Named, Whole};
 ghost use Rattle.view.specs.Views.{kind_of_body, ItemAt, Formed, FunctionAt, EntryOf, unpacked};
 ghost use Rattle.view.specs.Views.{return_of, return_here, is_function_kind, kind_of_type, is_named_kind};
-ghost use Rattle.view.specs.Views.{is_indirect_kind, prefix_of, owner_of, comment_lines, lang_behind};
+ghost use Rattle.view.specs.Views.{is_indirect_kind, prefix_of, owner_of};
 
 use cursor::fields::field;
 use cursor::{Cursor, Step, extract, width};
@@ -98,7 +98,6 @@ pub fn is_function(kind: ItemKind) -> bool
 {
     match kind {
         ItemKind::RustFunction => true,
-        ItemKind::CxxFunction => true,
         ItemKind::Struct => false,
         ItemKind::Enum => false,
         ItemKind::CxxType => false,
@@ -244,7 +243,7 @@ impl FunctionView {
 
 pub fn function(s: &[u8], names: &[u32], items: &[u32], v: ItemView) -> FunctionView
     requires { Whole s.now names.now items.now × ItemAt s.now names.now items.now v ×
-        (is_function_kind v.kind ≡ true) }
+        (v.kind ≡ RustFunction) }
     ensures { (result.number ≡ v.number) ×
         FunctionAt s.now names.now items.now result }
 {
@@ -269,44 +268,6 @@ pub fn function(s: &[u8], names: &[u32], items: &[u32], v: ItemView) -> Function
         result,
         arguments,
         first,
-    }
-}
-
-// Past the comment whose number of lines stands at c, which is known to be there.
-pub fn skip_comment(s: &[u8], c: Cursor) -> Cursor
-    requires { Limited s.now ×
-        Yields (comment_lines s.now c.at) (value_or [] (comment_lines s.now c.at)) }
-    ensures { result.at ≡ next_of (comment_lines s.now c.at) }
-{
-    let mut at = c.at;
-    let mut left = extract(s, at, 5);
-    at = at + 5;
-    while 0 < left {
-        let n = extract(s, at, 7);
-        at = at + 7 * (n + 1);
-        left = left - 1;
-    }
-    Cursor::new(at)
-}
-
-// What a C++ function has behind its comment: its unwind bit and its elided bit.
-#[derive(Clone, Copy)]
-pub struct CxxView {
-    pub unwind: bool,
-    pub elided: bool,
-}
-
-// Both bits, behind the comment whose number of lines stands at c.
-pub fn cxx_bits(s: &[u8], c: Cursor) -> CxxView
-    requires { Limited s.now × Yields (comment_lines s.now c.at) (value_or [] (comment_lines s.now c.at)) ×
-        Yields (cxx_lang s.now (next_of (comment_lines s.now c.at))) (lang_behind s.now c.at) }
-    ensures { lang_behind s.now c.at ≡ cxx result.unwind result.elided }
-{
-    let end = skip_comment(s, c);
-    let both = extract(s, end.at, 2);
-    CxxView {
-        unwind: both / 2 == 1,
-        elided: both % 2 == 1,
     }
 }
 

@@ -8,21 +8,21 @@ use native.Mathlib.Numerals.{add-one}
 use lib.ListN.{length, get_or, take, length-map}
 use lib.Seq.{take-suc, take_all}
 use Rattle.format.specs.declared.ItemKind.{ItemKind}
-use Rattle.format.specs.declared.ItemKind.TheVariants.{Struct, Enum, CxxType, RustType, RustFunction, CxxFunction, Bad}
-use Rattle.format.specs.Sheet.{Lang, rust, cxx, Function, Body, struct, enum, cxx_type, rust_type, function, Item, Sheet}
+use Rattle.format.specs.declared.ItemKind.TheVariants.{Struct, Enum, CxxType, RustType, RustFunction, Bad}
+use Rattle.format.specs.Sheet.{Body, struct, enum, cxx_type, rust_type, function, Item, Sheet}
 use Rattle.syntax.specs.Items.{item_at}
 use Rattle.bridge.specs.Out as machine
 use Rattle.bridge.specs.Out.{next_section}
-use Rattle.bridge.specs.Write.{forward_declarations, write_rust_function_decl, write_opaque_type_layout_decls}
-use Rattle.bridge.specs.Write.{write_opaque_type_layout}
-use Rattle.bridge.specs.Text.{declare_function, define_function, declare, define, for_each, write_functions, content, text}
+use Rattle.bridge.specs.Write.{write_rust_function_decl, write_opaque_type_layout_decls, write_opaque_type_layout}
+use Rattle.bridge.specs.Write.{declare, define, for_each, write_functions}
+use Rattle.bridge.specs.Write.{content, text, forward_declarations}
 use Rattle.pieces.specs.Between.{standing}
 use Rattle.pieces.specs.Pieces.{change}
 use Rattle.pieces.proofs.Machine.{new_standing, nothing_written, piece_written, all_flushed}
 use Rattle.sink.specs.Sink.{Sink, sink, emit, Wrote}
 use Rattle.sink.proofs.SinkLaws.{wrote_place}
 use Rattle.view.specs.Values.{function_in, one_item_at, items_at}
-use Rattle.view.specs.Views.{function_kind, kind_of_body}
+use Rattle.view.specs.Views.{kind_of_body}
 use Rattle.out.specs.declared.Content.{Content}
 use Rattle.out.specs.Steps.{Starts, asking, behind, Flushes}
 use Rattle.out.proofs.StateLaws.{asked, placed}
@@ -34,7 +34,6 @@ use Rattle.write.specs.Passes.{declare_item, define_item, Begins, Ends}
 
 abbrev pub declare_kind : ItemKind → List Item → Item → machine.Content → machine.Content
 declare_kind RustFunction items x m = write_rust_function_decl items x (function_in x.body) m
-declare_kind CxxFunction items x m = declare_function items x (function_in x.body) (function_in x.body).lang m
 declare_kind RustType items x m = write_opaque_type_layout_decls x m
 declare_kind Struct items x m = m
 declare_kind Enum items x m = m
@@ -43,17 +42,11 @@ declare_kind Bad items x m = m
 
 abbrev pub define_kind : ItemKind → Sheet → Item → machine.Content → machine.Content
 define_kind RustFunction s x m = shim_section s x (function_in x.body) m
-define_kind CxxFunction s x m = m
 define_kind RustType s x m = write_opaque_type_layout s.header x m
 define_kind Struct s x m = m
 define_kind Enum s x m = m
 define_kind CxxType s x m = m
 define_kind Bad s x m = m
-
-declare_function_lem : (items : List Item) (x : Item) (m : machine.Content) (f : Function) → x.body ≡ function f → (l : Lang) →
-    f.lang ≡ l → declare_kind (function_kind l) items x m ≡ declare_function items x f l m
-declare_function_lem items x m f e rust q = rw e
-declare_function_lem items x m f e (cxx unwind elided) q = rw (e, q)
 
 declare_kind_lem : (items : List Item) (x : Item) (m : machine.Content) (b : Body) → x.body ≡ b →
     declare_kind (kind_of_body b) items x m ≡ declare items x b m
@@ -61,12 +54,7 @@ declare_kind_lem items x m (struct p ts) e = refl
 declare_kind_lem items x m (enum p a o) e = refl
 declare_kind_lem items x m (cxx_type p) e = refl
 declare_kind_lem items x m (rust_type p) e = refl
-declare_kind_lem items x m (function f) e = declare_function_lem items x m f e f.lang refl
-
-define_function_lem : (s : Sheet) (x : Item) (m : machine.Content) (f : Function) → x.body ≡ function f → (l : Lang) →
-    define_kind (function_kind l) s x m ≡ define_function s x f l m
-define_function_lem s x m f e rust = rw e
-define_function_lem s x m f e (cxx unwind elided) = refl
+declare_kind_lem items x m (function f) e = rw e
 
 define_kind_lem : (s : Sheet) (x : Item) (m : machine.Content) (b : Body) → x.body ≡ b →
     define_kind (kind_of_body b) s x m ≡ define s x b m
@@ -74,7 +62,7 @@ define_kind_lem s x m (struct p ts) e = refl
 define_kind_lem s x m (enum p a o) e = refl
 define_kind_lem s x m (cxx_type p) e = refl
 define_kind_lem s x m (rust_type p) e = refl
-define_kind_lem s x m (function f) e = define_function_lem s x m f e f.lang
+define_kind_lem s x m (function f) e = rw e
 
 -- n is the item's number, and its kind is told
 module _ {sheet names buf after : List ℕ} {c r : Content} {n i : ℕ} {k told : ItemKind} (e : n ≡ i) where

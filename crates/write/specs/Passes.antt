@@ -2,7 +2,7 @@
 use Rattle.std.specs.Prelude.{List, ℕ}
 use Rattle.format.specs.Sheet.{Item, Sheet}
 use Rattle.bridge.specs.Out as machine
-use Rattle.bridge.specs.Text.{declare, define}
+use Rattle.bridge.specs.Write.{declare, define}
 use Rattle.sink.specs.Sink.{sink, Wrote}
 use Rattle.out.specs.declared.Content.{Content}
 use Rattle.sections.specs.Runs.{Represents}

@@ -3,7 +3,7 @@
 ghost use Rattle.std.specs.Prelude.{◌≡◌, ◌≤◌, ◌<◌, length};
 ghost use Rattle.sink.specs.Sink.{sink, Wrote};
 ghost use Rattle.syntax.specs.Items.{item_at};
-ghost use Rattle.bridge.specs.Text.{for_each, write_functions, text};
+ghost use Rattle.bridge.specs.Write.{for_each, write_functions, text};
 ghost use Rattle.names.specs.Digests.{digests_at};
 ghost use Rattle.out.specs.State.{content_of};
 ghost use Rattle.sections.specs.Runs.{Representing, Runs, sheet_of};
@@ -15,8 +15,8 @@ use format::ItemKind;
 use forward::write_forward_declarations;
 use out::{Content, flush, next_section, placed};
 use sections::{
-    write_cxx_function_shim, write_opaque_type_layout, write_opaque_type_layout_decls,
-    write_rust_function_decl, write_rust_function_shim,
+    write_opaque_type_layout, write_opaque_type_layout_decls, write_rust_function_decl,
+    write_rust_function_shim,
 };
 use summary::Words;
 use tables::{Pool, Table, item};
@@ -48,9 +48,6 @@ fn declare(
     match kind {
         ItemKind::RustFunction => {
             write_rust_function_decl(s, t, pool, digests, v, kept, offsets, c, out);
-        }
-        ItemKind::CxxFunction => {
-            write_cxx_function_shim(s, t, pool, digests, v, kept, offsets, c, out);
         }
         ItemKind::RustType => {
             write_opaque_type_layout_decls(s, t, pool, digests, v, c, out);
@@ -98,7 +95,6 @@ fn define(
             }
             write_opaque_type_layout(s, t, pool, digests, v, c, out);
         }
-        ItemKind::CxxFunction => {}
         ItemKind::Struct => {}
         ItemKind::Enum => {}
         ItemKind::CxxType => {}

@@ -6,7 +6,7 @@ use Prim.Native.Nat.{ℕ, ◌≤◌}
 use native.Mathlib.Nat.{le_trans}
 use lib.ListN.{length, take, replicate}
 use Rattle.refusal.specs.declared.Refusal.{Refusal}
-use Rattle.refusal.specs.declared.Refusal.TheVariants.{WrongPart, Taken, UnfitArgument, Ring, TwoWaysOut, BareCallback}
+use Rattle.refusal.specs.declared.Refusal.TheVariants.{WrongPart, Taken, UnfitArgument, Ring}
 use Rattle.format.specs.Decode.{fault, got, pick}
 use Rattle.format.specs.Sheet.{Sheet}
 use Rattle.format.specs.Decoding.{decode}
@@ -17,13 +17,13 @@ use Rattle.view.specs.Values.{items_at}
 use Rattle.view.proofs.WholeLaws.{items_are_lem}
 use Rattle.rules.specs.declared.Checked.{Checked}
 use Rattle.rules.specs.declared.Checked.TheVariants.{Accepted, Refused}
-use Rattle.rules.specs.Rules.{wrong_part, taken, unfit_argument, ring, two_ways_out, bare_callback}
+use Rattle.rules.specs.Rules.{wrong_part, taken, unfit_argument, ring}
 use Rattle.rules.specs.Judge.{refused, accepted, ruled, judge}
-use Rattle.bridge.specs.Text.{text}
+use Rattle.bridge.specs.Write.{text}
 use Rattle.services.specs.declared.Written.{Written}
 use Rattle.services.specs.declared.Written.TheVariants as Written
 use Rattle.services.specs.Services.{Writes}
-use Rattle.check_sheet.specs.Ruled.{ruled_parts, ruled_calls, else_checked, ruled_items}
+use Rattle.check_sheet.specs.Ruled.{ruled_parts, else_checked, ruled_items}
 use Rattle.sections.specs.Runs.{sheet_of}
 use Rattle.deliver.specs.Delivers.{Delivers}
 use Rattle.write_sheet.specs.Judges.{JudgedBy, Judges}
@@ -44,28 +44,23 @@ pub writes_refused : (s buffer : List ℕ) {e : Refusal} → decode s ≡ fault 
 unfolding judge
 writes_refused s buffer h = record { answers = rw h; leaves = rw h }
 
-by_rules : (a b c d f g : Bool) (x : Sheet) {buffer after : List ℕ} {r : Written} →
+by_rules : (a b c d : Bool) (x : Sheet) {buffer after : List ℕ} {r : Written} →
     JudgedBy (else_checked
     (pick a (Refused WrongPart) (pick b (Refused Taken) (pick c (Refused UnfitArgument) Accepted)))
-    (else_checked (pick d (Refused Ring) Accepted) (pick f (Refused TwoWaysOut) (pick g (Refused BareCallback) Accepted))))
-    x buffer r after →
+    (pick d (Refused Ring) Accepted)) x buffer r after →
     (s : List ℕ) → judge s ≡ pick a (refused WrongPart) (pick b (refused Taken) (pick c (refused UnfitArgument)
-    (pick d (refused Ring) (pick f (refused TwoWaysOut) (pick g (refused BareCallback) (accepted x)))))) →
-    Writes s buffer r after
-by_rules true b c d f g x h s e = record { answers = rw e h.0; leaves = rw e h.1 }
-by_rules false true c d f g x h s e = record { answers = rw e h.0; leaves = rw e h.1 }
-by_rules false false true d f g x h s e = record { answers = rw e h.0; leaves = rw e h.1 }
-by_rules false false false true f g x h s e = record { answers = rw e h.0; leaves = rw e h.1 }
-by_rules false false false false true g x h s e = record { answers = rw e h.0; leaves = rw e h.1 }
-by_rules false false false false false true x h s e = record { answers = rw e h.0; leaves = rw e h.1 }
-by_rules false false false false false false x h s e = record { answers = rw e h.answers; leaves = rw e h.leaves }
+    (pick d (refused Ring) (accepted x)))) → Writes s buffer r after
+by_rules true b c d x h s e = record { answers = rw e h.0; leaves = rw e h.1 }
+by_rules false true c d x h s e = record { answers = rw e h.0; leaves = rw e h.1 }
+by_rules false false true d x h s e = record { answers = rw e h.0; leaves = rw e h.1 }
+by_rules false false false true x h s e = record { answers = rw e h.0; leaves = rw e h.1 }
+by_rules false false false false x h s e = record { answers = rw e h.answers; leaves = rw e h.leaves }
 
 pub writes_judged : (s : List ℕ) {x : Sheet} {n : ℕ} {buffer after : List ℕ} {r : Written} → decode s ≡ got x n →
     Judges x buffer r after → Writes s buffer r after
-unfolding judge ruled ruled_items ruled_parts ruled_calls
+unfolding judge ruled ruled_items ruled_parts
 writes_judged s {x} h j =
-    by_rules (wrong_part x.items) (taken x.items) (unfit_argument x.items) (ring x.items)
-    (two_ways_out x.items) (bare_callback x.items) x j.is s (rw h)
+    by_rules (wrong_part x.items) (taken x.items) (unfit_argument x.items) (ring x.items) x j.is s (rw h)
 
 -- a decoded sheet is that of its outline and its tables
 pub writes_tables : (s : List ℕ) {o : Outline} {names items digests marks buffer after : List ℕ} {r : Written} →

@@ -3,7 +3,7 @@ use mathlib.Core.Path.{◌≡◌, refl, ◌∙◌}
 use mathlib.Core.List.{List, []}
 use mathlib.Core.Bool.{Bool}
 use Prim.Native.Nat.{ℕ}
-use Rattle.bridge.specs.Text.{text}
+use Rattle.bridge.specs.Write.{text}
 use Rattle.services.specs.declared.Written.{Written}
 use Rattle.names.specs.Digests.{digests_at}
 use Rattle.view.specs.Values.{items_at, Ready}

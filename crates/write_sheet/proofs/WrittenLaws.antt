@@ -11,7 +11,7 @@ use Rattle.refusal.specs.declared.Refusal.TheVariants.{Overrun}
 use Rattle.format.specs.Decode.{pick}
 use Rattle.format.specs.Sheet.{Sheet}
 use Rattle.rules.specs.Judge.{accepted, judge}
-use Rattle.bridge.specs.Text.{text}
+use Rattle.bridge.specs.Write.{text}
 use Rattle.services.specs.declared.Written.TheVariants as Written
 use Rattle.services.specs.Services.{Writes}
 

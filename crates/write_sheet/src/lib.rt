@@ -5,7 +5,7 @@ ghost use Rattle.format.specs.Decoding.{decode as decodeOf};
 ghost use Rattle.decode.specs.Tables.{Tables, Answers};
 ghost use Rattle.marks.specs.Marking.{places};
 ghost use Rattle.judge.specs.Marked.{Marked};
-ghost use Rattle.bridge.specs.Text.{text};
+ghost use Rattle.bridge.specs.Write.{text};
 ghost use Rattle.services.specs.Services.{Writes};
 ghost use Rattle.view.specs.Values.{items_at, Ready};
 ghost use Rattle.sections.specs.Runs.{sheet_of};
@@ -25,7 +25,7 @@ use summary::{Words, fill_summaries};
 use tables::{Pool, Table, fill_pool, fill_table};
 
 // A text of at most so many bytes is written once, and copied where it fits; that of a longer sheet is measured before.
-const SHORT: usize = 5376;
+const SHORT: usize = 6144;
 
 // The longest sheet whose text is taken for short.
 const SMALL: usize = 512;

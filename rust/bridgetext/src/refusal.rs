@@ -1,9 +1,9 @@
-//! Document 01's table of refusals, with orders 1, 3 and 13 of document 02.
+//! Document 01's table of refusals, with orders 3 and 13 of document 02.
 
 use std::error::Error;
 use std::fmt::{self, Display};
 
-/// Why a service refuses; the discriminant is the documents' number.
+/// Why a service refuses; the discriminant is document 01's number.
 #[derive(Clone, Copy, PartialEq, Eq, PartialOrd, Ord, Hash, Debug)]
 #[repr(u8)]
 pub enum Refusal {
@@ -20,13 +20,11 @@ pub enum Refusal {
     UnfitArgument = 11,
     Ring = 12,
     Overrun = 13,
-    TwoWaysOut = 14,
-    BareCallback = 15,
 }
 
 impl Refusal {
     /// All, by number.
-    pub const ALL: [Refusal; 15] = [
+    pub const ALL: [Refusal; 13] = [
         Refusal::CutSheet,
         Refusal::Edition,
         Refusal::BadName,
@@ -40,15 +38,13 @@ impl Refusal {
         Refusal::UnfitArgument,
         Refusal::Ring,
         Refusal::Overrun,
-        Refusal::TwoWaysOut,
-        Refusal::BareCallback,
     ];
 
     pub fn number(self) -> u8 {
         self as u8
     }
 
-    /// `None` for 0 and above 15.
+    /// `None` for 0 and above 13.
     pub fn from_number(number: u8) -> Option<Refusal> {
         let index = usize::from(number).checked_sub(1)?;
         Self::ALL.get(index).copied()
@@ -79,7 +75,7 @@ impl Refusal {
             Refusal::LooseIndex => ("loose index", "no such entry"),
             Refusal::BadKind => (
                 "bad kind",
-                "item 6 or 7, type 12 or 15, enum atom outside 2 to 11",
+                "item 5 to 7, type 12 or 15, enum atom outside 2 to 11",
             ),
             Refusal::TooDeep => ("too deep", "a type at depth 9"),
             Refusal::BadComment => ("bad comment", "breaks the line rule"),
@@ -92,19 +88,14 @@ impl Refusal {
             ),
             Refusal::UnfitArgument => (
                 "unfit argument",
-                "kind 10 as argument; `self` in a method; `error` in a throwing Rust function, if \
-                 its type is indirect and not RustString",
+                "kind 10 as argument; `self` in a method; `error` in a throwing function, if its \
+                 type is indirect and not RustString",
             ),
             Refusal::Ring => (
                 "ring",
                 "a struct holds itself by named fields, over any number of structs",
             ),
             Refusal::Overrun => ("overrun", "the answer is longer than the buffer"),
-            Refusal::TwoWaysOut => (
-                "two ways out",
-                "the throws bit and the unwind bit of a C++ function are both set",
-            ),
-            Refusal::BareCallback => ("bare callback", "kind 11 as argument of a C++ function"),
         }
     }
 }
@@ -129,7 +120,7 @@ mod tests {
             assert_eq!(Refusal::from_number(refusal.number()), Some(refusal));
         }
         assert_eq!(Refusal::from_number(0), None);
-        assert_eq!(Refusal::from_number(16), None);
+        assert_eq!(Refusal::from_number(14), None);
         assert_eq!(Refusal::from_number(255), None);
     }
 
@@ -144,10 +135,6 @@ mod tests {
         let edition = Refusal::Edition.to_string();
         assert_eq!(edition, "refused 2, edition: neither 1 nor 2");
         assert_eq!(Refusal::Ring.word(), "ring");
-        assert_eq!(Refusal::TwoWaysOut.word(), "two ways out");
-        let callback = Refusal::BareCallback.to_string();
-        let said = "refused 15, bare callback: kind 11 as argument of a C++ function";
-        assert_eq!(callback, said);
         assert_eq!(Refusal::TooDeep.condition(), "a type at depth 9");
     }
 }

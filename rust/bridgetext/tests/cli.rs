@@ -60,13 +60,6 @@ fn the_text() {
 }
 
 #[test]
-fn cxx_functions() {
-    let sheet = fs::read(example("kernels.sheet")).unwrap();
-    let text = fs::read(example("kernels.text")).unwrap();
-    assert_eq!(ask(&[], &sheet), done(&text));
-}
-
-#[test]
 fn check_and_order() {
     let path = example("structs.sheet");
     let sheet = fs::read(&path).unwrap();
@@ -119,16 +112,6 @@ fn refusals() {
         (vec![0x30, 0, 0], Refusal::Edition),
         (vec![0x10, 0, 0, 0], Refusal::Tail),
     ] {
-        for args in [&[][..], &["check"], &["order"]] {
-            let wanted = (1, Vec::new(), format!("{error}\n"));
-            assert_eq!(ask(args, &sheet), wanted, "{args:?}");
-        }
-    }
-    for (broken, error) in [
-        ("cxx-fn a throws unwind ()", Refusal::TwoWaysOut),
-        ("cxx-fn a(f: fn())", Refusal::BareCallback),
-    ] {
-        let sheet = encode(&desc::parse(broken).unwrap());
         for args in [&[][..], &["check"], &["order"]] {
             let wanted = (1, Vec::new(), format!("{error}\n"));
             assert_eq!(ask(args, &sheet), wanted, "{args:?}");

@@ -6,7 +6,6 @@ use sheet::Sheet;
 pub struct Facts {
     pub symbols: Vec<String>,
     pub indirect: Vec<bool>,
-    pub elided: Vec<bool>,
     pub cyclic: bool,
     pub complaint: Option<String>,
 }

@@ -1,7 +1,7 @@
 //! One sheet, judged from every side at hand.
 
 use crate::{Facts, facts, struct_order, text};
-use sheet::{Blame, Function, Kind, RUST_STRING, Refusal, Sheet, Type};
+use sheet::{Blame, Kind, RUST_STRING, Refusal, Sheet, Type};
 use std::collections::HashSet;
 
 /// What was found out about a sheet.
@@ -48,9 +48,6 @@ pub fn compare(bytes: &[u8]) -> Result<Outcome, String> {
     if facts.indirect != indirect_arguments(&sheet) {
         return Err("needs_indirect_abi has other answers".into());
     }
-    if facts.elided != elided_returns(&sheet) {
-        return Err("contains_elided_lifetime has other answers".into());
-    }
     let by_facts = answer_by_facts(&sheet, &facts);
     agree("check and crate", answer, by_facts)?;
     if answer == 0 {
@@ -70,50 +67,21 @@ fn agree(who: &str, one: u8, two: u8) -> Result<(), String> {
 
 /// Document 01's rule for each argument, function by function.
 fn indirect_arguments(sheet: &Sheet) -> Vec<bool> {
-    let args = functions(sheet).flat_map(|function| &function.args);
+    let functions = sheet.items.iter().filter_map(|item| match &item.kind {
+        Kind::Function(function) => Some(function),
+        _ => None,
+    });
+    let args = functions.flat_map(|function| &function.args);
     args.map(|arg| sheet::indirect(sheet, &arg.ty)).collect()
 }
 
-/// The elided bit of each C++ function that returns something.
-fn elided_returns(sheet: &Sheet) -> Vec<bool> {
-    functions(sheet)
-        .filter(|function| function.lang.is_cxx() && function.ret.is_some())
-        .map(|function| function.lang.is_elided())
-        .collect()
-}
-
-fn functions(sheet: &Sheet) -> impl Iterator<Item = &Function> {
-    sheet.items.iter().filter_map(|item| match &item.kind {
-        Kind::Function(function) => Some(function),
-        _ => None,
-    })
-}
-
-/// What `contains_elided_lifetime` cannot say yes of, for it has no lifetime that
-/// could be left out: the atom or Fn at which the type ends.
-pub fn without_lifetime(ty: &Type) -> Option<&Type> {
-    match ty {
-        Type::Atom(_) | Type::Fn { .. } | Type::Unknown(_) => Some(ty),
-        Type::Named(_) | Type::Ref { .. } | Type::Str | Type::SliceRef { .. } => None,
-        Type::RustBox(inner)
-        | Type::RustVec(inner)
-        | Type::UniquePtr(inner)
-        | Type::SharedPtr(inner)
-        | Type::WeakPtr(inner)
-        | Type::CxxVector(inner)
-        | Type::Ptr { inner, .. }
-        | Type::Array { inner, .. } => without_lifetime(inner),
-    }
-}
-
 /// Rules 10 to 12 once more, with the crate's symbols, its answers of
-/// `needs_indirect_abi` and its search for cycles. The crate has no rule like 14 and
-/// 15, which are told from the sheet.
+/// `needs_indirect_abi` and its search for cycles.
 fn answer_by_facts(sheet: &Sheet, facts: &Facts) -> u8 {
     let mut full_names = HashSet::new();
     let mut symbols = HashSet::new();
     let mut taken = facts.symbols.iter().any(|symbol| !symbols.insert(symbol));
-    let [mut unfit, mut two_ways_out, mut bare_callback] = [false; 3];
+    let mut unfit = false;
     let mut indirect = facts.indirect.iter();
     for item in &sheet.items {
         let path: Vec<&[u8]> = item
@@ -129,8 +97,6 @@ fn answer_by_facts(sheet: &Sheet, facts: &Facts) -> u8 {
             taken |= !full_names.insert(full_name.join(b"::".as_slice()));
             continue;
         };
-        let is_cxx = function.lang.is_cxx();
-        two_ways_out |= function.throws && function.lang.unwinds();
         let mut names = HashSet::new();
         for arg in &function.args {
             let name = sheet.name(arg.name);
@@ -138,19 +104,15 @@ fn answer_by_facts(sheet: &Sheet, facts: &Facts) -> u8 {
             taken |= !names.insert(name);
             unfit |= matches!(arg.ty, Type::CxxVector(_))
                 || name == b"self" && function.form.is_method()
-                || name == b"error" && function.throws && held && !is_cxx;
-            bare_callback |= is_cxx && matches!(arg.ty, Type::Fn { .. });
+                || name == b"error" && function.throws && held;
         }
     }
-    let broken = [
-        (taken, 10),
-        (unfit, 11),
-        (facts.cyclic, 12),
-        (two_ways_out, 14),
-        (bare_callback, 15),
-    ];
-    let first = broken.iter().find(|(is_broken, _)| *is_broken);
-    first.map_or(0, |(_, number)| *number)
+    match (taken, unfit, facts.cyclic) {
+        (true, _, _) => 10,
+        (_, true, _) => 11,
+        (_, _, true) => 12,
+        _ => 0,
+    }
 }
 
 /// Each struct once, and what it holds by name before it.

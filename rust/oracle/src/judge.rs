@@ -1,7 +1,6 @@
 //! From a sheet to the crate's syntax tree, and from there to its answers.
 
 use crate::bridge::{Opt, write};
-use crate::compare::without_lifetime;
 use crate::syntax::attrs::OtherAttrs;
 use crate::syntax::cfg::CfgExpr;
 use crate::syntax::check::sort;
@@ -13,14 +12,12 @@ use crate::syntax::{
     Var, mangle,
 };
 use proc_macro2::{Ident, Span};
-use sheet::{
-    Form, Function, Item, ItemIndex, Kind, Lang as SheetLang, NameIndex, Sheet, Type as SheetType,
-};
+use sheet::{Form, Function, Item, ItemIndex, Kind, NameIndex, Sheet, Type as SheetType};
 use syn::token::{Brace, Bracket, Paren};
-use syn::{Generics, Lifetime, LitInt, LitStr, PointerMutability, Token};
+use syn::{Generics, LitInt, LitStr, PointerMutability, Token};
 
 /// The crate's text for a sheet: forward declarations, functions, `flush`. It is
-/// that of the documents' reference, and of `write_functions` with all its arms.
+/// that of document 01's reference, and of `write_functions` with all its arms.
 pub fn text(sheet: &Sheet) -> Vec<u8> {
     let options = Opt {
         doxygen: sheet.doxygen,
@@ -66,8 +63,6 @@ pub struct Facts {
     pub symbols: Vec<String>,
     /// `needs_indirect_abi` of each argument, function by function.
     pub indirect: Vec<bool>,
-    /// `contains_elided_lifetime` of each C++ function's return.
-    pub elided: Vec<bool>,
     /// Whether `sort` found a cyclic data structure.
     pub cyclic: bool,
     /// All that types.rs reported, a cycle included.
@@ -79,19 +74,11 @@ pub fn facts(sheet: &Sheet) -> Facts {
     with_types(sheet, |apis, types, complaint| {
         let functions = || {
             apis.iter().filter_map(|api| match api {
-                Api::CxxFunction(efn) | Api::RustFunction(efn) => Some(efn),
+                Api::RustFunction(efn) => Some(efn),
                 _ => None,
             })
         };
-        let cxx_functions = apis.iter().filter_map(|api| match api {
-            Api::CxxFunction(efn) => Some(efn),
-            _ => None,
-        });
         Facts {
-            elided: cxx_functions
-                .filter_map(|efn| efn.ret.as_ref())
-                .map(|ret| types.contains_elided_lifetime(ret))
-                .collect(),
             symbols: functions()
                 .map(|efn| mangle::extern_fn(efn, types).to_string())
                 .collect(),
@@ -114,14 +101,8 @@ const CYCLE: &str = "unsupported cyclic data structure";
 
 /// Hands over the syntax tree, its types, and what types.rs reports.
 fn with_types<T>(sheet: &Sheet, answer: impl FnOnce(&[Api], &Types, Option<String>) -> T) -> T {
-    let tree = Tree {
-        sheet,
-        stand_ins: stand_ins(sheet),
-    };
-    let items = tree.apis();
-    let count = items.len();
-    let stand_ins = tree.stand_ins.iter().map(StandIn::api);
-    let apis: Vec<Api> = items.into_iter().chain(stand_ins).collect();
+    let tree = Tree { sheet };
+    let apis: Vec<Api> = (0..sheet.items.len()).map(|item| tree.api(item)).collect();
     let mut errors = Errors::new();
     let mut types = Types::collect(&mut errors, &apis);
     for (item, api) in sheet.items.iter().zip(&apis) {
@@ -130,83 +111,14 @@ fn with_types<T>(sheet: &Sheet, answer: impl FnOnce(&[Api], &Types, Option<Strin
         }
     }
     let complaint = errors.propagate().err().map(|error| error.to_string());
-    answer(&apis[..count], &types, complaint)
-}
-
-/// types.rs says of some types, as atoms, that they contain no elided lifetime,
-/// whatever the sheet says. In the return of a C++ function with such a type and
-/// the elided bit a named type stands in for the atom or Fn at its end: spelled as
-/// the crate spells that, indirect if that is, and with a lifetime left out.
-struct StandIn {
-    /// The function.
-    item: usize,
-    spelling: String,
-    pointer: bool,
-}
-
-impl StandIn {
-    fn ident(item: usize) -> Ident {
-        ident(&format!("stand-in {item}"))
-    }
-
-    fn api(&self) -> Api {
-        let name = Pair {
-            namespace: Namespace::ROOT,
-            cxx: ForeignName::spelled(self.spelling.clone()),
-            rust: Self::ident(self.item),
-        };
-        Api::CxxType(extern_type(Lang::Cxx, name, self.pointer))
-    }
-}
-
-fn stand_ins(sheet: &Sheet) -> Vec<StandIn> {
-    let items = sheet.items.iter().enumerate();
-    let ends = items.filter_map(|(index, item)| match &item.kind {
-        Kind::Function(function) if function.lang.is_elided() => {
-            let end = function.ret.as_ref().and_then(without_lifetime)?;
-            Some((index, end))
-        }
-        _ => None,
-    });
-    let ends: Vec<(usize, &SheetType)> = ends.collect();
-    if ends.is_empty() {
-        return Vec::new();
-    }
-    let tree = Tree {
-        sheet,
-        stand_ins: Vec::new(),
-    };
-    let apis = tree.apis();
-    let types = Types::collect(&mut Errors::new(), &apis);
-    let stand_in = |(item, end): (usize, &SheetType)| StandIn {
-        item,
-        spelling: write::spelling(&tree.ty(end, Elision::Yes), &types),
-        pointer: sheet::indirect(sheet, end),
-    };
-    ends.into_iter().map(stand_in).collect()
-}
-
-/// Whether a type leaves its lifetimes out.
-#[derive(Clone, Copy)]
-enum Elision {
-    No,
-    Yes,
-    /// By the stand-in of this function.
-    StandIn(usize),
+    answer(&apis, &types, complaint)
 }
 
 struct Tree<'s> {
     sheet: &'s Sheet,
-    stand_ins: Vec<StandIn>,
 }
 
 impl Tree<'_> {
-    fn apis(&self) -> Vec<Api> {
-        (0..self.sheet.items.len())
-            .map(|item| self.api(item))
-            .collect()
-    }
-
     fn chars(&self, name: NameIndex) -> &str {
         std::str::from_utf8(self.sheet.name(name)).unwrap()
     }
@@ -241,7 +153,7 @@ impl Tree<'_> {
                 visibility: TOKEN,
                 struct_token: TOKEN,
                 name: name(),
-                generics: lifetimes(1),
+                generics: Lifetimes::default(),
                 brace_token: Brace,
                 fields: fields.iter().map(|ty| self.var("field", ty)).collect(),
             }),
@@ -253,7 +165,7 @@ impl Tree<'_> {
                 visibility: TOKEN,
                 enum_token: TOKEN,
                 name: name(),
-                generics: lifetimes(1),
+                generics: Lifetimes::default(),
                 brace_token: Brace,
                 variants: Vec::new(),
                 repr: EnumRepr {
@@ -264,33 +176,12 @@ impl Tree<'_> {
             }),
             Kind::CxxType { pointer } => Api::CxxType(extern_type(Lang::Cxx, name(), *pointer)),
             Kind::RustType { pointer } => Api::RustType(extern_type(Lang::Rust, name(), *pointer)),
-            Kind::Function(function) => {
-                let efn = self.function(index, function);
-                match function.lang {
-                    SheetLang::Rust => Api::RustFunction(efn),
-                    SheetLang::Cxx { .. } => Api::CxxFunction(efn),
-                }
-            }
+            Kind::Function(function) => Api::RustFunction(self.function(item, function)),
             Kind::Unknown(_) => unreachable!("never decoded"),
         }
     }
 
-    fn function(&self, index: usize, function: &Function) -> ExternFn {
-        let item = &self.sheet.items[index];
-        let (lang, elision) = match function.lang {
-            SheetLang::Rust => (Lang::Rust, Elision::Yes),
-            SheetLang::Cxx { unwind, elided } => {
-                let has_stand_in = self.stand_ins.iter().any(|other| other.item == index);
-                let elision = match (elided, has_stand_in) {
-                    (false, _) => Elision::No,
-                    (true, false) => Elision::Yes,
-                    (true, true) => Elision::StandIn(index),
-                };
-                let lang = if unwind { Lang::CxxUnwind } else { Lang::Cxx };
-                (lang, elision)
-            }
-        };
-        let ret = function.ret.as_ref().map(|ret| self.ty(ret, elision));
+    fn function(&self, item: &Item, function: &Function) -> ExternFn {
         let mut doc = Doc::new();
         for line in &function.comment {
             doc.push(LitStr::new(std::str::from_utf8(line).unwrap(), Span));
@@ -305,14 +196,14 @@ impl Tree<'_> {
         let args = args.map(|arg| self.var(self.chars(arg.name), &arg.ty));
         ExternFn {
             cfg: CfgExpr::Unconditional,
-            lang,
+            lang: Lang::Rust,
             doc,
             attrs: OtherAttrs::default(),
             visibility: TOKEN,
             name: self.pair(item, self.ident(function.rust_name)),
             sig: Signature {
                 throws: function.throws,
-                ..signature(kind, args, ret)
+                ..signature(kind, args, function.ret.as_ref().map(|ret| self.ty(ret)))
             },
             semi_token: TOKEN,
             trusted: false,
@@ -331,47 +222,26 @@ impl Tree<'_> {
                 rust: ident(name),
             },
             colon_token: TOKEN,
-            ty: self.ty(ty, Elision::Yes),
+            ty: self.ty(ty),
         }
     }
 
-    fn ty(&self, ty: &SheetType, elision: Elision) -> Type {
-        if let (SheetType::Atom(_) | SheetType::Fn { .. }, Elision::StandIn(item)) = (ty, elision) {
-            return named(StandIn::ident(item));
-        }
-        let lifetime = match elision {
-            Elision::No => Some(Lifetime),
-            Elision::Yes | Elision::StandIn(_) => None,
-        };
-        let inside = |inner| self.ty(inner, elision);
-        let ty1 = |name, inner| {
-            Box::new(Ty1 {
-                name: ident(name),
-                langle: TOKEN,
-                inner: self.ty(inner, elision),
-                rangle: TOKEN,
-            })
-        };
+    fn ty(&self, ty: &SheetType) -> Type {
         match ty {
             SheetType::Atom(atom) => named(ident(ATOMS[usize::from(*atom)].as_ref())),
-            SheetType::Named(item) => Type::Ident(NamedType {
-                rust: type_ident(*item),
-                generics: lifetimes(lifetime.iter().count()),
-            }),
-            SheetType::RustBox(inner) => Type::RustBox(ty1("Box", inner)),
-            SheetType::RustVec(inner) => Type::RustVec(ty1("Vec", inner)),
-            SheetType::UniquePtr(inner) => Type::UniquePtr(ty1("UniquePtr", inner)),
-            SheetType::SharedPtr(inner) => Type::SharedPtr(ty1("SharedPtr", inner)),
-            SheetType::WeakPtr(inner) => Type::WeakPtr(ty1("WeakPtr", inner)),
-            SheetType::CxxVector(inner) => Type::CxxVector(ty1("CxxVector", inner)),
-            SheetType::Ref { mutable, inner } => {
-                Type::Ref(reference(lifetime, *mutable, inside(inner)))
-            }
-            SheetType::Str => Type::Str(reference(lifetime, false, named(ident("str")))),
+            SheetType::Named(item) => named(type_ident(*item)),
+            SheetType::RustBox(inner) => Type::RustBox(self.ty1("Box", inner)),
+            SheetType::RustVec(inner) => Type::RustVec(self.ty1("Vec", inner)),
+            SheetType::UniquePtr(inner) => Type::UniquePtr(self.ty1("UniquePtr", inner)),
+            SheetType::SharedPtr(inner) => Type::SharedPtr(self.ty1("SharedPtr", inner)),
+            SheetType::WeakPtr(inner) => Type::WeakPtr(self.ty1("WeakPtr", inner)),
+            SheetType::CxxVector(inner) => Type::CxxVector(self.ty1("CxxVector", inner)),
+            SheetType::Ref { mutable, inner } => Type::Ref(reference(*mutable, self.ty(inner))),
+            SheetType::Str => Type::Str(reference(false, named(ident("str")))),
             SheetType::Ptr { mutable, inner } => Type::Ptr(Box::new(Ptr {
                 star: TOKEN,
                 mutable: *mutable,
-                inner: inside(inner),
+                inner: self.ty(inner),
                 mutability: match mutable {
                     true => PointerMutability::Mut(TOKEN),
                     false => PointerMutability::Const(TOKEN),
@@ -379,26 +249,35 @@ impl Tree<'_> {
             })),
             SheetType::SliceRef { mutable, inner } => Type::SliceRef(Box::new(SliceRef {
                 ampersand: TOKEN,
-                lifetime,
+                lifetime: None,
                 mutable: *mutable,
                 bracket: Bracket,
-                inner: inside(inner),
+                inner: self.ty(inner),
                 mutability: mutable.then_some(TOKEN),
             })),
             SheetType::Array { inner, len } => Type::Array(Box::new(Array {
                 bracket: Bracket,
-                inner: inside(inner),
+                inner: self.ty(inner),
                 semi_token: TOKEN,
                 len: *len as usize,
                 len_token: LitInt::new(&len.to_string(), Span),
             })),
             SheetType::Fn { ret, args } => {
                 let args = args.iter().map(|arg| self.var("arg", arg));
-                let ret = ret.as_ref().map(|ret| inside(ret));
+                let ret = ret.as_ref().map(|ret| self.ty(ret));
                 Type::Fn(Box::new(signature(FnKind::Free, args, ret)))
             }
             SheetType::Unknown(_) => unreachable!("never decoded"),
         }
+    }
+
+    fn ty1(&self, name: &str, inner: &SheetType) -> Box<Ty1> {
+        Box::new(Ty1 {
+            name: ident(name),
+            langle: TOKEN,
+            inner: self.ty(inner),
+            rangle: TOKEN,
+        })
     }
 }
 
@@ -434,18 +313,10 @@ fn type_ident(item: ItemIndex) -> Ident {
     ident(&format!("T{item}"))
 }
 
-fn lifetimes(count: usize) -> Lifetimes {
-    Lifetimes {
-        lifetimes: (0..count).map(|_| Lifetime).collect(),
-        ..Lifetimes::default()
-    }
-}
-
-/// A type of this name, without a lifetime.
 fn named_type(rust: Ident) -> NamedType {
     NamedType {
         rust,
-        generics: lifetimes(0),
+        generics: Lifetimes::default(),
     }
 }
 
@@ -453,11 +324,11 @@ fn named(rust: Ident) -> Type {
     Type::Ident(named_type(rust))
 }
 
-fn reference(lifetime: Option<Lifetime>, mutable: bool, inner: Type) -> Box<Ref> {
+fn reference(mutable: bool, inner: Type) -> Box<Ref> {
     Box::new(Ref {
         pinned: false,
         ampersand: TOKEN,
-        lifetime,
+        lifetime: None,
         mutable,
         inner,
         pin_tokens: None,
@@ -505,7 +376,7 @@ fn extern_type(lang: Lang, name: Pair, pointer: bool) -> ExternType {
         visibility: TOKEN,
         type_token: TOKEN,
         name,
-        generics: lifetimes(1),
+        generics: Lifetimes::default(),
         colon_token: None,
         bounds: Vec::new(),
         semi_token: TOKEN,

@@ -1,6 +1,6 @@
 //! Document 01's example, byte for byte.
 
-use sheet::{Arg, Form, Function, Item, Kind, Lang, Sheet, Type, check, encode};
+use sheet::{Arg, Form, Function, Item, Kind, Sheet, Type, check, encode};
 
 const TEXT: &str = r#"namespace mill {
   struct Job;
@@ -43,7 +43,6 @@ fn mill() -> Sheet {
             namespace: vec![0],
             name: 2,
             kind: Kind::Function(Function {
-                lang: Lang::Rust,
                 rust_name: 2,
                 form: Form::Free,
                 throws: false,

@@ -1,7 +1,7 @@
 //! A sheet in flat storage: a list for each sort of part, and ranges or indexes
 //! from one into another.
 
-use sheet::{AtomNumber, CXX_STRING, Form, ItemIndex, Lang, NameIndex, RUST_STRING};
+use sheet::{AtomNumber, CXX_STRING, Form, ItemIndex, NameIndex, RUST_STRING};
 
 /// A range of one of the lists.
 #[derive(Clone, Copy)]
@@ -55,7 +55,6 @@ pub enum Kind {
 }
 
 pub struct Function {
-    pub lang: Lang,
     pub rust_name: NameIndex,
     pub form: Form,
     pub throws: bool,

@@ -48,8 +48,8 @@ pub fn write(bytes: &[u8], buf: &mut [u8]) -> Result<usize, u8> {
     write_text(&sheet, buf)
 }
 
-/// `write` without rules 9 to 12, 14 and 15, which the crate's writer does not
-/// check either: it has some text for a sheet that breaks one.
+/// `write` without rules 9 to 12, which the crate's writer does not check
+/// either: it has some text for a sheet that breaks one.
 pub fn write_without_rules(bytes: &[u8], buf: &mut [u8]) -> Result<usize, u8> {
     let sheet = read::read::<true>(bytes).map_err(Refusal::number)?;
     write_text(&sheet, buf)

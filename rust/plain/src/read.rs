@@ -4,9 +4,7 @@
 use crate::flat::{Arg, Function, Item, Kind, Sheet, Span, Type};
 use sheet::Refusal::{self, *};
 use sheet::name::is_name;
-use sheet::{
-    AtomNumber, BitReader, EDITIONS, Form, ItemIndex, Lang, NameIndex, index_width, limit,
-};
+use sheet::{AtomNumber, BitReader, EDITIONS, Form, ItemIndex, NameIndex, index_width, limit};
 
 type Result<T> = std::result::Result<T, Refusal>;
 
@@ -113,7 +111,7 @@ impl<const CHECKED: bool> Reader<'_, CHECKED> {
 
     fn item(&mut self) -> Result<Item> {
         let kind = self.number(3)?;
-        if CHECKED && kind > 5 {
+        if CHECKED && kind > 4 {
             return Err(BadKind);
         }
         let depth = self.number(3)?;
@@ -133,7 +131,7 @@ impl<const CHECKED: bool> Reader<'_, CHECKED> {
             3 => Kind::RustType {
                 pointer: self.bit()?,
             },
-            kind => Kind::Function(self.function(kind == 5)?),
+            _ => Kind::Function(self.function()?),
         };
         Ok(Item {
             namespace,
@@ -162,7 +160,7 @@ impl<const CHECKED: bool> Reader<'_, CHECKED> {
         Ok(Kind::Enum { pointer, atom, cxx })
     }
 
-    fn function(&mut self, is_cxx: bool) -> Result<Function> {
+    fn function(&mut self) -> Result<Function> {
         let rust_name = self.name_index()?;
         let form = match self.number(2)? {
             0 => Form::Free,
@@ -187,15 +185,7 @@ impl<const CHECKED: bool> Reader<'_, CHECKED> {
             self.sheet.lines.push(line);
         }
         let comment = span(start, self.sheet.lines.len());
-        let lang = match is_cxx {
-            true => Lang::Cxx {
-                unwind: self.bit()?,
-                elided: self.bit()?,
-            },
-            false => Lang::Rust,
-        };
         Ok(Function {
-            lang,
             rust_name,
             form,
             throws,

@@ -3,7 +3,7 @@
 use crate::flat::{Arg, Function, Item, Kind, Sheet, Span, Type, indirect};
 use crate::nested::NamespaceEntries;
 use crate::out::{Block, OutFile};
-use sheet::{AtomNumber, Form, ItemIndex, Lang, RUST_STRING};
+use sheet::{AtomNumber, Form, ItemIndex, RUST_STRING};
 
 /// Enough for every indent: two for each of seven namespaces.
 const SPACES: &[u8] = b"              ";
@@ -64,10 +64,7 @@ pub fn write_functions(out: &mut OutFile) {
         for item in &sheet.items {
             match &item.kind {
                 Kind::RustType { .. } => write_opaque_type_layout_decls(out, item),
-                Kind::Function(function) => match function.lang {
-                    Lang::Cxx { .. } => write_cxx_function_shim(out, item, function),
-                    Lang::Rust => write_rust_function_decl(out, item, function),
-                },
+                Kind::Function(function) => write_rust_function_decl(out, item, function),
                 _ => {}
             }
         }
@@ -75,7 +72,7 @@ pub fn write_functions(out: &mut OutFile) {
     for item in &sheet.items {
         match &item.kind {
             Kind::RustType { .. } => write_opaque_type_layout(out, item),
-            Kind::Function(function) if function.lang == Lang::Rust => {
+            Kind::Function(function) => {
                 out.next_section();
                 write_rust_function_shim(out, item, function);
             }
@@ -126,163 +123,6 @@ fn write_opaque_type_layout<'s>(out: &mut OutFile<'s, '_>, item: &'s Item) {
     }
 }
 
-fn write_cxx_function_shim<'s>(out: &mut OutFile<'s, '_>, item: &'s Item, function: &'s Function) {
-    let sheet = out.sheet;
-    let args = sheet.args(function);
-    out.next_section();
-    out.set_namespace(sheet.namespace(item));
-    out.begin_block(Block::ExternC);
-    if function.throws {
-        out.write(b"::rust::repr::PtrLen ");
-    } else {
-        write_extern_return_type_space(out, function);
-    }
-    write_symbol(out, item, function);
-    out.write(b"(");
-    let mut needs_comma = write_receiver(out, function);
-    for arg in args {
-        if needs_comma {
-            out.write(b", ");
-        }
-        match sheet.outermost(arg) {
-            Type::Atom(RUST_STRING) | Type::RustVec => {
-                write_type_space(out, sheet.types(arg.ty));
-                out.write(b"const *");
-                out.write(sheet.name(arg.name));
-            }
-            _ => write_extern_arg(out, arg),
-        }
-        needs_comma = true;
-    }
-    let indirect_return = indirect_return(sheet, function);
-    if let Some(ret) = indirect_return {
-        if needs_comma {
-            out.write(b", ");
-        }
-        write_indirect_return_type_space(out, ret);
-        out.write(b"*return$");
-    }
-    out.write(b")");
-    if !function.lang.unwinds() {
-        out.write(b" noexcept");
-    }
-    out.write(b" {\n  ");
-    write_return_type(out, function);
-    let receiver = match function.form {
-        Form::ConstMethod(receiver) | Form::MutMethod(receiver) => Some(receiver),
-        Form::Free | Form::Associated(_) => None,
-    };
-    out.write(b"(");
-    if let Some(receiver) = receiver {
-        write_named(out, receiver);
-        out.write(b"::");
-    }
-    out.write(b"*");
-    out.write(sheet.name(function.rust_name));
-    out.write(b"$)(");
-    for (i, arg) in args.iter().enumerate() {
-        if i > 0 {
-            out.write(b", ");
-        }
-        write_type(out, sheet.types(arg.ty));
-    }
-    out.write(b")");
-    if let Form::ConstMethod(_) = function.form {
-        out.write(b" const");
-    }
-    out.write(b" = ");
-    match function.form.self_item() {
-        None => write_full_name(out, item),
-        Some(self_type) => {
-            out.write(b"&");
-            write_named(out, self_type);
-            out.write(b"::");
-            out.write(sheet.name(item.name));
-        }
-    }
-    out.write(b";\n  ");
-    if function.throws {
-        out.write(b"::rust::repr::PtrLen throw$;\n");
-        out.write(b"  ::rust::behavior::trycatch(\n      [&] {\n        ");
-    }
-    let ret = ret(sheet, function);
-    if let Some(ret) = indirect_return {
-        out.write(b"new (return$) ");
-        write_indirect_return_type(out, ret);
-        out.write(b"(");
-    } else if ret.is_some() {
-        out.write(b"return ");
-    }
-    match ret {
-        Some([Type::Ref { .. }, ..]) => out.write(b"&"),
-        Some([Type::Str, ..]) if indirect_return.is_none() => {
-            out.write(b"::rust::impl<::rust::Str>::repr(");
-        }
-        Some(ty @ [Type::SliceRef { .. }, ..]) if indirect_return.is_none() => {
-            out.write(b"::rust::impl<");
-            write_type(out, ty);
-            out.write(b">::repr(");
-        }
-        _ => {}
-    }
-    if receiver.is_some() {
-        out.write(b"(self.*");
-    }
-    out.write(sheet.name(function.rust_name));
-    out.write(if receiver.is_some() { b"$)(" } else { b"$(" });
-    for (i, arg) in args.iter().enumerate() {
-        if i > 0 {
-            out.write(b", ");
-        }
-        let name = sheet.name(arg.name);
-        match sheet.outermost(arg) {
-            Type::RustBox => {
-                write_type(out, sheet.types(arg.ty));
-                out.write(b"::from_raw(");
-                out.write(name);
-                out.write(b")");
-            }
-            Type::UniquePtr => {
-                write_type(out, sheet.types(arg.ty));
-                out.write(b"(");
-                out.write(name);
-                out.write(b")");
-            }
-            Type::Atom(RUST_STRING) | Type::RustVec => {
-                write_type(out, sheet.types(arg.ty));
-                out.write(b"(::rust::unsafe_bitcopy, *");
-                out.write(name);
-                out.write(b")");
-            }
-            ty if indirect(sheet, ty) => {
-                out.write(b"::std::move(*");
-                out.write(name);
-                out.write(b")");
-            }
-            _ => out.write(name),
-        }
-    }
-    out.write(b")");
-    match ret {
-        Some([Type::RustBox, ..]) => out.write(b".into_raw()"),
-        Some([Type::UniquePtr, ..]) => out.write(b".release()"),
-        Some([Type::Str | Type::SliceRef { .. }, ..]) if indirect_return.is_none() => {
-            out.write(b")");
-        }
-        _ => {}
-    }
-    if indirect_return.is_some() {
-        out.write(b")");
-    }
-    out.write(b";\n");
-    if function.throws {
-        out.write(b"        throw$.ptr = nullptr;\n      },\n");
-        out.write(b"      ::rust::detail::Fail(throw$));\n  return throw$;\n");
-    }
-    out.write(b"}\n");
-    out.end_block(Block::ExternC);
-}
-
 fn write_rust_function_decl<'s>(out: &mut OutFile<'s, '_>, item: &'s Item, function: &'s Function) {
     let sheet = out.sheet;
     out.set_namespace(out.sheet.namespace(item));
@@ -295,7 +135,15 @@ fn write_rust_function_decl<'s>(out: &mut OutFile<'s, '_>, item: &'s Item, funct
     }
     write_symbol(out, item, function);
     out.write(b"(");
-    let mut needs_comma = write_receiver(out, function);
+    let mut needs_comma = false;
+    if let Form::ConstMethod(receiver) | Form::MutMethod(receiver) = function.form {
+        write_full_name(out, sheet.item(receiver));
+        if let Form::ConstMethod(_) = function.form {
+            out.write(b" const");
+        }
+        out.write(b" &self");
+        needs_comma = true;
+    }
     for arg in sheet.args(function) {
         if needs_comma {
             out.write(b", ");
@@ -315,18 +163,6 @@ fn write_rust_function_decl<'s>(out: &mut OutFile<'s, '_>, item: &'s Item, funct
     }
     out.write(b") noexcept;\n");
     out.end_block(Block::ExternC);
-}
-
-/// Says whether there is one.
-fn write_receiver(out: &mut OutFile, function: &Function) -> bool {
-    let (receiver, behind): (_, &[u8]) = match function.form {
-        Form::ConstMethod(receiver) => (receiver, b" const &self"),
-        Form::MutMethod(receiver) => (receiver, b" &self"),
-        Form::Free | Form::Associated(_) => return false,
-    };
-    write_named(out, receiver);
-    out.write(behind);
-    true
 }
 
 fn write_rust_function_shim<'s>(out: &mut OutFile<'s, '_>, item: &'s Item, function: &'s Function) {
@@ -503,26 +339,7 @@ fn write_return_type(out: &mut OutFile, function: &Function) {
 
 /// The type that is returned by a slot, if one is.
 fn indirect_return<'s>(sheet: &'s Sheet, function: &Function) -> Option<&'s [Type]> {
-    ret(sheet, function)
-        .filter(|ret| function.throws || indirect(sheet, ret[0]) || function.lang.is_elided())
-}
-
-fn write_indirect_return_type<'s>(out: &mut OutFile<'s, '_>, ty: &'s [Type]) {
-    match ty[0] {
-        Type::RustBox | Type::UniquePtr => write_pointer(out, &ty[1..], true),
-        Type::Ref { mutable } => write_pointer(out, &ty[1..], mutable),
-        _ => write_type(out, ty),
-    };
-}
-
-fn write_indirect_return_type_space<'s>(out: &mut OutFile<'s, '_>, ty: &'s [Type]) {
-    write_indirect_return_type(out, ty);
-    if !matches!(
-        ty[0],
-        Type::RustBox | Type::UniquePtr | Type::Ref { .. } | Type::Ptr { .. }
-    ) {
-        out.write(b" ");
-    }
+    ret(sheet, function).filter(|ret| function.throws || indirect(sheet, ret[0]))
 }
 
 fn write_extern_return_type_space(out: &mut OutFile, function: &Function) {

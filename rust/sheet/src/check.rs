@@ -1,6 +1,6 @@
 //! The check in one walk over the bits. Nothing is built but tables: names get
 //! the number of the first equal name, and each item leaves the few facts that
-//! the rules 9 to 12, 14 and 15 ask for.
+//! the rules 9 to 12 ask for.
 
 use crate::Refusal::{self, *};
 use crate::bits::{BitReader, index_width};
@@ -33,7 +33,6 @@ enum Outer {
     Indirect,
     RustString,
     CxxVector,
-    Fn,
     Named(u8),
 }
 
@@ -67,7 +66,7 @@ struct Walker<'a> {
     entries: Vec<Entry>,
     /// Items that some index names.
     used: [bool; limit::ITEMS],
-    /// Named types of arguments `error` in throwing Rust functions.
+    /// Named types of arguments `error` in throwing functions.
     held_errors: [bool; limit::ITEMS],
     /// Holder and held, for fields that are plain named types.
     edges: Vec<(u8, u8)>,
@@ -75,8 +74,6 @@ struct Walker<'a> {
     last_function: Vec<u16>,
     taken: bool,
     unfit: bool,
-    two_ways_out: bool,
-    bare_callback: bool,
 }
 
 fn walk(bytes: &[u8]) -> Result<()> {
@@ -100,8 +97,6 @@ fn walk(bytes: &[u8]) -> Result<()> {
         last_function: Vec::new(),
         taken: false,
         unfit: false,
-        two_ways_out: false,
-        bare_callback: false,
     };
     walker.sheet()?;
     walker.rules()
@@ -211,7 +206,7 @@ impl Walker<'_> {
 
     fn item(&mut self, number: u8) -> Result<Entry> {
         let kind = self.number(3)?;
-        if kind > 5 {
+        if kind > 4 {
             return Err(BadKind);
         }
         let depth = self.number(3)?;
@@ -225,9 +220,8 @@ impl Walker<'_> {
         }
         let path = (depth as u8, path);
         let name = self.name()?;
-        if kind > 3 {
-            let function = self.function(number, path, kind == 5)?;
-            return Ok(Entry::Function(function));
+        if kind == 4 {
+            return Ok(Entry::Function(self.function(number, path)?));
         }
         let pointer = self.bit()?;
         match kind {
@@ -253,7 +247,7 @@ impl Walker<'_> {
         }))
     }
 
-    fn function(&mut self, number: u8, path: Path, is_cxx: bool) -> Result<FunctionItem> {
+    fn function(&mut self, number: u8, path: Path) -> Result<FunctionItem> {
         let rust_name = self.name()?;
         let form = self.number(2)?;
         let self_item = match form {
@@ -271,22 +265,16 @@ impl Walker<'_> {
             self.taken |= *last == u16::from(number);
             *last = u16::from(number);
             self.unfit |= is_method && Some(name) == self.self_;
-            let holds_error = throws && !is_cxx && Some(name) == self.error;
+            let holds_error = throws && Some(name) == self.error;
             match self.ty(1)? {
                 Outer::CxxVector => self.unfit = true,
                 Outer::Indirect => self.unfit |= holds_error,
                 Outer::Named(item) => self.held_errors[usize::from(item)] |= holds_error,
-                Outer::Fn => self.bare_callback |= is_cxx,
                 Outer::Direct | Outer::RustString => {}
             }
         }
         for _ in 0..self.number(5)? {
             self.comment_line()?;
-        }
-        if is_cxx {
-            let unwind = self.bit()?;
-            self.two_ways_out |= throws && unwind;
-            self.bit()?;
         }
         Ok(FunctionItem {
             path,
@@ -349,7 +337,6 @@ impl Walker<'_> {
         Ok(match kind {
             3 | 5 | 6 | 14 => Outer::Indirect,
             10 => Outer::CxxVector,
-            11 => Outer::Fn,
             _ => Outer::Direct,
         })
     }
@@ -366,12 +353,6 @@ impl Walker<'_> {
         }
         if self.ring() {
             return Err(Ring);
-        }
-        if self.two_ways_out {
-            return Err(TwoWaysOut);
-        }
-        if self.bare_callback {
-            return Err(BareCallback);
         }
         Ok(())
     }

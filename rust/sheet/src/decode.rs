@@ -113,7 +113,7 @@ impl Decoder<'_> {
 
     fn item(&mut self) -> Result<Item> {
         let kind = self.number(3)?;
-        if kind > 5 {
+        if kind > 4 {
             return Err(BadKind);
         }
         let depth = self.number(3)?;
@@ -130,7 +130,7 @@ impl Decoder<'_> {
             3 => Kind::RustType {
                 pointer: self.bit()?,
             },
-            kind => Kind::Function(self.function(kind == 5)?),
+            _ => Kind::Function(self.function()?),
         };
         Ok(Item {
             namespace,
@@ -156,7 +156,7 @@ impl Decoder<'_> {
         Ok(Kind::Enum { pointer, atom, cxx })
     }
 
-    fn function(&mut self, is_cxx: bool) -> Result<Function> {
+    fn function(&mut self) -> Result<Function> {
         let rust_name = self.name_index()?;
         let form = match self.number(2)? {
             0 => Form::Free,
@@ -178,16 +178,7 @@ impl Decoder<'_> {
         let comment = (0..count)
             .map(|_| self.comment_line())
             .collect::<Result<_>>()?;
-        let lang = if is_cxx {
-            Lang::Cxx {
-                unwind: self.bit()?,
-                elided: self.bit()?,
-            }
-        } else {
-            Lang::Rust
-        };
         Ok(Function {
-            lang,
             rust_name,
             form,
             throws,

@@ -14,16 +14,14 @@
 //! /// a comment line of the function below, as it stands behind the slashes
 //! fn mill::count(job: &::mill::Job) -> u32
 //! fn mill::turn as turn_rust throws mut ::mill::Job (by: f64, mode: #3)
-//! cxx-fn mill::cut as cut_part throws elided const ::mill::Disc (part: &str) -> &str
 //! ```
 //!
 //! Without a line `edition` a sheet is of edition 1; any edition from 0 to 15 can
 //! be written.
 //!
-//! `fn` is a Rust function, `cxx-fn` a C++ function. A function's words are, in
-//! this order and each of them optional: `as` and the Rust name, `throws`, of a C++
-//! function `unwind` and `elided`, and the form: `const`, `mut` or `assoc` and a
-//! type item. An item is a full name with `::` in front, or `#` and its number.
+//! A function's words are, in this order and each of them optional: `as` and
+//! the Rust name, `throws`, and the form: `const`, `mut` or `assoc` and a type
+//! item. An item is a full name with `::` in front, or `#` and its number.
 //! Types are written as in Rust; `fn(u8) -> bool` is a Fn.
 //!
 //! The names' order in the table is that of the line `names`, then that of
@@ -49,7 +47,7 @@ pub fn parse(text: &str) -> Result<Sheet> {
         let mut parser = Parser::new(line, &mut sheet, &[]);
         if let Some(word) = parser.item_word() {
             let path = parser.path().unwrap_or_default();
-            full_names.push((!is_function(word)).then(|| format!("::{}", path.join("::"))));
+            full_names.push((word != "fn").then(|| format!("::{}", path.join("::"))));
         }
     }
     let mut comment = Vec::new();
@@ -136,7 +134,7 @@ impl<'p> Parser<'p> {
 
     /// The word that begins an item's line.
     fn item_word(&mut self) -> Option<&'static str> {
-        let words = ["struct", "enum", "cxx-type", "rust-type", "fn", "cxx-fn"];
+        let words = ["struct", "enum", "cxx-type", "rust-type", "fn"];
         let word = words.into_iter().find(|word| {
             let rest = self.rest.strip_prefix(word);
             rest.is_some_and(|rest| rest.starts_with(' '))
@@ -176,10 +174,7 @@ impl<'p> Parser<'p> {
         let (name, namespace) = path.split_last().expect("a path has a name");
         let (name, namespace) = (*name, namespace.to_vec());
         let kind = match word {
-            word if is_function(word) => {
-                let comment = std::mem::take(comment);
-                Kind::Function(self.function(word == "cxx-fn", name, comment)?)
-            }
+            "fn" => Kind::Function(self.function(name, std::mem::take(comment))?),
             _ => {
                 let pointer = self.skip_word("indirect");
                 match word {
@@ -214,12 +209,7 @@ impl<'p> Parser<'p> {
         Err(format!("`{}` is too much", self.rest.trim()))
     }
 
-    fn function(
-        &mut self,
-        is_cxx: bool,
-        name: NameIndex,
-        comment: Vec<Vec<u8>>,
-    ) -> Result<Function> {
+    fn function(&mut self, name: NameIndex, comment: Vec<Vec<u8>>) -> Result<Function> {
         let rust_name = if self.skip_word("as") {
             let word = self.word()?;
             self.name(word)
@@ -227,13 +217,6 @@ impl<'p> Parser<'p> {
             name
         };
         let throws = self.skip_word("throws");
-        let lang = match is_cxx {
-            true => Lang::Cxx {
-                unwind: self.skip_word("unwind"),
-                elided: self.skip_word("elided"),
-            },
-            false => Lang::Rust,
-        };
         let form = if self.skip_word("const") {
             Form::ConstMethod(self.item()?)
         } else if self.skip_word("mut") {
@@ -257,7 +240,6 @@ impl<'p> Parser<'p> {
             None
         };
         Ok(Function {
-            lang,
             rust_name,
             form,
             throws,
@@ -368,10 +350,6 @@ impl<'p> Parser<'p> {
     }
 }
 
-fn is_function(word: &str) -> bool {
-    ["fn", "cxx-fn"].contains(&word)
-}
-
 fn atom(word: &str) -> Option<AtomNumber> {
     let atom = ATOMS.iter().position(|atom| *atom == word)?;
     Some(atom as AtomNumber)
@@ -422,17 +400,9 @@ pub fn print(sheet: &Sheet) -> String {
                     writeln!(out, "///{}", String::from_utf8_lossy(line)).unwrap();
                 }
                 let rust_name = sheet.name(function.rust_name).escape_ascii();
-                let lang = function.lang;
-                let word = if lang.is_cxx() { "cxx-fn" } else { "fn" };
-                write!(out, "{word} {path} as {rust_name}").unwrap();
-                for (word, is_set) in [
-                    (" throws", function.throws),
-                    (" unwind", lang.unwinds()),
-                    (" elided", lang.is_elided()),
-                ] {
-                    if is_set {
-                        out.push_str(word);
-                    }
+                write!(out, "fn {path} as {rust_name}").unwrap();
+                if function.throws {
+                    out.push_str(" throws");
                 }
                 match function.form {
                     Form::Free => {}
@@ -537,40 +507,6 @@ mod tests {
         assert_eq!(function.args[1].ty, Type::Named(1));
         assert_eq!(function.ret, Some(Type::Str));
         assert!(function.throws);
-    }
-
-    #[test]
-    fn cxx_functions() {
-        let text = "names mill Disc cut cut_cxx by\ncxx-type mill::Disc\n/// not written\n\
-            cxx-fn mill::cut as cut_cxx throws unwind elided const #0 (by: f64) -> &str\n\
-            cxx-fn cut as cut ()\nfn mill::cut as cut ()\n";
-        let sheet = parse(text).unwrap();
-        assert_eq!(print(&sheet), text);
-        let langs = sheet.items[1..].iter().map(|item| match &item.kind {
-            Kind::Function(function) => (item.kind.number(), function.lang, function.throws),
-            _ => panic!("the others are functions"),
-        });
-        let both = |is_set| Lang::Cxx {
-            unwind: is_set,
-            elided: is_set,
-        };
-        let wanted = [
-            (5, both(true), true),
-            (5, both(false), false),
-            (4, Lang::Rust, false),
-        ];
-        assert!(langs.eq(wanted));
-        // The words belong to C++ functions, in this order.
-        for (text, message) in [
-            ("fn f unwind ()", "line 1: `(` expected at ` unwind ()`"),
-            (
-                "cxx-fn f elided unwind ()",
-                "line 1: `(` expected at ` unwind ()`",
-            ),
-            ("cxx-fn f(x: ::f)", "line 1: no type `::f`"),
-        ] {
-            assert_eq!(parse(text), Err(message.into()));
-        }
     }
 
     /// Names that a check refuses are taken as they are, to be tried.

@@ -113,10 +113,6 @@ impl Encoder {
             self.number(7, line.len());
             self.chars(line);
         }
-        if let Lang::Cxx { unwind, elided } = function.lang {
-            self.bit(unwind);
-            self.bit(elided);
-        }
     }
 
     fn optional(&mut self, ty: Option<&Type>) {

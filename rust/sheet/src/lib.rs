@@ -1,6 +1,6 @@
-//! Sheets as document 01 describes them, with orders 1, 3 and 13 of document 02,
-//! and nothing else: their value, their bytes, the fourteen refusals of a check, and
-//! a seeded generator.
+//! Sheets as document 01 describes them, with orders 3 and 13 of document 02, and
+//! nothing else: their value, their bytes, the twelve refusals of a check, and a
+//! seeded generator.
 //!
 //! Two readers stand side by side. [`decode`] builds the value and [`rules`]
 //! judges it, sentence by sentence. [`check`] gives the same answer in one walk
@@ -22,7 +22,7 @@ pub use check::check;
 pub use decode::{decode, decode_base};
 pub use encode::{encode, encode_bits, with_edition};
 pub use rng::Rng;
-pub use rules::{broken, indirect, rules};
+pub use rules::{indirect, rules};
 pub use value::*;
 
 /// The limits of document 01.
@@ -40,8 +40,7 @@ pub mod limit {
     pub const TYPE_DEPTH: usize = 8;
 }
 
-/// Why a sheet is refused; the discriminant is the documents' number. 13 is that of
-/// an overrun, which a buffer is refused for.
+/// Why a sheet is refused; the discriminant is document 01's number.
 #[derive(Clone, Copy, PartialEq, Eq, PartialOrd, Ord, Debug)]
 #[repr(u8)]
 pub enum Refusal {
@@ -57,12 +56,10 @@ pub enum Refusal {
     Taken = 10,
     UnfitArgument = 11,
     Ring = 12,
-    TwoWaysOut = 14,
-    BareCallback = 15,
 }
 
 impl Refusal {
-    pub const ALL: [Refusal; 14] = [
+    pub const ALL: [Refusal; 12] = [
         Refusal::CutSheet,
         Refusal::Edition,
         Refusal::BadName,
@@ -75,8 +72,6 @@ impl Refusal {
         Refusal::Taken,
         Refusal::UnfitArgument,
         Refusal::Ring,
-        Refusal::TwoWaysOut,
-        Refusal::BareCallback,
     ];
 
     pub fn number(self) -> u8 {

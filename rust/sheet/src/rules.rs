@@ -1,28 +1,20 @@
-//! Refusals 9 to 12, 14 and 15 on a decoded sheet, the lowest number first.
+//! Refusals 9 to 12 on a decoded sheet, the lowest number first.
 
 use crate::Refusal::{self, *};
 use crate::value::*;
 use std::collections::HashSet;
 
 pub fn rules(sheet: &Sheet) -> Result<(), Refusal> {
-    match broken(sheet).next() {
-        Some(refusal) => Err(refusal),
-        None => Ok(()),
-    }
-}
-
-/// All of these that a sheet has earned, the lowest number first.
-pub fn broken(sheet: &Sheet) -> impl Iterator<Item = Refusal> {
-    let rules = [
+    let broken = [
         (WrongPart, wrong_part as fn(&Sheet) -> bool),
         (Taken, taken),
         (UnfitArgument, unfit_argument),
         (Ring, ring),
-        (TwoWaysOut, two_ways_out),
-        (BareCallback, bare_callback),
     ];
-    let broken = rules.into_iter().filter(|(_, is_broken)| is_broken(sheet));
-    broken.map(|(refusal, _)| refusal)
+    match broken.iter().find(|(_, is_broken)| is_broken(sheet)) {
+        Some((refusal, _)) => Err(*refusal),
+        None => Ok(()),
+    }
 }
 
 /// `needs_indirect_abi`: a named type has it from its pointer bit.
@@ -126,8 +118,7 @@ fn unfit_argument(sheet: &Sheet) -> bool {
         function.args.iter().any(|arg| {
             let vector = matches!(arg.ty, Type::CxxVector(_));
             let receiver = function.form.is_method() && sheet.name(arg.name) == b"self";
-            let held_error = function.lang == Lang::Rust
-                && function.throws
+            let held_error = function.throws
                 && sheet.name(arg.name) == b"error"
                 && arg.ty != Type::Atom(RUST_STRING)
                 && indirect(sheet, &arg.ty);
@@ -160,18 +151,5 @@ fn ring(sheet: &Sheet) -> bool {
             }
         }
         reached[start]
-    })
-}
-
-/// 14: a C++ function throws, and unwinds too.
-fn two_ways_out(sheet: &Sheet) -> bool {
-    functions(sheet).any(|(_, function)| function.throws && function.lang.unwinds())
-}
-
-/// 15: an argument of a C++ function is a Fn.
-fn bare_callback(sheet: &Sheet) -> bool {
-    functions(sheet).any(|(_, function)| {
-        let mut types = function.args.iter().map(|arg| &arg.ty);
-        function.lang.is_cxx() && types.any(|ty| matches!(ty, Type::Fn { .. }))
     })
 }

@@ -53,33 +53,19 @@ pub enum Kind {
     RustType {
         pointer: bool,
     },
-    /// Kinds 4 and 5, by its language.
     Function(Function),
-    /// Kinds 6 and 7; never decoded.
+    /// Kinds 5 to 7; never decoded.
     Unknown(u8),
 }
 
 #[derive(Clone, PartialEq, Eq, Debug)]
 pub struct Function {
-    pub lang: Lang,
     pub rust_name: NameIndex,
     pub form: Form,
     pub throws: bool,
     pub ret: Option<Type>,
     pub args: Vec<Arg>,
     pub comment: Vec<Vec<u8>>,
-}
-
-/// The language that defines a function; the other one calls it.
-#[derive(Clone, Copy, PartialEq, Eq, Debug)]
-pub enum Lang {
-    Rust,
-    Cxx {
-        /// An exception goes through the function.
-        unwind: bool,
-        /// `contains_elided_lifetime`'s answer for the return.
-        elided: bool,
-    },
 }
 
 #[derive(Clone, Copy, PartialEq, Eq, Debug)]
@@ -166,26 +152,9 @@ impl Kind {
             Kind::Enum { .. } => 1,
             Kind::CxxType { .. } => 2,
             Kind::RustType { .. } => 3,
-            Kind::Function(function) => match function.lang {
-                Lang::Rust => 4,
-                Lang::Cxx { .. } => 5,
-            },
+            Kind::Function(_) => 4,
             Kind::Unknown(kind) => *kind,
         }
-    }
-}
-
-impl Lang {
-    pub fn is_cxx(self) -> bool {
-        self != Lang::Rust
-    }
-
-    pub fn unwinds(self) -> bool {
-        matches!(self, Lang::Cxx { unwind: true, .. })
-    }
-
-    pub fn is_elided(self) -> bool {
-        matches!(self, Lang::Cxx { elided: true, .. })
     }
 }
 

@@ -63,7 +63,7 @@ fn edition_and_cut() {
     // item, a bad kind.
     expect(8, "0010 0 0 0000000000 00000000 00000000");
     expect(8, "0010 0 0 0000000001 000001 1100001 00000000 001");
-    expect(5, "0010 0 0 0000000001 000001 1100001 00000001 110");
+    expect(5, "0010 0 0 0000000001 000001 1100001 00000001 101");
 }
 
 /// Order 13 of document 02.
@@ -234,7 +234,7 @@ fn indexes() {
 
 #[test]
 fn kinds() {
-    for kind in ["110", "111"] {
+    for kind in ["101", "110", "111"] {
         // Nothing needs to follow.
         expect(5, &format!("{NAME_A} 00000001 {kind}"));
     }
@@ -440,133 +440,4 @@ fn rings() {
     expect(12, &chain(&holds("10", "10")));
     // A lower number wins: two types `b`.
     expect(10, &chain(&holds("01", "00")));
-}
-
-/// Order 1 of document 02: kind 5 has the fields of kind 4 and two bits.
-#[test]
-fn cxx_functions() {
-    for (unwind, elided) in [(0, 0), (0, 1), (1, 0), (1, 1)] {
-        let ends = format!("{unwind} {elided}");
-        // Without and with a return; the elided bit needs none.
-        for ret in ["0", "1 1001", "1 0000 0010"] {
-            let function = format!("101 000 00 0 {ret} 00000 00000 {ends}");
-            expect(0, &format!("{NAME_A} 00000001 {function}"));
-        }
-        // 14: throwing and unwinding, with and without a return.
-        for ret in ["0", "1 1001"] {
-            let function = format!("101 000 00 1 {ret} 00000 00000 {ends}");
-            let answer = if unwind == 1 { 14 } else { 0 };
-            expect(answer, &format!("{NAME_A} 00000001 {function}"));
-        }
-    }
-    // A bit more is tail.
-    let function = "101 000 00 0 0 00000 00000 0 0";
-    expect(8, &format!("{NAME_A} 00000001 {function} 1"));
-    // It may be named where a function may be: nowhere.
-    expect(
-        9,
-        &format!("{NAME_A} 00000001 101 000 00 0 1 0001 00000 00000 00"),
-    );
-    expect(
-        9,
-        &format!("{NAME_A} 00000001 101 000 01 0 0 00000 00000 00"),
-    );
-    // Its comment lines are read and judged.
-    let comment = |line: &str| format!("{NAME_A} 00000001 101 000 00 0 0 00000 00001 {line} 00");
-    expect(0, &comment("0000001 1111110"));
-    expect(7, &comment("0000001 1011100"));
-    expect(7, &comment("0000001 1111111"));
-}
-
-/// With the name `aa` the comment count ends a byte, with `aaa` the unwind bit does.
-#[test]
-fn the_last_two_bits_are_cut() {
-    let function = |name: &str, kind: &str, ends: &str| {
-        format!("0001 0 0 0000000001 {name} 00000001 {kind} 000 00 0 0 00000 00000 {ends}")
-    };
-    let two = "000010 1100001 1100001";
-    let three = "000011 1100001 1100001 1100001";
-    for (name, kind, ends, length, answer) in [
-        (two, "100", "", 8, 0),
-        (two, "101", "", 8, 1),
-        (two, "101", "0", 9, 0),
-        (three, "101", "1", 9, 1),
-        (three, "101", "1 1", 10, 0),
-    ] {
-        let sheet = bits(&function(name, kind, ends));
-        assert_eq!(sheet.len(), length);
-        expect(answer, &function(name, kind, ends));
-    }
-}
-
-/// Functions `a` in both languages: rules 10, 11 and 15.
-#[test]
-fn rules_of_both_languages() {
-    let free = |kind: &str, rust_name: &str, ends: &str| {
-        format!("{kind} 000 00 {rust_name} 00 0 0 00000 00000 {ends}")
-    };
-    let rust = |rust_name: &str| free("100", rust_name, "");
-    let cxx = |rust_name: &str| free("101", rust_name, "00");
-    expect(0, &functions(&[&rust("01"), &cxx("00")]));
-    expect(10, &functions(&[&rust("01"), &cxx("01")]));
-    expect(10, &functions(&[&cxx("01"), &rust("01")]));
-    expect(10, &functions(&[&cxx("01"), &cxx("01")]));
-    // Two equal argument names.
-    let two = "101 000 00 00 00 0 0 00010 01 1001 01 1001 00000 00";
-    expect(10, &functions(&[two]));
-
-    // Names `self` and `error`, an opaque type `self` with a pointer bit.
-    let names = "0001 0 0 0000000010 \
-        000100 1110011 1100101 1101100 1100110 \
-        000101 1100101 1110010 1110010 1101111 1110010";
-    let sheet = |form: &str, throws: u8, arg: &str, unwind: u8| {
-        let function = format!("101 000 0 0 {form} {throws} 0 00001 {arg} 00000 {unwind} 0");
-        format!("{names} 00000010 011 000 0 1 {function}")
-    };
-    for (form, answer) in [("00", 0), ("01 0", 11), ("10 0", 11), ("11 0", 0)] {
-        expect(answer, &sheet(form, 0, "0 1001", 0));
-    }
-    // `error` may have any type but a CxxVector.
-    for (ty, answer) in [
-        ("0000 1111", 0),
-        ("0000 1110", 0),
-        ("0001 0", 0),
-        ("0011 1001", 0),
-        ("0101 1001", 0),
-        ("0110 1001", 0),
-        ("1110 1001 00000000000000000000000000000000", 0),
-        ("1010 1001", 11),
-    ] {
-        expect(answer, &sheet("00", 1, &format!("1 {ty}"), 0));
-    }
-    // A Fn by itself, and inside another type; 14 comes before 15, and 11 before both.
-    for (ty, answer) in [
-        ("1011 0 0000", 15),
-        ("1011 1 1001 0001 1001", 15),
-        ("0010 1011 0 0000", 0),
-        ("0111 0 1011 0 0000", 0),
-        ("0011 1011 0 0000", 0),
-        ("1101 0 1011 0 0000", 0),
-    ] {
-        let arg = format!("1 {ty}");
-        expect(answer, &sheet("00", 0, &arg, 0));
-        expect(answer, &sheet("11 0", 1, &arg, 0));
-        expect(14, &sheet("00", 1, &arg, 1));
-        expect(11, &sheet("01 0", 1, &format!("0 {ty}"), 1));
-    }
-    // As a return it is fine.
-    let returns = "101 000 00 00 00 0 1 1011 0 0000 00000 00000 00";
-    expect(0, &functions(&[returns]));
-    // 12 comes before 14 and 15: a struct `b` that holds itself.
-    let ring = "000 000 01 0 000001 0001 1";
-    for (throws, args, unwind) in [
-        (1, "00000", 1),
-        (0, "00001 00 1011 0 0000", 0),
-        (1, "00001 00 1011 0 0000", 1),
-    ] {
-        let function = format!("101 000 00 00 00 {throws} 0 {args} 00000 {unwind} 0");
-        expect(12, &functions(&[&function, ring]));
-        let answer = if unwind == 1 { 14 } else { 15 };
-        expect(answer, &functions(&[&function, "000 000 01 0 000000"]));
-    }
 }

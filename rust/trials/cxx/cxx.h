@@ -1,6 +1,6 @@
 // A small stand-in for the header of the crate cxx: what the text of a sheet
-// leans on, and no more. A Rust String, and the message of an exception, have Rust's
-// own functions behind them; who loads the text has them.
+// leans on, and no more. A Rust String has Rust's own functions behind it; who
+// loads the text has them.
 #ifndef TRIALS_CXX_H
 #define TRIALS_CXX_H
 
@@ -9,7 +9,6 @@
 #include <cstdint>
 #include <exception>
 #include <memory>
-#include <new>
 #include <string>
 #include <type_traits>
 #include <utility>
@@ -29,12 +28,6 @@ using Fat = std::array<std::uintptr_t, 2>;
 template <typename T>
 class impl;
 
-// The first argument of a constructor that takes another value's bits.
-struct unsafe_bitcopy_t final {
-  explicit unsafe_bitcopy_t() = default;
-};
-inline constexpr unsafe_bitcopy_t unsafe_bitcopy{};
-
 class String;
 extern "C" {
 void cxxbridge1$string$new(String *self) noexcept;
@@ -42,7 +35,6 @@ void cxxbridge1$string$from(String *self, char const *ptr, std::size_t len) noex
 void cxxbridge1$string$drop(String *self) noexcept;
 char const *cxxbridge1$string$ptr(String const *self) noexcept;
 std::size_t cxxbridge1$string$len(String const *self) noexcept;
-repr::PtrLen cxxbridge1$exception(char const *ptr, std::size_t len) noexcept;
 }
 
 class String final {
@@ -51,7 +43,6 @@ public:
     cxxbridge1$string$from(this, text, std::char_traits<char>::length(text));
   }
   String(String &&other) noexcept : repr(other.repr) { cxxbridge1$string$new(&other); }
-  String(unsafe_bitcopy_t, String const &bits) noexcept : repr(bits.repr) {}
   ~String() noexcept { cxxbridge1$string$drop(this); }
   std::string str() const { return {cxxbridge1$string$ptr(this), cxxbridge1$string$len(this)}; }
 
@@ -63,13 +54,7 @@ template <typename T>
 class Vec final {
 public:
   Vec(Vec &&other) noexcept;
-  Vec(unsafe_bitcopy_t, Vec const &bits) noexcept : repr(bits.repr) {}
   ~Vec() noexcept;
-  T const *data() const noexcept;
-  std::size_t size() const noexcept;
-
-private:
-  std::array<std::uintptr_t, 3> repr;
 };
 
 class Str final {
@@ -88,9 +73,6 @@ template <>
 class impl<Str> final {
 public:
   static Str new_unchecked(repr::Fat fat) noexcept { return fat; }
-  static repr::Fat repr(Str str) noexcept {
-    return {reinterpret_cast<std::uintptr_t>(str.ptr), str.len};
-  }
 };
 
 template <typename T>
@@ -101,7 +83,6 @@ public:
   std::size_t size() const noexcept { return len; }
 
 private:
-  friend impl<Slice<T>>;
   T *ptr;
   std::size_t len;
 };
@@ -109,9 +90,6 @@ private:
 template <typename T>
 class impl<Slice<T>> final {
 public:
-  static repr::Fat repr(Slice<T> slice) noexcept {
-    return {reinterpret_cast<std::uintptr_t>(slice.ptr), slice.len};
-  }
   static Slice<T> slice(repr::Fat fat) noexcept {
     return {reinterpret_cast<T *>(fat[0]), fat[1]};
   }
@@ -166,31 +144,6 @@ class impl<Error> final {
 public:
   static Error error(repr::PtrLen text) { return Error(text); }
 };
-
-namespace detail {
-// Takes the message of an exception over to Rust.
-class Fail final {
-public:
-  explicit Fail(repr::PtrLen &caught) noexcept : caught(caught) {}
-  void operator()(char const *what) noexcept {
-    caught = cxxbridge1$exception(what, std::char_traits<char>::length(what));
-  }
-
-private:
-  repr::PtrLen &caught;
-};
-} // namespace detail
-
-namespace behavior {
-template <typename Try, typename Fail>
-void trycatch(Try &&func, Fail &&fail) noexcept {
-  try {
-    func();
-  } catch (std::exception const &error) {
-    fail(error.what());
-  }
-}
-} // namespace behavior
 
 template <typename T>
 union ManuallyDrop {

@@ -1,14 +1,14 @@
 //! Sheets whose types C++ can form, and what their text needs around it.
 //!
 //! References are arguments, returns and slots of a Fn, and nothing else; opaque
-//! Rust types stand behind a pointer; Rust methods stand in their type's namespace,
+//! Rust types stand behind a pointer; methods stand in their type's namespace,
 //! and enums have none; a scope has a name once; C++ copies a type with pointer
 //! bit 0 bit by bit.
 
 use sheet::name::ADDED_KEYWORDS;
 use sheet::{
-    Arg, Form, Function, Item, ItemIndex, Kind, Lang, NameIndex, RUST_STRING, Rng, Sheet, Type,
-    generate, indirect, limit,
+    Arg, Form, Function, Item, ItemIndex, Kind, NameIndex, RUST_STRING, Rng, Sheet, Type, indirect,
+    limit,
 };
 use std::collections::HashSet;
 
@@ -164,18 +164,14 @@ impl Draft<'_> {
                 },
                 3 => Kind::CxxType { pointer },
                 4 => Kind::RustType { pointer: true },
-                _ => {
-                    let lang = generate::lang(self.rng);
-                    Kind::Function(Function {
-                        lang,
-                        rust_name: 0,
-                        form: Form::Free,
-                        throws: self.rng.one_in(3) && !lang.unwinds(),
-                        ret: None,
-                        args: Vec::new(),
-                        comment: Vec::new(),
-                    })
-                }
+                _ => Kind::Function(Function {
+                    rust_name: 0,
+                    form: Form::Free,
+                    throws: self.rng.one_in(3),
+                    ret: None,
+                    args: Vec::new(),
+                    comment: Vec::new(),
+                }),
             };
             let namespace = self.rng.pick(&self.paths).clone();
             let name = match kind {
@@ -248,14 +244,11 @@ impl Draft<'_> {
         }
         let self_type = function.form.self_item();
         let self_name = self_type.map(|item| self.sheet.item(item).name);
-        let mut scope = self.sheet.items[index].namespace.clone();
         if let Some(item) = self_type {
-            scope = self.sheet.item(item).namespace.clone();
-            if function.lang == Lang::Rust {
-                self.sheet.items[index].namespace = scope.clone();
-            }
+            self.sheet.items[index].namespace = self.sheet.item(item).namespace.clone();
         }
         let namespace = self.sheet.items[index].namespace.clone();
+        let mut scope = namespace.clone();
         scope.extend(self_name);
         let name = self.entity(&scope, &FUNCTIONS);
         self.sheet.items[index].name = name;
@@ -270,12 +263,7 @@ impl Draft<'_> {
             _ => Some(self.slot()),
         };
         // By a slot: clang++ warns of a template that C linkage returns by value.
-        if let Some(Type::Fn { .. }) = function.ret {
-            match &mut function.lang {
-                Lang::Rust => function.throws = true,
-                Lang::Cxx { elided, .. } => *elided = true,
-            }
-        }
+        function.throws |= matches!(function.ret, Some(Type::Fn { .. }));
         let count = match self.rng.below(20) {
             0 => limit::ARGUMENTS,
             _ => self.rng.below(5),
@@ -283,11 +271,9 @@ impl Draft<'_> {
         for _ in 0..count {
             let ty = match self.slot() {
                 Type::CxxVector(inner) => Type::RustVec(inner),
-                Type::Fn { .. } if function.lang.is_cxx() => Type::Atom(RUST_STRING),
                 ty => ty,
             };
-            let is_held = indirect(&self.sheet, &ty) && ty != Type::Atom(RUST_STRING);
-            let held = is_held && function.lang == Lang::Rust;
+            let held = indirect(&self.sheet, &ty) && ty != Type::Atom(RUST_STRING);
             let name = self.free(&ARGUMENTS, |draft, name| {
                 let chars = draft.sheet.name(name);
                 let repeated = function.args.iter().any(|arg| arg.name == name);
@@ -306,7 +292,6 @@ impl Draft<'_> {
     fn main(&mut self) {
         let name = self.name("main");
         let kind = Kind::Function(Function {
-            lang: Lang::Rust,
             rust_name: name,
             form: Form::Free,
             throws: false,
@@ -409,8 +394,7 @@ impl Draft<'_> {
     }
 }
 
-/// What stands before the text: every type, structs in the given order, and the free
-/// C++ functions.
+/// What stands before the text: every type, structs in the given order.
 pub fn declarations(sheet: &Sheet, order: &[u8]) -> String {
     let cxx = Cxx { sheet };
     let mut out = String::new();
@@ -451,43 +435,15 @@ pub fn declarations(sheet: &Sheet, order: &[u8]) -> String {
         }
         out += &cxx.within(item, &format!("struct {name} final {{\n{members}}};"));
     }
-    for item in &sheet.items {
-        if let Kind::Function(function) = &item.kind
-            && function.lang.is_cxx()
-            && function.form == Form::Free
-        {
-            let name = cxx.name(item.name);
-            let (ret, args) = (cxx.ret(function), cxx.args(function));
-            let noexcept = cxx.noexcept(function);
-            out += &cxx.within(item, &format!("{ret} {name}({args}){noexcept};"));
-        }
-    }
     out
 }
 
-/// What stands behind the text: that it has declared every free Rust function, and a
-/// shim for every C++ function.
+/// What stands behind the text: that it has declared every free function.
 pub fn assertions(sheet: &Sheet) -> String {
     let cxx = Cxx { sheet };
     let mut out = String::new();
     for item in &sheet.items {
         if let Kind::Function(function) = &item.kind
-            && function.lang.is_cxx()
-        {
-            if !sheet.header {
-                out += &format!(
-                    "static_assert(::std::is_same<decltype(&{}), {} (*)({}){}>::value, \"\");\n",
-                    cxx.shim(item, function),
-                    cxx.shim_ret(function),
-                    cxx.shim_params(function),
-                    if function.lang.unwinds() {
-                        ""
-                    } else {
-                        " noexcept"
-                    },
-                );
-            }
-        } else if let Kind::Function(function) = &item.kind
             && function.form == Form::Free
             && cxx.name(item.name) != "main"
         {
@@ -558,82 +514,7 @@ impl Cxx<'_> {
     }
 
     fn noexcept(&self, function: &Function) -> &'static str {
-        match function.throws || function.lang.unwinds() {
-            true => "",
-            false => " noexcept",
-        }
-    }
-
-    /// The name of a C++ function's shim, which stands in the function's namespace.
-    fn shim(&self, item: &Item, function: &Function) -> String {
-        let names = item.namespace.iter().map(|name| self.name(*name));
-        let names: Vec<&str> = names.collect();
-        let scope: String = names.iter().map(|name| format!("::{name}")).collect();
-        let self_type = function.form.self_item().map(|item| self.sheet.item(item));
-        let self_name = self_type.map(|item| self.name(item.name));
-        let version = ["cxxbridge1", "205"];
-        let parts = names.into_iter().chain(version).chain(self_name);
-        let symbol: Vec<&str> = parts.chain([self.name(function.rust_name)]).collect();
-        format!("{scope}::{}", symbol.join("$"))
-    }
-
-    /// How a value of the type crosses between the languages in a slot, or as a
-    /// return without one.
-    fn crossing(&self, ty: &Type) -> String {
-        match ty {
-            Type::RustBox(inner) | Type::UniquePtr(inner) => format!("{} *", self.ty(inner)),
-            Type::Ref { mutable, inner } => {
-                let constant = if *mutable { "" } else { " const" };
-                format!("{}{constant} *", self.ty(inner))
-            }
-            ty => self.ty(ty),
-        }
-    }
-
-    fn has_slot(&self, function: &Function) -> bool {
-        let elided = function.lang.is_elided();
-        let ret = function.ret.as_ref();
-        ret.is_some_and(|ret| function.throws || elided || indirect(self.sheet, ret))
-    }
-
-    fn shim_ret(&self, function: &Function) -> String {
-        match &function.ret {
-            _ if function.throws => "::rust::repr::PtrLen".into(),
-            Some(Type::Str | Type::SliceRef { .. }) if !self.has_slot(function) => {
-                "::rust::repr::Fat".into()
-            }
-            Some(ret) if !self.has_slot(function) => self.crossing(ret),
-            _ => "void".into(),
-        }
-    }
-
-    fn shim_params(&self, function: &Function) -> String {
-        let mut params = Vec::new();
-        if let Form::ConstMethod(item) | Form::MutMethod(item) = function.form {
-            let constant = match function.form {
-                Form::ConstMethod(_) => " const",
-                _ => "",
-            };
-            params.push(format!(
-                "{}{constant} &",
-                self.full_name(self.sheet.item(item))
-            ));
-        }
-        for arg in &function.args {
-            let ty = self.ty(&arg.ty);
-            params.push(match &arg.ty {
-                Type::RustBox(_) | Type::UniquePtr(_) => self.crossing(&arg.ty),
-                Type::RustVec(_) | Type::Atom(RUST_STRING) => format!("{ty} const *"),
-                other if indirect(self.sheet, other) => format!("{ty} *"),
-                _ => ty,
-            });
-        }
-        if let Some(ret) = &function.ret
-            && self.has_slot(function)
-        {
-            params.push(format!("{} *", self.crossing(ret)));
-        }
-        params.join(", ")
+        if function.throws { "" } else { " noexcept" }
     }
 
     fn ty(&self, ty: &Type) -> String {

@@ -2,8 +2,8 @@
 //! large ones.
 
 use sheet::{
-    Arg, Form, Function, Item, ItemIndex, Kind, Lang, NameIndex, Rng, Sheet, Type, encode,
-    generate, limit,
+    Arg, Form, Function, Item, ItemIndex, Kind, NameIndex, Rng, Sheet, Type, encode, generate,
+    limit,
 };
 
 /// Any sheet for the write service; one in 2,000 is full of functions.
@@ -61,21 +61,18 @@ fn a_function(rng: &mut Rng, number: usize, types: &[ItemIndex]) -> Function {
         0 => limit::ARGUMENTS,
         _ => rng.below(5),
     };
-    let lang = generate::lang(rng);
     let args = (0..arguments).map(|i| Arg {
         name: (number + i) as NameIndex,
         ty: match a_signature_type(rng, types) {
             Type::CxxVector(inner) => Type::RustVec(inner),
-            Type::Fn { .. } if lang.is_cxx() => Type::Str,
             ty => ty,
         },
     });
     let args = args.collect();
     Function {
-        lang,
         rust_name: number as NameIndex,
         form,
-        throws: rng.one_in(3) && !lang.unwinds(),
+        throws: rng.one_in(3),
         ret: rng.bit().then(|| a_signature_type(rng, types)),
         args,
         comment: vec![b" line".to_vec(); rng.below(3)],
@@ -182,7 +179,7 @@ fn other(rng: &mut Rng, name: NameIndex) -> Kind {
         },
         1 => Kind::CxxType { pointer },
         2 => Kind::RustType { pointer },
-        _ => function(generate::lang(rng), name, Vec::new()),
+        _ => function(name, Vec::new()),
     }
 }
 
@@ -200,9 +197,8 @@ fn struct_of(fields: Vec<Type>) -> Kind {
     }
 }
 
-fn function(lang: Lang, rust_name: NameIndex, args: Vec<Arg>) -> Kind {
+fn function(rust_name: NameIndex, args: Vec<Arg>) -> Kind {
     Kind::Function(Function {
-        lang,
         rust_name,
         form: Form::Free,
         throws: false,
@@ -259,40 +255,6 @@ pub const STORED_FUNCTIONS: &[u8] = include_bytes!("../../../vectors/bench/funct
 pub fn functions(arguments: usize) -> Sheet {
     let types = signature_types().into_iter().cycle();
     all_functions(&types.take(arguments).collect::<Vec<_>>())
-}
-
-/// The same as C++ functions.
-pub fn cxx_functions(arguments: usize) -> Sheet {
-    let mut sheet = functions(arguments);
-    set_lang(
-        &mut sheet,
-        Lang::Cxx {
-            unwind: false,
-            elided: false,
-        },
-    );
-    sheet
-}
-
-/// 255 throwing C++ functions with eight arguments, as in `throwing`.
-pub fn throwing_cxx_functions() -> Sheet {
-    let mut sheet = throwing();
-    set_lang(
-        &mut sheet,
-        Lang::Cxx {
-            unwind: false,
-            elided: true,
-        },
-    );
-    sheet
-}
-
-fn set_lang(sheet: &mut Sheet, lang: Lang) {
-    for item in &mut sheet.items {
-        if let Kind::Function(function) = &mut item.kind {
-            function.lang = lang;
-        }
-    }
 }
 
 /// `functions(8)` with names of 63 characters, in seven namespaces.
@@ -380,7 +342,7 @@ fn all_functions(types: &[Type]) -> Sheet {
         Item {
             namespace: Vec::new(),
             name: i as NameIndex,
-            kind: function(Lang::Rust, i as NameIndex, args.collect()),
+            kind: function(i as NameIndex, args.collect()),
         }
     });
     sheet.items = items.collect();
@@ -471,7 +433,7 @@ fn of_names(count: usize) -> Sheet {
         Item {
             namespace: Vec::new(),
             name: 0,
-            kind: function(Lang::Rust, 0, args.collect()),
+            kind: function(0, args.collect()),
         },
     ];
     sheet

@@ -88,18 +88,6 @@ fn all(count: u64) -> impl Iterator<Item = (String, Vec<u8>)> {
         ("1,023 names", sheets::many_names(limit::NAMES)),
         ("255 functions with 8 arguments", sheets::functions(8)),
         ("255 functions with 31 arguments", sheets::functions(31)),
-        (
-            "255 C++ functions with 8 arguments",
-            sheets::cxx_functions(8),
-        ),
-        (
-            "255 C++ functions with 31 arguments",
-            sheets::cxx_functions(31),
-        ),
-        (
-            "255 throwing C++ functions",
-            sheets::throwing_cxx_functions(),
-        ),
         ("255 structs in a chain", sheets::chain()),
         (
             "255 structs in a chain backwards",

@@ -40,10 +40,9 @@ fn every_edition() {
             (vec![first], 1),
             (vec![first, 0], 1),
             (vec![first, 0, 0, 0], 8),
-            // Of the name `a` an opaque type, a C++ function, and item kind 6.
+            // Of the name `a` an opaque type, and item kind 5.
             (vec![first, 1, 7, 8, 11, 0], 0),
-            (vec![first, 1, 7, 8, 13, 0, 0, 0], 0),
-            (vec![first, 1, 7, 8, 14], 5),
+            (vec![first, 1, 7, 8, 13], 5),
         ] {
             let wanted = if is_known { known } else { 2 };
             assert_eq!(compare::check(&sheet), Ok(wanted), "{sheet:02x?}");
@@ -88,7 +87,6 @@ fn limits_and_large_sheets_under_the_other_edition() {
         sheets::many_names(limit::NAMES),
         sheets::functions(8),
         sheets::functions(31),
-        sheets::cxx_functions(31),
         sheets::dense(),
         sheets::chain(),
     ];

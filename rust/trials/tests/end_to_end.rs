@@ -1,6 +1,6 @@
-//! From a sheet to calls: the service writes the glue, a compiler builds it, and
-//! this process loads it while it runs. C++ (cxx/mill.cc) calls the Rust functions
-//! below through it, and Rust calls C++ functions (cxx/kernel.cc).
+//! From a sheet to calls: the service writes the glue, a compiler builds it,
+//! this process loads it while it runs, and C++ (cxx/mill.cc) calls the Rust
+//! functions below through it.
 
 use sheet::{EDITIONS, desc};
 use std::cell::RefCell;
@@ -8,21 +8,12 @@ use std::cmp::Ordering;
 use std::ffi::{CStr, CString, c_char, c_int, c_void};
 use std::fs;
 use std::mem;
-use std::mem::{ManuallyDrop, MaybeUninit};
-use std::path::{Path, PathBuf};
+use std::path::Path;
 use std::process::Command;
 use std::ptr::{self, NonNull};
-use std::sync::atomic::{AtomicPtr, Ordering::Relaxed};
 use std::{slice, str};
 use trials::compare;
 use trials::compilers::{self, CXX, CXX_FLAGS, folder};
-
-/// A function of a loaded object, by its symbol. It must be called as what it is.
-macro_rules! shim {
-    ($object:expr, $name:expr, $($ty:tt)+) => {
-        mem::transmute::<*mut c_void, unsafe extern "C" $($ty)+>(symbol($object, $name))
-    };
-}
 
 const SHEET: &str = "
 rust-type mill::Job indirect
@@ -111,10 +102,27 @@ fn calls_through_the_glue() {
 }
 
 fn calls(edition: u8, text: &[u8]) {
+    let mut glue = b"#include \"mill.h\"\n".to_vec();
+    glue.extend(text);
+    glue.extend(b"#include \"mill.cc\"\n");
+    let made = Path::new(env!("CARGO_TARGET_TMPDIR"));
+    let source = made.join(format!("glue-{edition}.cc"));
+    fs::write(&source, glue).unwrap();
     for compiler in CXX {
-        let object = load(&build("mill", edition, compiler, text));
+        let object = made.join(format!("glue-{edition}-{compiler}.so"));
+        compilers::run(
+            Command::new(compiler)
+                .arg(compilers::standard(edition))
+                .args(CXX_FLAGS)
+                .args(["-O2", "-shared", "-fPIC", "-I"])
+                .arg(folder())
+                .arg(&source)
+                .arg("-o")
+                .arg(&object),
+        );
+        let run = load(&object);
         // SAFETY: it is the function `run` of mill.cc.
-        let wrong = unsafe { shim!(object, "run", fn() -> *const c_char)() };
+        let wrong = unsafe { run() };
         if !wrong.is_null() {
             // SAFETY: a string literal of mill.cc, which stays loaded.
             panic!("{edition}, {compiler}: {:?}", unsafe {
@@ -126,27 +134,7 @@ fn calls(edition: u8, text: &[u8]) {
     }
 }
 
-/// The text between its pack's header and the rest of its pack, as a shared object.
-fn build(pack: &str, edition: u8, compiler: &str, text: &[u8]) -> PathBuf {
-    let mut glue = format!("#include \"{pack}.h\"\n").into_bytes();
-    glue.extend(text);
-    glue.extend(format!("#include \"{pack}.cc\"\n").into_bytes());
-    let made = Path::new(env!("CARGO_TARGET_TMPDIR"));
-    let source = made.join(format!("{pack}-{edition}-{compiler}.cc"));
-    fs::write(&source, glue).unwrap();
-    let object = made.join(format!("{pack}-{edition}-{compiler}.so"));
-    compilers::run(
-        Command::new(compiler)
-            .arg(compilers::standard(edition))
-            .args(CXX_FLAGS)
-            .args(["-O2", "-shared", "-fPIC", "-I"])
-            .arg(folder())
-            .arg(&source)
-            .arg("-o")
-            .arg(&object),
-    );
-    object
-}
+type Run = unsafe extern "C" fn() -> *const c_char;
 
 unsafe extern "C" {
     fn dlopen(path: *const c_char, flags: c_int) -> *mut c_void;
@@ -154,23 +142,17 @@ unsafe extern "C" {
     fn dlerror() -> *const c_char;
 }
 
-fn load(object: &Path) -> *mut c_void {
+fn load(object: &Path) -> Run {
     const RTLD_NOW: c_int = 2;
     let path = CString::new(object.to_str().unwrap()).unwrap();
-    // SAFETY: as dlopen(3) has it.
+    // SAFETY: as dlopen(3) has it; `run` has the type that mill.cc gives it.
     unsafe {
         let object = dlopen(path.as_ptr(), RTLD_NOW);
         assert!(!object.is_null(), "{:?}", CStr::from_ptr(dlerror()));
-        object
+        let run = dlsym(object, c"run".as_ptr());
+        assert!(!run.is_null());
+        mem::transmute::<*mut c_void, Run>(run)
     }
-}
-
-fn symbol(object: *mut c_void, name: &str) -> *mut c_void {
-    let name = CString::new(name).unwrap();
-    // SAFETY: as dlsym(3) has it.
-    let symbol = unsafe { dlsym(object, name.as_ptr()) };
-    assert!(!symbol.is_null(), "{name:?}");
-    symbol
 }
 
 thread_local! {
@@ -214,7 +196,6 @@ struct SharedPart {
 }
 
 /// A `&str` or a slice of bytes; and what went wrong, if its pointer is not null.
-#[derive(Clone, Copy)]
 #[repr(C)]
 struct Fat {
     ptr: *const u8,
@@ -237,14 +218,6 @@ impl Fat {
     fn text<'a>(self) -> &'a str {
         str::from_utf8(self.bytes()).unwrap()
     }
-
-    /// For a slot.
-    fn none() -> Self {
-        Fat {
-            ptr: ptr::null(),
-            len: 0,
-        }
-    }
 }
 
 /// The outcome of a throwing function; its value goes to the slot.
@@ -252,7 +225,10 @@ unsafe fn outcome<T>(result: Result<T, &'static str>, slot: *mut T) -> Fat {
     match result {
         Ok(value) => unsafe {
             slot.write(value);
-            Fat::none()
+            Fat {
+                ptr: ptr::null(),
+                len: 0,
+            }
         },
         Err(message) => Fat::of(message.as_bytes()),
     }
@@ -506,367 +482,4 @@ extern "C" fn string_ptr(this: &String) -> *const u8 {
 #[unsafe(export_name = "cxxbridge1$string$len")]
 extern "C" fn string_len(this: &String) -> usize {
     this.len()
-}
-
-// The message of a C++ exception, which C++ hands over in the place of a Result's
-// error.
-
-#[unsafe(export_name = "cxxbridge1$exception")]
-unsafe extern "C" fn exception(ptr: *const u8, len: usize) -> Fat {
-    let message = Fat { ptr, len }.text().to_string();
-    Fat::of(message.leak().as_bytes())
-}
-
-// Rust calls C++.
-
-const KERNELS: &str = "
-rust-type work::Job indirect
-enum work::Tool u8
-struct work::Pair { i32, f64 }
-struct work::Plan indirect { String, u32 }
-cxx-type shape::Path indirect
-
-cxx-fn kernel::add(a: u32, b: i64, c: f64, d: bool) -> i64
-cxx-fn kernel::flip(tool: ::work::Tool) -> ::work::Tool
-cxx-fn kernel::turn(pair: ::work::Pair, tool: ::work::Tool) -> ::work::Pair
-cxx-fn kernel::between(begin: *const u8, end: *const u8) -> usize
-cxx-fn kernel::find(text: &str, bytes: &[u8]) -> &str
-/// Not written.
-cxx-fn kernel::find_in as find_from elided (text: &str, from: usize) -> &str
-cxx-fn kernel::half(bytes: &mut [u8]) -> &mut [u8]
-cxx-fn kernel::second(first: &::work::Job, second: &::work::Job) -> &::work::Job
-cxx-fn kernel::first elided (first: &mut ::work::Job, second: &mut ::work::Job) -> &mut ::work::Job
-cxx-fn kernel::count(counter: &mut u32, by: u32)
-
-cxx-fn kernel::keep(first: Box<::work::Job>, second: Box<::work::Job>) -> Box<::work::Job>
-cxx-fn kernel::join(one: UniquePtr<::shape::Path>, two: UniquePtr<::shape::Path>) -> UniquePtr<::shape::Path>
-cxx-fn kernel::greet(self: String, name: String) -> String
-cxx-fn kernel::longer(one: Vec<u8>, two: Vec<u8>) -> Vec<u8>
-cxx-fn kernel::plan(first: ::work::Plan, second: ::work::Plan) -> ::work::Plan
-cxx-fn kernel::reversed(numbers: [u32; 3]) -> [u32; 3]
-cxx-fn kernel::shared(one: SharedPtr<::shape::Path>, two: SharedPtr<::shape::Path>) -> SharedPtr<::shape::Path>
-
-cxx-fn kernel::start as open assoc ::shape::Path (number: i32) -> UniquePtr<::shape::Path>
-cxx-fn kernel::length const ::shape::Path (from: i32, to: i32) -> i32
-cxx-fn kernel::label const ::shape::Path (text: &str) -> &str
-cxx-fn kernel::advance mut ::shape::Path (by: i32) -> &mut ::shape::Path
-
-cxx-fn kernel::below throws (value: u32, limit: u32) -> u32
-cxx-fn kernel::other throws (first: &::work::Job, second: &::work::Job) -> &::work::Job
-cxx-fn kernel::give throws elided (job: Box<::work::Job>, back: bool) -> Box<::work::Job>
-cxx-fn kernel::text throws (text: &str, from: usize) -> &str
-cxx-fn kernel::from throws assoc ::shape::Path (error: ::work::Plan) -> UniquePtr<::shape::Path>
-cxx-fn kernel::limit throws mut ::shape::Path (most: i32)
-cxx-fn kernel::stop unwind (code: u32) -> u32
-";
-
-/// What C++ drops, and what an exception passes.
-const DROPPED: &str = "
-drop one
-drop four
-drop a guard
-";
-
-/// Of either edition, by its standard.
-#[test]
-fn calls_into_the_kernels() {
-    let mut sheet = desc::parse(KERNELS).unwrap();
-    for edition in EDITIONS {
-        sheet.edition = edition;
-        let text = compare::text(&sheet);
-        for compiler in CXX {
-            let object = load(&build("kernel", edition, compiler, &text));
-            // SAFETY: the functions below call each shim as what the text declares,
-            // and give C++ what it then owns.
-            unsafe {
-                values(object);
-                given_away(object);
-                paths(object);
-                thrown(object);
-                unwound(object);
-            }
-            let dropped = CALLS.take().join("\n");
-            assert_eq!(dropped, DROPPED.trim(), "{edition}, {compiler}");
-        }
-    }
-}
-
-/// The shim of a C++ function in namespace `kernel`.
-macro_rules! kernel {
-    ($object:expr, $name:literal, $($ty:tt)+) => {
-        shim!($object, concat!("kernel$cxxbridge1$205$", $name), $($ty)+)
-    };
-}
-
-fn job(id: u32, name: &str) -> Box<Job> {
-    Box::new(Job {
-        id,
-        name: name.into(),
-        stopped: false,
-    })
-}
-
-fn text(text: &str) -> Fat {
-    Fat::of(text.as_bytes())
-}
-
-/// What a shim has written to its slot.
-unsafe fn slot<T>(call: impl FnOnce(*mut T)) -> T {
-    let mut slot = MaybeUninit::uninit();
-    call(slot.as_mut_ptr());
-    unsafe { slot.assume_init() }
-}
-
-/// The outcome of a throwing shim: an error's message, which it has given away.
-unsafe fn caught(outcome: Fat) -> Option<String> {
-    if outcome.ptr.is_null() {
-        return None;
-    }
-    let message = ptr::slice_from_raw_parts_mut(outcome.ptr.cast_mut(), outcome.len);
-    let message = unsafe { Box::from_raw(message) };
-    Some(String::from_utf8(message.into_vec()).unwrap())
-}
-
-unsafe fn values(object: *mut c_void) {
-    unsafe {
-        let add = kernel!(object, "add", fn(u32, i64, f64, bool) -> i64);
-        assert_eq!(add(7, -9, 0.5, true), 7 - 90 + 50 + 1000);
-        let flip = kernel!(object, "flip", fn(u8) -> u8);
-        assert_eq!(flip(3), 252);
-        let turn = kernel!(object, "turn", fn(Pair, u8) -> Pair);
-        let (number, factor) = (-5, 2.5);
-        let pair = turn(Pair { number, factor }, 4);
-        assert_eq!((pair.number, pair.factor), (-20, 1.25));
-        let mut bytes = [1u8, 2, 3, 4, 5];
-        let between = kernel!(object, "between", fn(*const u8, *const u8) -> usize);
-        assert_eq!(between(&bytes[1], &bytes[4]), 3);
-        let find = kernel!(object, "find", fn(Fat, Fat) -> Fat);
-        assert_eq!(find(text("spindle"), Fat::of(&bytes[..3])).text(), "dle");
-        let find_from = kernel!(object, "find_from", fn(Fat, usize, *mut Fat));
-        let found = slot(|slot| find_from(text("spindle"), 2, slot));
-        assert_eq!(found.text(), "indle");
-        let half = kernel!(object, "half", fn(Fat) -> Fat);
-        let start = bytes.as_mut_ptr();
-        let rest = half(Fat { ptr: start, len: 5 });
-        assert_eq!((rest.ptr, rest.len), (start.add(2).cast_const(), 3));
-        assert_eq!(bytes, [1, 2, 4, 4, 5]);
-
-        let [mut one, mut two] = [job(1, "one"), job(2, "two")];
-        let second = kernel!(object, "second", fn(&Job, &Job) -> *const Job);
-        assert!(ptr::eq(second(&one, &two), &*two));
-        let first = kernel!(object, "first", fn(&mut Job, &mut Job, *mut *mut Job));
-        let found = slot(|slot| first(&mut one, &mut two, slot));
-        assert!(ptr::eq(found, &*one));
-        let mut counter = 40;
-        let count = kernel!(object, "count", fn(&mut u32, u32));
-        count(&mut counter, 2);
-        assert_eq!(counter, 42);
-    }
-}
-
-unsafe fn given_away(object: *mut c_void) {
-    unsafe {
-        let [one, two] = [job(1, "one"), job(2, "two")].map(Box::into_raw);
-        let keep = kernel!(object, "keep", fn(*mut Job, *mut Job) -> *mut Job);
-        let kept = Box::from_raw(keep(one, two));
-        assert_eq!((kept.id, kept.name.as_str()), (2, "two"));
-        assert!(!kept.stopped);
-
-        let strings = ["good day", "mill"].map(|text| ManuallyDrop::new(text.to_string()));
-        type Greet = *const ManuallyDrop<String>;
-        let greet = kernel!(object, "greet", fn(Greet, Greet, *mut String));
-        let greeting = slot(|slot| greet(&strings[0], &strings[1], slot));
-        assert_eq!(greeting, "good day, mill");
-
-        let vecs = [vec![1, 2, 3], vec![4, 5]].map(ManuallyDrop::new);
-        type Longer = *const ManuallyDrop<Vec<u8>>;
-        let longer = kernel!(object, "longer", fn(Longer, Longer, *mut Vec<u8>));
-        let found = slot(|slot| longer(&vecs[0], &vecs[1], slot));
-        assert_eq!(found, [1, 2, 3]);
-
-        let named = |name: &str, count| {
-            ManuallyDrop::new(Plan {
-                name: name.into(),
-                count,
-            })
-        };
-        let mut plans = [named("crown", 5), named("bridge", 3)];
-        let [first, second] = &mut plans;
-        type Given = *mut ManuallyDrop<Plan>;
-        let plan = kernel!(object, "plan", fn(Given, Given, *mut Plan));
-        let plan = slot(|slot| plan(first, second, slot));
-        assert_eq!((plan.name.as_str(), plan.count), ("crown and bridge", 2));
-
-        let mut numbers = [1, 20, 300];
-        let reversed = kernel!(object, "reversed", fn(*mut [u32; 3], *mut [u32; 3]));
-        let found = slot(|slot| reversed(&mut numbers, slot));
-        assert_eq!(found, [300, 20, 1]);
-    }
-}
-
-/// A C++ type in another namespace than its functions: both sorts of methods,
-/// associated functions, and pointers to it.
-unsafe fn paths(object: *mut c_void) {
-    unsafe {
-        let alive = shim!(object, "kernel_alive", fn() -> i32);
-        let drop_path = shim!(object, "kernel_drop_path", fn(*mut Part));
-        assert_eq!(alive(), 0);
-        let open = kernel!(object, "Path$open", fn(i32) -> *mut Part);
-        let [one, two] = [open(3), open(4)];
-        assert_eq!(((*one).number, (*two).number, alive()), (3, 4, 2));
-        let length = kernel!(object, "Path$length", fn(*const Part, i32, i32) -> i32);
-        assert_eq!(length(one, 5, 7), 3493);
-        let label = kernel!(object, "Path$label", fn(*const Part, Fat) -> Fat);
-        assert_eq!(label(one, text("inlay")).text(), "inlay");
-        let advance = kernel!(object, "Path$advance", fn(*mut Part, i32) -> *mut Part);
-        assert_eq!(advance(two, 5), two);
-        assert_eq!((*two).number, 9);
-        let join = kernel!(object, "join", fn(*mut Part, *mut Part) -> *mut Part);
-        assert_eq!(join(one, two), one);
-        assert_eq!(((*one).number, alive()), (39, 1));
-        drop_path(one);
-
-        let share = shim!(object, "kernel_share", fn(i32, *mut SharedPart));
-        let drop_shared = shim!(object, "kernel_drop_shared", fn(*mut SharedPart));
-        let mut both = [slot(|slot| share(1, slot)), slot(|slot| share(2, slot))];
-        let [one, two] = &mut both;
-        type Given = *mut SharedPart;
-        let shared = kernel!(object, "shared", fn(Given, Given, Given));
-        let mut sum = slot(|slot| shared(one, two, slot));
-        assert_eq!(((*sum.part).number, alive()), (3, 1));
-        // Both were moved from.
-        assert!(one.part.is_null() && two.part.is_null());
-        drop_shared(&mut sum);
-        assert_eq!(alive(), 0);
-    }
-}
-
-/// Throwing functions with both outcomes.
-unsafe fn thrown(object: *mut c_void) {
-    unsafe {
-        let mut left = 0;
-        let below = kernel!(object, "below", fn(u32, u32, *mut u32) -> Fat);
-        assert_eq!(caught(below(1, 9, &mut left)), None);
-        assert_eq!(left, 8);
-        let message = caught(below(9, 1, &mut left)).unwrap();
-        assert_eq!((message.as_str(), left), ("over the limit", 8));
-
-        let [one, two] = [job(1, "one"), job(2, "two")];
-        let mut found: *const Job = ptr::null();
-        let other = kernel!(object, "other", fn(&Job, &Job, *mut *const Job) -> Fat);
-        assert_eq!(caught(other(&one, &two, &mut found)), None);
-        assert!(ptr::eq(found, &*two));
-        let message = caught(other(&one, &one, &mut found)).unwrap();
-        assert_eq!(message, "one and the same");
-
-        let mut back: *mut Job = ptr::null_mut();
-        let give = kernel!(object, "give", fn(*mut Job, bool, *mut *mut Job) -> Fat);
-        assert_eq!(
-            caught(give(Box::into_raw(job(3, "three")), true, &mut back)),
-            None
-        );
-        assert_eq!(Box::from_raw(back).name, "three");
-        back = ptr::null_mut();
-        let message = caught(give(Box::into_raw(job(4, "four")), false, &mut back));
-        assert_eq!(message.as_deref(), Some("kept"));
-        assert!(back.is_null());
-
-        let mut rest = Fat::none();
-        let text_from = kernel!(object, "text", fn(Fat, usize, *mut Fat) -> Fat);
-        assert_eq!(caught(text_from(text("crown"), 2, &mut rest)), None);
-        assert_eq!(rest.text(), "own");
-        let message = caught(text_from(text("crown"), 6, &mut rest)).unwrap();
-        assert_eq!(message, "too short a text");
-
-        let mut path: *mut Part = ptr::null_mut();
-        type Given = *mut ManuallyDrop<Plan>;
-        let from = kernel!(object, "Path$from", fn(Given, *mut *mut Part) -> Fat);
-        let mut plan = ManuallyDrop::new(Plan {
-            name: "bridge".into(),
-            count: 0,
-        });
-        let message = caught(from(&mut plan, &mut path)).unwrap();
-        assert_eq!(message, "no path from bridge");
-        assert!(path.is_null());
-        plan.name = "crown".into();
-        plan.count = 6;
-        assert_eq!(caught(from(&mut plan, &mut path)), None);
-        assert_eq!((*path).number, 6);
-
-        let limit = kernel!(object, "Path$limit", fn(*mut Part, i32) -> Fat);
-        assert_eq!(caught(limit(path, 8)), None);
-        assert_eq!((*path).number, 8);
-        let message = caught(limit(path, 7)).unwrap();
-        assert_eq!(message, "the path is too long");
-        assert_eq!((*path).number, 8);
-        shim!(object, "kernel_drop_path", fn(*mut Part))(path);
-    }
-}
-
-type Stop = unsafe extern "C-unwind" fn(u32) -> u32;
-
-static STOP: AtomicPtr<c_void> = AtomicPtr::new(ptr::null_mut());
-
-fn stop_code(code: u32) -> u32 {
-    // SAFETY: the shim of `stop`, which may unwind.
-    unsafe { mem::transmute::<*mut c_void, Stop>(STOP.load(Relaxed))(code) }
-}
-
-/// An exception goes through Rust, which C++ has called; what Rust holds is dropped.
-unsafe fn unwound(object: *mut c_void) {
-    struct Guard;
-    impl Drop for Guard {
-        fn drop(&mut self) {
-            call!("drop a guard");
-        }
-    }
-    extern "C-unwind" fn through() {
-        let _guard = Guard;
-        stop_code(10);
-        call!("not stopped");
-    }
-    STOP.store(symbol(object, "kernel$cxxbridge1$205$stop"), Relaxed);
-    assert_eq!(stop_code(3), 4);
-    unsafe {
-        type Through = extern "C-unwind" fn();
-        let unwind = shim!(object, "kernel_unwind", fn(Through) -> *const c_char);
-        let caught = unwind(through);
-        assert!(!caught.is_null());
-        assert_eq!(CStr::from_ptr(caught), c"stopped");
-    }
-}
-
-#[unsafe(export_name = "work$cxxbridge1$205$Job$operator$sizeof")]
-extern "C" fn work_job_size() -> usize {
-    size_of::<Job>()
-}
-
-#[unsafe(export_name = "work$cxxbridge1$205$Job$operator$alignof")]
-extern "C" fn work_job_align() -> usize {
-    align_of::<Job>()
-}
-
-#[unsafe(export_name = "kernel_drop_job")]
-unsafe extern "C" fn kernel_drop_job(job: *mut Job) {
-    unsafe { drop_job(job) }
-}
-
-#[unsafe(export_name = "kernel_new_vec")]
-unsafe extern "C" fn kernel_new_vec(vec: *mut Vec<u8>) {
-    unsafe { vec.write(Vec::new()) }
-}
-
-#[unsafe(export_name = "kernel_drop_vec")]
-unsafe extern "C" fn kernel_drop_vec(vec: *mut Vec<u8>) {
-    unsafe { vec.drop_in_place() }
-}
-
-#[unsafe(export_name = "kernel_vec_data")]
-extern "C" fn kernel_vec_data(vec: &Vec<u8>) -> *const u8 {
-    vec.as_ptr()
-}
-
-#[unsafe(export_name = "kernel_vec_size")]
-extern "C" fn kernel_vec_size(vec: &Vec<u8>) -> usize {
-    vec.len()
 }

@@ -5,8 +5,7 @@
 use bridgetext::Refusal;
 use sheet::name::{self, ADDED_KEYWORDS, ALTERNATIVE_TOKENS, KEYWORDS};
 use sheet::{
-    Arg, CXX_STRING, EDITIONS, Form, Function, Item, Kind, Lang, NameIndex, Sheet, Type, encode,
-    limit,
+    Arg, CXX_STRING, EDITIONS, Form, Function, Item, Kind, NameIndex, Sheet, Type, encode, limit,
 };
 use std::collections::BTreeSet;
 use trials::compare;
@@ -482,7 +481,6 @@ fn function(rust_name: NameIndex, form: Form, args: &[NameIndex]) -> Kind {
         ty: Type::Atom(CXX_STRING),
     });
     Kind::Function(Function {
-        lang: Lang::Rust,
         rust_name,
         form,
         throws: true,

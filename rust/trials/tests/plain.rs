@@ -87,8 +87,6 @@ fn sheets_that_are_timed() {
         sheets::long_names(),
         sheets::deep_arguments(),
         sheets::throwing(),
-        sheets::cxx_functions(8),
-        sheets::throwing_cxx_functions(),
     ] {
         assert!(one_of_the_crate(&encode(&sheet)).is_ok());
     }

@@ -1,20 +1,17 @@
--- Written by tools/proofkit from answers/judge_in.tpl (89dc15f9 c5c1475b).
+-- Written by tools/proofkit from answers/judge_in.tpl (92a0e061 14787643).
 use borrow.Author.Rules.{rules}
-use mathlib.Core.Path.{sym, ◌∙◌}
-use Rattle.check_sheet.specs.Ruled.{ruled_items}
-use Rattle.check_sheet.proofs.CheckLaws.{behind_parts}
+use mathlib.Core.Path.{sym, ap, ◌∙◌}
+use Rattle.check_sheet.specs.Ruled.{ringed, ruled_items}
 use Rattle.check_sheet.proofs.judge_in.Statement.{statement}
 use Rattle.check_sheet.proofs.judge_in.Tie as tie
-
-judge-ring-requires : tie.Need-judge-ring-requires
-judge-ring-requires c κs = (c.before.before.before.before.before.before.before.before.before.requires.0.whole, c.before.before.before.before.before.before.before.before.before.requires.1)
 
 returns : tie.Need-returns
 unfolding ruled_items
 returns c = rw (sym c.before.before.before.judge_parts.ensures ∙ c.before.parts.given.1)
 
 returns-2 : tie.Need-returns-2
-returns-2 c = behind_parts _ c.before.before.before.before.before.judge_parts.ensures c.before.before.before.enum_told.given.1 c.before.ring_in.ensures c.judge-ring.ensures
+unfolding ruled_items
+returns-2 c = rw (sym c.before.before.before.before.before.judge_parts.ensures ∙ c.before.before.before.enum_told.given.1) (c.judge-ring.ensures ∙ ap ringed c.before.ring_in.ensures)
 
 pub judge-in-spec : {M : Type 1} → statement M
 judge-in-spec =
@@ -24,6 +21,6 @@ judge-in-spec =
     (λ c. search rules)
     (λ c. search rules)
     (λ c κs. search rules)
-    judge-ring-requires
+    (λ c κs. search rules)
     returns
     returns-2)

@@ -1,6 +1,7 @@
--- Written by tools/proofkit from answers/same_symbol.tpl (8aee35a1 79e2809b).
+-- Written by tools/proofkit from answers/same_symbol.tpl (97570f89 0254f149).
 use borrow.Author.Rules.{rules}
 use Rattle.lexical.proofs.BoolLaws.{not-true, not-false}
+use Rattle.clash.proofs.ItemLaws.{function_kind}
 use Rattle.clash.proofs.ViewLaws.{symbol_apart, symbol_unlike, symbol_alike}
 use Rattle.clash.proofs.same_symbol.Statement.{statement}
 use Rattle.clash.proofs.same_symbol.Tie as tie
@@ -9,10 +10,10 @@ returns : tie.Need-returns
 returns c = symbol_apart c.before.before.before.before.before.before.requires.0.whole c.before.before.before.before.before.before.requires.1 c.before.before.before.before.before.before.requires.2 c.before.same-namespace.ensures c.before.before.before.before.before.before.requires.3 c.before.before.before.before.before.before.requires.4 (not-true _ c.if1.true)
 
 function-requires : tie.Need-function-requires
-function-requires c κs = (c.before.before.before.before.before.before.requires.0.whole, c.before.before.before.before.before.before.requires.1, c.before.before.before.before.before.before.requires.3)
+function-requires c κs = (c.before.before.before.before.before.before.requires.0.whole, c.before.before.before.before.before.before.requires.1, function_kind _ c.before.before.before.before.before.before.requires.3)
 
 function-requires-2 : tie.Need-function-requires-2
-function-requires-2 c κs = (c.before.before.before.before.before.before.before.requires.0.whole, c.before.before.before.before.before.before.before.requires.2, c.before.before.before.before.before.before.before.requires.4)
+function-requires-2 c κs = (c.before.before.before.before.before.before.before.requires.0.whole, c.before.before.before.before.before.before.before.requires.2, function_kind _ c.before.before.before.before.before.before.before.requires.4)
 
 same-name-requires : tie.Need-same-name-requires
 same-name-requires c κs = (c.before.before.before.before.before.before.before.before.requires.0.whole.named, c.before.before.before.before.before.before.before.before.requires.0.digested, c.before.function.ensures.1.view.named, c.function2.ensures.1.view.named)

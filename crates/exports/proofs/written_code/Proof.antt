@@ -2,7 +2,7 @@
 use borrow.Author.Rules.{rules}
 use mathlib.Core.Path.{sym, ap, ◌∙◌}
 use Rattle.services.specs.Services.{written_code}
-use Rattle.exports.proofs.CodeLaws.{handed_on_lem, length_fits, length_code}
+use Rattle.exports.proofs.CodeLaws.{handed_on, length_fits, length_code}
 use Rattle.exports.proofs.written_code.Statement.{statement}
 use Rattle.exports.proofs.written_code.Tie as tie
 
@@ -13,7 +13,7 @@ returns : tie.Need-returns
 returns c = length_code c.before.w.given.1 c.before.before.before.requires
 
 returns-2 : tie.Need-returns-2
-returns-2 c = handed_on_lem (record { sfits = c.refusal-code.type-inv }) (c.refusal-code.ensures ∙ ap written_code (sym c.before.before.w2.given.1))
+returns-2 c = handed_on (record { sfits = c.refusal-code.type-inv }) (c.refusal-code.ensures ∙ ap written_code (sym c.before.before.w2.given.1))
 
 pub written-code-spec : {M : Type 1} → statement M
 written-code-spec =

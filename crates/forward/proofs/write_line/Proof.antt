@@ -1,4 +1,4 @@
--- Written by tools/proofkit from answers/write_line.tpl (3c19efd4 2702bb0c).
+-- Written by tools/proofkit from answers/write_line.tpl (920e22b8 917a8ff5).
 use borrow.Author.Rules.{rules}
 use mathlib.Core.Path.{refl}
 use Rattle.sink.proofs.SinkLaws.{wrote_nil}
@@ -21,9 +21,6 @@ returns-5 c = line_written c.before.before.before.before.requires.1 c.enum-told5
 returns-6 : tie.Need-returns-6
 returns-6 c = line_written c.before.before.before.before.requires.1 c.enum-told6.given.1 refl (wrote_nil _)
 
-returns-7 : tie.Need-returns-7
-returns-7 c = line_written c.before.before.before.before.requires.1 c.enum-told7.given.1 refl (wrote_nil _)
-
 pub write-line-spec : {M : Type 1} → statement M
 write-line-spec =
     tie.close
@@ -39,7 +36,6 @@ write-line-spec =
     (λ c. search rules)
     (λ c. search rules)
     (λ c. search rules)
-    (λ c. search rules)
     returns
     (λ c. search rules)
     (λ c. search rules)
@@ -48,5 +44,4 @@ write-line-spec =
     (λ c. search rules)
     returns-4
     returns-5
-    returns-6
-    returns-7)
+    returns-6)

@@ -1,4 +1,4 @@
--- Written by tools/proofkit from answers/needs_forward_declaration.tpl (9ec51c94 11e2f10e).
+-- Written by tools/proofkit from answers/needs_forward_declaration.tpl (4328c8fe 0cdea716).
 use borrow.Author.Rules.{rules}
 use mathlib.Core.Path.{refl}
 use Rattle.nested.proofs.ViewLaws.{needs_kind, needs_enum, enum_kind}
@@ -26,9 +26,6 @@ returns-5 c = needs_kind _ _ _ _ c.before.before.kind_at.ensures c.enum-told5.gi
 returns-6 : tie.Need-returns-6
 returns-6 c = needs_kind _ _ _ _ c.before.before.kind_at.ensures c.enum-told6.given.1 refl
 
-returns-7 : tie.Need-returns-7
-returns-7 c = needs_kind _ _ _ _ c.before.before.kind_at.ensures c.enum-told7.given.1 refl
-
 pub needs-forward-declaration-spec : {M : Type 1} → statement M
 needs-forward-declaration-spec =
     tie.close
@@ -42,11 +39,9 @@ needs-forward-declaration-spec =
     (λ c. search rules)
     (λ c. search rules)
     (λ c. search rules)
-    (λ c. search rules)
     returns
     returns-2
     returns-3
     returns-4
     returns-5
-    returns-6
-    returns-7)
+    returns-6)

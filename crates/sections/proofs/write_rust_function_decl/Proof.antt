@@ -1,4 +1,4 @@
--- Written by tools/proofkit from answers/write_rust_function_decl.tpl (89eb058d 076af9d2).
+-- Written by tools/proofkit from answers/write_rust_function_decl.tpl (acdf8fbf 51cb158f).
 use borrow.Author.Rules.{rules}
 use native.Mathlib.Omega.{arith}
 use Rattle.bridge.specs.Write.{write_rust_function_decl}
@@ -6,12 +6,8 @@ use Rattle.pieces.proofs.TextPieces.{some_function_decl}
 use Rattle.out.proofs.PlaceLaws.{from_place}
 use Rattle.sections.proofs.StateLaws.{representing_stood, stood_set, stood_turned, stood_asked, stood_ready, stood_placed}
 use Rattle.sections.proofs.StateLaws.{stood_standing, stood_listed, runs_declared}
-use Rattle.sections.proofs.CxxLaws.{rust_function_lem}
 use Rattle.sections.proofs.write_rust_function_decl.Statement.{statement}
 use Rattle.sections.proofs.write_rust_function_decl.Tie as tie
-
-function-requires : tie.Need-function-requires
-function-requires c κs = (c.before.before.before.before.before.before.requires.0.tabled, c.before.before.before.before.before.before.requires.2, rust_function_lem c.before.before.before.before.before.before.requires.3)
 
 load-summary-requires : tie.Need-load-summary-requires
 load-summary-requires c κs = (c.before.before.before.before.before.before.before.before.before.requires.0.tabled, c.before.before.function.ensures.1, c.before.before.before.before.before.before.before.before.before.requires.4, c.before.before.before.before.before.before.before.before.before.requires.5)
@@ -42,7 +38,7 @@ pub write-rust-function-decl-spec : {M : Type 1} → statement M
 write-rust-function-decl-spec =
     tie.close
     (tie.spec
-    function-requires
+    (λ c κs. search rules)
     load-summary-requires
     set-namespace-requires
     begin-extern-c-requires

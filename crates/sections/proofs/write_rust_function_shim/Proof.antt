@@ -1,4 +1,4 @@
--- Written by tools/proofkit from answers/write_rust_function_shim.tpl (0497fb9a 08781fc7).
+-- Written by tools/proofkit from answers/write_rust_function_shim.tpl (99e4d7ea 420b293b).
 use borrow.Author.Rules.{rules}
 use native.Mathlib.Omega.{arith}
 use mathlib.Core.Path.{sym, ◌∙◌}
@@ -8,12 +8,8 @@ use Rattle.out.proofs.PlaceLaws.{from_place}
 use Rattle.sections.proofs.StateLaws.{representing_stood, stood_set, stood_asked, stood_standing, stood_listed}
 use Rattle.sections.proofs.StateLaws.{runs_as, runs_then, runs_asked, runs_set, runs_written}
 use Rattle.sections.proofs.ShimLaws.{hidden_shim, shown_shim}
-use Rattle.sections.proofs.CxxLaws.{rust_function_lem}
 use Rattle.sections.proofs.write_rust_function_shim.Statement.{statement}
 use Rattle.sections.proofs.write_rust_function_shim.Tie as tie
-
-function-requires : tie.Need-function-requires
-function-requires c κs = (c.before.before.before.before.before.before.requires.0.tabled, c.before.before.before.before.before.before.requires.2, rust_function_lem c.before.before.before.before.before.before.requires.3)
 
 load-summary-requires : tie.Need-load-summary-requires
 load-summary-requires c κs = (c.before.before.before.before.before.before.before.before.before.requires.0.tabled, c.before.before.function.ensures.1, c.before.before.before.before.before.before.before.before.before.requires.4, c.before.before.before.before.before.before.before.before.before.requires.5)
@@ -28,7 +24,7 @@ prepare-requires : tie.Need-prepare-requires
 prepare-requires c κs = (c.before.before.before.before.before.before.before.before.before.before.before.before.before.before.before.before.before.before.before.before.before.requires.0, stood_listed (stood_set (stood_asked (representing_stood c.before.before.before.before.before.before.before.before.before.before.before.before.before.before.before.before.before.before.before.before.before.requires.6) c.before.before.before.before.before.before.before.next-section.ensures) c.before.before.before.before.set-namespace.ensures))
 
 write-function-shim-requires : tie.Need-write-function-shim-requires
-write-function-shim-requires c κs = (c.before.before.before.before.before.before.before.before.before.before.before.before.before.before.before.before.before.before.before.before.before.before.before.before.before.before.before.requires.0, c.before.before.before.before.before.before.before.before.before.before.before.before.before.before.before.before.before.before.before.before.before.before.before.before.before.before.before.requires.2, c.before.before.before.before.before.before.before.before.before.before.before.before.before.before.before.before.before.before.before.before.function.ensures.1, c.before.before.before.before.before.before.before.before.before.before.before.before.before.before.before.before.before.before.before.before.function.ensures.0, c.before.before.before.before.before.before.before.before.before.before.before.before.before.before.before.before.before.load-summary.ensures.0, c.before.before.before.before.before.before.before.before.before.before.before.before.before.before.before.before.before.load-summary.ensures.1.lines)
+write-function-shim-requires c κs = (c.before.before.before.before.before.before.before.before.before.before.before.before.before.before.before.before.before.before.before.before.before.before.before.before.before.before.before.requires.0, c.before.before.before.before.before.before.before.before.before.before.before.before.before.before.before.before.before.before.before.before.before.before.before.before.before.before.before.requires.2, c.before.before.before.before.before.before.before.before.before.before.before.before.before.before.before.before.before.before.before.before.function.ensures.1, c.before.before.before.before.before.before.before.before.before.before.before.before.before.before.before.before.before.before.before.before.function.ensures.0, c.before.before.before.before.before.before.before.before.before.before.before.before.before.before.before.before.before.load-summary.ensures.0, c.before.before.before.before.before.before.before.before.before.before.before.before.before.before.before.before.before.load-summary.ensures.1)
 
 same-length-2 : tie.Need-same-length-2
 same-length-2 c = omega (arith, c.before.before.before.before.before.before.before.before.before.before.before.before.before.before.before.before.before.before.before.before.before.before.load-summary.auto)
@@ -40,7 +36,7 @@ pub write-rust-function-shim-spec : {M : Type 1} → statement M
 write-rust-function-shim-spec =
     tie.close
     (tie.spec
-    function-requires
+    (λ c κs. search rules)
     load-summary-requires
     (λ c κs. search rules)
     set-namespace-requires

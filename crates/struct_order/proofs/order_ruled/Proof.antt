@@ -1,4 +1,4 @@
--- Written by tools/proofkit from answers/order_ruled.tpl (f9703af9 66c6870e).
+-- Written by tools/proofkit from answers/order_ruled.tpl (32af1564 ecd0e01a).
 use borrow.Author.Rules.{rules}
 use Rattle.struct_order.proofs.ServeLaws.{orders_unruled, orders_listed}
 use Rattle.struct_order.proofs.order_ruled.Statement.{statement}
@@ -10,11 +10,8 @@ judge-parts-requires c κs = (c.before.before.before.before.before.requires.read
 returns : tie.Need-returns
 returns c = orders_unruled _ c.before.before.before.before.before.before.before.before.before.requires _ c.before.before.before.judge_parts.ensures c.before.parts.given.1
 
-judge-calls-requires : tie.Need-judge-calls-requires
-judge-calls-requires c κs = (c.before.before.before.before.before.before.before.before.requires.ready.whole, c.before.before.before.before.before.before.before.before.requires.marked)
-
 returns-2 : tie.Need-returns-2
-returns-2 c = orders_listed _ c.before.before.before.before.before.before.before.before.before.before.before.before.before.requires _ c.before.before.before.before.before.before.before.judge_parts.ensures c.before.before.before.before.before.enum_told.given.1 c.before.before.before.before.judge-calls.ensures c.before.before.list-order.ensures
+returns-2 c = orders_listed _ c.before.before.before.before.before.before.before.before.before.before.before.before.requires _ c.before.before.before.before.before.before.judge_parts.ensures c.before.before.before.before.enum_told.given.1 c.before.before.list-order.ensures
 
 pub order-ruled-spec : {M : Type 1} → statement M
 order-ruled-spec =
@@ -23,7 +20,6 @@ order-ruled-spec =
     judge-parts-requires
     (λ c. search rules)
     (λ c. search rules)
-    judge-calls-requires
     (λ c κs. search rules)
     returns
     (λ c. search rules)

@@ -1,4 +1,4 @@
--- Written by tools/proofkit from answers/define.tpl (984b0224 52fd7d39).
+-- Written by tools/proofkit from answers/define.tpl (fee89b88 9b644c99).
 use borrow.Author.Rules.{rules}
 use Rattle.view.specs.Values.{function_at}
 use Rattle.sections.proofs.StateLaws.{runs_none}
@@ -28,9 +28,6 @@ returns-6 c = defined_at c.before.before.item.ensures.0 _ c.before.before.item.e
 returns-7 : tie.Need-returns-7
 returns-7 c = defined_at c.before.before.item.ensures.0 _ c.before.before.item.ensures.1.view.kind c.enum-told6.given.1 runs_none
 
-returns-8 : tie.Need-returns-8
-returns-8 c = defined_at c.before.before.item.ensures.0 _ c.before.before.item.ensures.1.view.kind c.enum-told7.given.1 runs_none
-
 pub define-spec : {M : Type 1} → statement M
 define-spec =
     tie.close
@@ -47,12 +44,10 @@ define-spec =
     (λ c. search rules)
     (λ c. search rules)
     (λ c. search rules)
-    (λ c. search rules)
     returns-2
     (λ c. search rules)
     returns-3
     returns-4
     returns-5
     returns-6
-    returns-7
-    returns-8)
+    returns-7)

@@ -1,5 +1,5 @@
-// Stand-in. The files out.rs and write.rs are included, so that the functions
-// below reach what is private in them.
+// Stand-in. The files out.rs and write.rs are included, so that the two
+// functions below reach what is private in them.
 
 mod block;
 mod builtin;
@@ -45,8 +45,8 @@ mod out {
 pub(crate) mod write {
     include!("write.rs");
 
-    /// Document 01's reference with order 1's arm: `write_functions` is retold
-    /// without its Struct arm and without `write_std_specializations`.
+    /// Document 01's reference: `write_functions` is retold without its Struct
+    /// and CxxFunction arms and without `write_std_specializations`.
     pub(crate) fn text(apis: &[Api], types: &Types, opt: &Opt, header: bool) -> Vec<u8> {
         let mut out_file = OutFile::new(header, opt, types);
         let out = &mut out_file;
@@ -55,7 +55,6 @@ pub(crate) mod write {
             for api in apis {
                 match api {
                     Api::RustType(ety) => write_opaque_type_layout_decls(out, ety),
-                    Api::CxxFunction(efn) => write_cxx_function_shim(out, efn),
                     Api::RustFunction(efn) => write_rust_function_decl(out, efn),
                     _ => {}
                 }
@@ -85,10 +84,5 @@ pub(crate) mod write {
         write_forward_declarations(&mut out_file, apis);
         write_functions(&mut out_file, apis);
         out_file.flushed_content()
-    }
-
-    /// A type as the crate spells it.
-    pub(crate) fn spelling(ty: &Type, types: &Types) -> String {
-        stringify_type(ty, types)
     }
 }

@@ -1,5 +1,5 @@
 // Stand-in: a C++ name, and a full name with `::` before each namespace and
-// before the C++ name; but what is spelled is its own full name.
+// before the C++ name.
 
 use crate::syntax::Pair;
 use crate::syntax::symbol::{Segment, Symbol};
@@ -8,22 +8,12 @@ use std::fmt::{self, Display};
 #[derive(Clone)]
 pub(crate) struct ForeignName {
     text: String,
-    spelled: bool,
 }
 
 impl ForeignName {
     pub(crate) fn new(text: &str) -> Self {
         ForeignName {
             text: text.to_owned(),
-            spelled: false,
-        }
-    }
-
-    /// For a type that is no item of the sheet, as `bool` or `::std::string`.
-    pub(crate) fn spelled(text: String) -> Self {
-        ForeignName {
-            text,
-            spelled: true,
         }
     }
 }
@@ -47,9 +37,6 @@ impl Pair {
     }
 
     pub(crate) fn to_fully_qualified(&self) -> String {
-        if self.cxx.spelled {
-            return self.cxx.text.clone();
-        }
         let mut full = String::new();
         for segment in &self.namespace {
             full += "::";

@@ -2,7 +2,7 @@
 
 use crate::name::ADDED_KEYWORDS;
 use crate::{
-    Arg, EDITIONS, Form, Function, Item, ItemIndex, Kind, Lang, NameIndex, Sheet, Type, encode,
+    Arg, EDITIONS, Form, Function, Item, ItemIndex, Kind, NameIndex, Sheet, Type, encode,
     encode_bits, limit,
 };
 
@@ -101,21 +101,6 @@ pub fn boundaries() -> Vec<(String, Vec<u8>)> {
             format!("{count} arguments of a method"),
             encode(&arguments(count, Form::MutMethod(0))),
         );
-        for form in [Form::Free, Form::MutMethod(0)] {
-            let mut sheet = arguments(count, form);
-            set_lang(&mut sheet, CXX);
-            let label = format!(
-                "{count} arguments of a C++ function of form {}",
-                form.number()
-            );
-            add(label, encode(&sheet));
-        }
-    }
-    for (label, sheet) in cxx_functions() {
-        add(label, encode(&sheet));
-    }
-    for (label, bytes) in cxx_ends() {
-        add(label, bytes);
     }
     for count in [0, 1, 62, 63] {
         add(format!("{count} fields"), encode(&fields(count)));
@@ -221,8 +206,8 @@ const NOT_KEYWORDS: [&str; 8] = [
     "co_yields",
 ];
 
-/// For each sort of type two sheets: a function of each form, throwing and not,
-/// that takes and returns it; and such C++ functions, elided too.
+/// For each sort of type one sheet: a function of each form, throwing and not,
+/// that takes and returns it.
 pub fn signatures() -> Vec<(String, Vec<u8>)> {
     let named = || Box::new(Type::Named(0));
     let mut types: Vec<Type> = [0, 14, 15].map(Type::Atom).to_vec();
@@ -250,50 +235,34 @@ pub fn signatures() -> Vec<(String, Vec<u8>)> {
             _ => &[false],
         };
         for pointer in pointers {
-            let rust = [(Lang::Rust, false), (Lang::Rust, true)];
-            let sheet = signatures_of(&ty, *pointer, &rust);
+            let sheet = signatures_of(&ty, *pointer);
             out.push((format!("signatures with {ty:?}"), encode(&sheet)));
-            let elided = |unwind| Lang::Cxx {
-                unwind,
-                elided: true,
-            };
-            let cxx = [(CXX, false), (elided(true), false), (elided(false), true)];
-            let sheet = signatures_of(&ty, *pointer, &cxx);
-            out.push((format!("C++ signatures with {ty:?}"), encode(&sheet)));
         }
     }
     out
 }
 
-/// In each of these languages, throwing or not, a function of each form.
-fn signatures_of(ty: &Type, pointer: bool, languages: &[(Lang, bool)]) -> Sheet {
+fn signatures_of(ty: &Type, pointer: bool) -> Sheet {
     let forms = [
         Form::Free,
         Form::ConstMethod(0),
         Form::MutMethod(0),
         Form::Associated(0),
     ];
-    let count = forms.len() * languages.len();
-    let mut sheet = names(count + 1, 1);
-    sheet.items[0].namespace = vec![count as NameIndex];
+    let mut sheet = names(9, 1);
+    sheet.items[0].namespace = vec![8];
     sheet.items[0].kind = Kind::CxxType { pointer };
-    for number in 0..count {
-        let (lang, throws) = languages[number % languages.len()];
+    for number in 0..8 {
         let mut args = vec![ty.clone(), Type::Atom(2)];
-        args.retain(|arg| match arg {
-            Type::CxxVector(_) => false,
-            Type::Fn { .. } => lang == Lang::Rust,
-            _ => true,
-        });
+        args.retain(|arg| !matches!(arg, Type::CxxVector(_)));
         let args = args.into_iter().enumerate().map(|(name, ty)| Arg {
             name: name as NameIndex,
             ty,
         });
         let kind = Kind::Function(Function {
-            lang,
             rust_name: number as NameIndex,
-            form: forms[number / languages.len()],
-            throws,
+            form: forms[number / 2],
+            throws: number % 2 == 1,
             ret: Some(ty.clone()),
             args: args.collect(),
             comment: Vec::new(),
@@ -355,7 +324,6 @@ fn items(count: usize) -> Sheet {
 
 fn function() -> Function {
     Function {
-        lang: Lang::Rust,
         rust_name: 0,
         form: Form::Free,
         throws: false,
@@ -363,203 +331,6 @@ fn function() -> Function {
         args: Vec::new(),
         comment: Vec::new(),
     }
-}
-
-/// Neither bit of a C++ function.
-const CXX: Lang = Lang::Cxx {
-    unwind: false,
-    elided: false,
-};
-
-/// The last item, a function.
-fn last_function(sheet: &mut Sheet) -> &mut Function {
-    match &mut sheet.items.last_mut().unwrap().kind {
-        Kind::Function(function) => function,
-        _ => unreachable!("the last item is a function"),
-    }
-}
-
-fn set_lang(sheet: &mut Sheet, lang: Lang) {
-    last_function(sheet).lang = lang;
-}
-
-/// C++ functions: every setting of their bits, arguments that only these may not or
-/// may have, and what is refused 14 or 15, alone and with what comes before.
-fn cxx_functions() -> Vec<(String, Sheet)> {
-    let mut out = Vec::new();
-    let mut add = |label: &str, sheet: Sheet| out.push((label.to_string(), sheet));
-    for bits in 0..16u8 {
-        let [unwind, elided, throws, ret] = [8, 4, 2, 1].map(|bit| bits & bit != 0);
-        let mut sheet = with_function(2, function());
-        let function = last_function(&mut sheet);
-        function.lang = Lang::Cxx { unwind, elided };
-        function.throws = throws;
-        function.ret = ret.then_some(Type::Named(0));
-        function.comment = vec![b" not written".to_vec(); usize::from(bits % 3)];
-        let answer = if throws && unwind {
-            "refused 14"
-        } else {
-            "good"
-        };
-        add(&format!("C++ function, bits {bits:04b}, {answer}"), sheet);
-    }
-    let callback = || Type::Fn {
-        ret: None,
-        args: Vec::new(),
-    };
-    let vector = Type::CxxVector(Box::new(Type::Atom(2)));
-    for (name, ty, form, rust, cxx) in [
-        ("x", callback(), Form::Free, "good", "refused 15"),
-        (
-            "x",
-            wrap(10, Type::Str),
-            Form::ConstMethod(0),
-            "good",
-            "refused 15",
-        ),
-        ("x", wrap(0, callback()), Form::Free, "good", "good"),
-        ("x", wrap(5, callback()), Form::MutMethod(0), "good", "good"),
-        (
-            "x",
-            wrap(9, callback()),
-            Form::Associated(0),
-            "good",
-            "good",
-        ),
-        ("x", vector, Form::Free, "refused 11", "refused 11"),
-        ("self", Type::Str, Form::Free, "good", "good"),
-        (
-            "self",
-            Type::Str,
-            Form::ConstMethod(0),
-            "refused 11",
-            "refused 11",
-        ),
-        (
-            "self",
-            callback(),
-            Form::MutMethod(0),
-            "refused 11",
-            "refused 11",
-        ),
-        ("self", Type::Str, Form::Associated(0), "good", "good"),
-        ("error", Type::Named(0), Form::Free, "refused 11", "good"),
-        (
-            "error",
-            wrap(1, Type::Str),
-            Form::ConstMethod(0),
-            "refused 11",
-            "good",
-        ),
-        (
-            "error",
-            Type::Atom(14),
-            Form::Associated(0),
-            "refused 11",
-            "good",
-        ),
-        ("error", Type::Atom(15), Form::Free, "good", "good"),
-    ] {
-        for (lang, answer) in [(Lang::Rust, rust), (CXX, cxx)] {
-            let mut sheet = with_function(2, function());
-            sheet.names[1] = name.into();
-            let function = last_function(&mut sheet);
-            function.lang = lang;
-            function.form = form;
-            function.throws = true;
-            function.args = vec![Arg {
-                name: 1,
-                ty: ty.clone(),
-            }];
-            let word = if lang.is_cxx() { "C++" } else { "Rust" };
-            let form = form.number();
-            let label = format!("argument {name} of {ty:?}, {word}, form {form}, {answer}");
-            add(&label, sheet);
-        }
-    }
-    // One symbol, of a Rust and a C++ function, and of two C++ functions.
-    for (one, two) in [(Lang::Rust, CXX), (CXX, Lang::Rust), (CXX, CXX)] {
-        for other in [0, 1] {
-            let mut sheet = with_function(2, function());
-            set_lang(&mut sheet, one);
-            let mut item = sheet.items[1].clone();
-            item.name = 1;
-            sheet.items.push(item);
-            set_lang(&mut sheet, two);
-            last_function(&mut sheet).rust_name = other;
-            let answer = if other == 0 { "refused 10" } else { "good" };
-            add(
-                &format!("{one:?} and {two:?}, Rust name {other}, {answer}"),
-                sheet,
-            );
-        }
-    }
-    // 12, 14 and 15 in every company.
-    for faults in 1..8 {
-        let [ring, two_ways_out, bare_callback] = [4, 2, 1].map(|bit| faults & bit != 0);
-        let mut sheet = with_function(2, function());
-        let fields = vec![Type::Named(0); usize::from(ring)];
-        let pointer = true;
-        sheet.items[0].kind = Kind::Struct { pointer, fields };
-        let function = last_function(&mut sheet);
-        function.lang = Lang::Cxx {
-            unwind: two_ways_out,
-            elided: true,
-        };
-        function.throws = true;
-        if bare_callback {
-            let (name, ty) = (1, callback());
-            function.args = vec![Arg { name, ty }];
-        }
-        let answer = match (ring, two_ways_out) {
-            (true, _) => 12,
-            (_, true) => 14,
-            _ => 15,
-        };
-        add(&format!("faults {faults:03b}, refused {answer}"), sheet);
-    }
-    // A comment that nothing writes is judged.
-    let mut sheet = comment(1, 3);
-    set_lang(&mut sheet, CXX);
-    last_function(&mut sheet).comment[0][2] = b'\\';
-    add("comment of a C++ function, refused 7", sheet);
-    for kind in [6, 7] {
-        let mut sheet = names(1, 1);
-        sheet.items[0].kind = Kind::Unknown(kind);
-        add(&format!("item of kind {kind}, refused 5"), sheet);
-    }
-    // An index that names a C++ function.
-    let mut sheet = with_function(1, function());
-    set_lang(&mut sheet, CXX);
-    last_function(&mut sheet).ret = Some(Type::Named(1));
-    add("a type that names a C++ function, refused 9", sheet);
-    out
-}
-
-/// C++ functions whose two last bits end at every bit of a byte; the same without
-/// their last byte, and with a bit behind them.
-fn cxx_ends() -> Vec<(String, Vec<u8>)> {
-    let mut out = Vec::new();
-    for (unwind, elided) in [(false, false), (false, true), (true, false), (true, true)] {
-        for chars in 1..=8 {
-            let mut sheet = with_function(1, function());
-            sheet.names[0] = vec![b'a'; chars];
-            set_lang(&mut sheet, Lang::Cxx { unwind, elided });
-            let (bytes, bits) = encode_bits(&sheet);
-            let label = format!("C++ function, {unwind} {elided}, ends at bit {}", bits % 8);
-            let mut cut = bytes.clone();
-            cut.pop();
-            out.push((format!("{label}, cut, refused 1"), cut));
-            let mut more = bytes.clone();
-            match bits % 8 {
-                0 => more.push(0),
-                end => *more.last_mut().unwrap() |= 0x80 >> end,
-            }
-            out.push((format!("{label}, tail, refused 8"), more));
-            out.push((format!("{label}, good"), bytes));
-        }
-    }
-    out
 }
 
 fn with_function(names: usize, function: Function) -> Sheet {

@@ -1,9 +1,9 @@
 //! Good sheets with chosen faults.
 
-use super::good::{comment_line, good, lang, near_keyword, random_name, type_of_depth};
+use super::good::{comment_line, good, near_keyword, random_name, type_of_depth};
 use crate::name::{ADDED_KEYWORDS, ALTERNATIVE_TOKENS, KEYWORDS};
 use crate::{
-    Arg, Form, Function, Item, ItemIndex, Kind, Lang, NameIndex, Refusal, Rng, Sheet, Type, encode,
+    Arg, Form, Function, Item, ItemIndex, Kind, NameIndex, Refusal, Rng, Sheet, Type, encode,
     encode_bits, limit,
 };
 
@@ -31,8 +31,6 @@ pub fn faulty(rng: &mut Rng, faults: &[Refusal]) -> Vec<u8> {
             Refusal::Taken => draft.taken(),
             Refusal::UnfitArgument => draft.unfit_argument(),
             Refusal::Ring => draft.ring(),
-            Refusal::TwoWaysOut => draft.two_ways_out(),
-            Refusal::BareCallback => draft.bare_callback(),
         }
     }
     let (mut bytes, bits) = encode_bits(&sheet);
@@ -249,7 +247,7 @@ impl Draft<'_> {
     }
 
     /// Any item of the sort, or a new one.
-    fn find(&mut self, sort: impl Fn(&Kind) -> bool, new: impl FnOnce() -> Kind) -> usize {
+    fn find(&mut self, sort: fn(&Kind) -> bool, new: fn() -> Kind) -> usize {
         let items = self.sheet.items.iter().enumerate();
         let found: Vec<usize> = items
             .filter(|(_, item)| sort(&item.kind))
@@ -262,31 +260,9 @@ impl Draft<'_> {
         }
     }
 
-    /// A function of either language.
+    /// A function; a new one has a symbol and a full name of its own.
     fn function(&mut self) -> usize {
-        match self.rng.one_in(3) {
-            true => self.cxx_function(),
-            false => self.rust_function(),
-        }
-    }
-
-    fn rust_function(&mut self) -> usize {
-        self.function_of(Lang::Rust)
-    }
-
-    fn cxx_function(&mut self) -> usize {
-        self.function_of(Lang::Cxx {
-            unwind: false,
-            elided: false,
-        })
-    }
-
-    /// A function of this one's language; a new one has a symbol and a full name of
-    /// its own.
-    fn function_of(&mut self, lang: Lang) -> usize {
-        let new = plain_function(lang);
-        let number = new.number();
-        let index = self.find(|kind| kind.number() == number, || new);
+        let index = self.find(|kind| matches!(kind, Kind::Function(_)), plain_function);
         if index + 1 == self.sheet.items.len() {
             let rust_name = self.fresh();
             self.function_at(index).rust_name = rust_name;
@@ -422,7 +398,7 @@ impl Draft<'_> {
     fn bad_kind(&mut self) {
         match self.rng.below(3) {
             0 => {
-                let kind = Kind::Unknown(self.rng.between(6, 7) as u8);
+                let kind = Kind::Unknown(self.rng.between(5, 7) as u8);
                 if self.sheet.items.is_empty() {
                     self.push(kind);
                 } else {
@@ -538,15 +514,9 @@ impl Draft<'_> {
                 self.sheet.items.push(copy);
             }
             2 => {
-                // The other function may be of the other language.
                 let index = self.function();
                 let mut copy = self.sheet.items[index].clone();
                 copy.name = self.fresh();
-                if let Kind::Function(function) = &mut copy.kind
-                    && self.rng.bit()
-                {
-                    function.lang = lang(self.rng);
-                }
                 self.sheet.items.push(copy);
             }
             3 => {
@@ -601,7 +571,6 @@ impl Draft<'_> {
                 self.push_arg(index, Arg { name, ty });
             }
             _ => {
-                let index = self.rust_function();
                 let name = self.named(b"error");
                 self.remove_arg(index, b"error");
                 self.function_at(index).throws = true;
@@ -638,38 +607,10 @@ impl Draft<'_> {
         }
         self.push_field(holder, Type::Named(first as ItemIndex));
     }
-
-    fn two_ways_out(&mut self) {
-        let elided = self.rng.bit();
-        let index = self.cxx_function();
-        let function = self.function_at(index);
-        function.throws = true;
-        let unwind = true;
-        function.lang = Lang::Cxx { unwind, elided };
-    }
-
-    fn bare_callback(&mut self) {
-        let index = self.cxx_function();
-        let types = vec![self.type_item() as ItemIndex];
-        let name = self.fresh();
-        let ty = loop {
-            let depth = self.rng.between(1, limit::TYPE_DEPTH);
-            let ty = type_of_depth(self.rng, &types, depth);
-            if let Type::Fn { .. } = ty {
-                break ty;
-            }
-        };
-        let places = self.function_at(index).args.len().min(limit::ARGUMENTS - 1) + 1;
-        let at = self.rng.below(places);
-        let args = &mut self.function_at(index).args;
-        args.truncate(limit::ARGUMENTS - 1);
-        args.insert(at, Arg { name, ty });
-    }
 }
 
-fn plain_function(lang: Lang) -> Kind {
+fn plain_function() -> Kind {
     Kind::Function(Function {
-        lang,
         rust_name: 0,
         form: Form::Free,
         throws: false,

@@ -3,8 +3,8 @@
 use super::edition;
 use crate::name::{self, ADDED_KEYWORDS, is_name};
 use crate::{
-    Arg, Form, Function, Item, ItemIndex, Kind, Lang, NameIndex, RUST_STRING, Rng, Sheet, Type,
-    encode, indirect, limit, rules,
+    Arg, Form, Function, Item, ItemIndex, Kind, NameIndex, RUST_STRING, Rng, Sheet, Type, encode,
+    indirect, limit, rules,
 };
 
 /// Words that the rules, the crate, the grammar or a keyword table could trip
@@ -213,7 +213,6 @@ impl Draft<'_> {
                 5..=6 => Kind::CxxType { pointer },
                 7..=9 => Kind::RustType { pointer },
                 _ => Kind::Function(Function {
-                    lang: lang(self.rng),
                     rust_name: self.name(),
                     form: Form::Free,
                     throws: false,
@@ -307,7 +306,6 @@ impl Draft<'_> {
     }
 
     fn signature(&mut self, index: usize) {
-        let lang = self.function(index).lang;
         let form = if self.types.is_empty() || self.rng.bit() {
             Form::Free
         } else {
@@ -318,7 +316,7 @@ impl Draft<'_> {
                 _ => Form::Associated(item),
             }
         };
-        let throws = self.rng.one_in(3) && !lang.unwinds();
+        let throws = self.rng.one_in(3);
         let ret = self.rng.bit().then(|| self.ty());
         let count = match self.rng.below(40) {
             0 => limit::ARGUMENTS,
@@ -331,11 +329,9 @@ impl Draft<'_> {
             let chars = self.sheet.name(name).to_vec();
             let ty = match self.ty() {
                 Type::CxxVector(inner) => Type::UniquePtr(inner),
-                Type::Fn { ret, args } if lang.is_cxx() => boxed_part(ret, args),
                 ty => ty,
             };
-            let held =
-                lang == Lang::Rust && ty != Type::Atom(RUST_STRING) && indirect(&self.sheet, &ty);
+            let held = ty != Type::Atom(RUST_STRING) && indirect(&self.sheet, &ty);
             let repeated = args.iter().any(|arg| self.sheet.name(arg.name) == chars);
             let receiver = form.is_method() && chars == b"self";
             let held_error = throws && chars == b"error" && held;
@@ -373,25 +369,6 @@ impl Draft<'_> {
             _ => limit::TYPE_DEPTH,
         };
         type_of_depth(self.rng, &self.types, depth)
-    }
-}
-
-/// A language: two functions in five are C++ functions.
-pub fn lang(rng: &mut Rng) -> Lang {
-    match rng.below(5) {
-        0 | 1 => Lang::Cxx {
-            unwind: rng.one_in(4),
-            elided: rng.one_in(3),
-        },
-        _ => Lang::Rust,
-    }
-}
-
-/// In the place of a Fn a type that is no deeper: a Box of a type in it.
-fn boxed_part(ret: Option<Box<Type>>, args: Vec<Type>) -> Type {
-    match ret.or_else(|| args.into_iter().next().map(Box::new)) {
-        Some(inner) => Type::RustBox(inner),
-        None => Type::Str,
     }
 }
 

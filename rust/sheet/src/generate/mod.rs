@@ -9,7 +9,7 @@ mod graph;
 
 pub use boundary::{boundaries, signatures};
 pub use fault::{faulty, keyword, put_keyword, put_near_keywords, reserve, reserved};
-pub use good::{good, lang, large, type_of_depth};
+pub use good::{good, large, type_of_depth};
 pub use graph::graph;
 
 use crate::{Refusal, Rng, encode};

@@ -99,10 +99,6 @@ fn checks(runs: usize) -> Result<(), String> {
         ),
         ("255 functions, 8 arguments", one(sheets::functions(8))),
         ("255 functions, 31 arguments", one(sheets::functions(31))),
-        (
-            "255 C++ functions, 8 arguments",
-            one(sheets::cxx_functions(8)),
-        ),
         ("255 structs, 63 fields", one(sheets::dense())),
         ("255 structs in a chain", one(sheets::chain())),
         ("1,000 small sheets", small()),
@@ -192,11 +188,10 @@ fn orders(runs: usize) -> Result<(), String> {
 }
 
 const TEXTS: &str = "\
-All begin with the sheet's bytes and check them, the last but for rules 9 to 12, 14 and
-15. The plain writers are one pass; the service leaves the buffer as it was where the
-text has no room. All write into one buffer: the stored sheet has one of 262,144 bytes,
-the others have one as long as the longest of their texts. Medians, in brackets the 10th
-and 90th percentile.";
+All begin with the sheet's bytes and check them, the last but for rules 9 to 12. The
+plain writers are one pass; the service leaves the buffer as it was where the text has
+no room. All write into one buffer: the stored sheet has one of 262,144 bytes, the
+others have one as long as the longest of their texts. Medians, in brackets the 10th and 90th percentile.";
 
 fn texts(runs: usize) -> Result<(), String> {
     let one = |sheet| vec![encode(&sheet)];
@@ -230,23 +225,11 @@ fn texts(runs: usize) -> Result<(), String> {
             0,
         ),
         ("31 arguments", one(sheets::functions(31)), runs, 0),
-        (
-            "255 C++ functions, 8 arguments",
-            one(sheets::cxx_functions(8)),
-            runs,
-            0,
-        ),
-        (
-            "C++ functions, throwing, returns by a slot",
-            one(sheets::throwing_cxx_functions()),
-            runs,
-            0,
-        ),
     ];
     println!("{TEXTS}");
     println!();
     println!(
-        "| sheet | bytes | text | runs | `bridgetext::write` | `plain::write` | ratio | without these rules | ratio |"
+        "| sheet | bytes | text | runs | `bridgetext::write` | `plain::write` | ratio | without rules 9 to 12 | ratio |"
     );
     println!("|---|---|---|---|---|---|---|---|---|");
     for (label, sheets, runs, mut room) in cases {
@@ -296,7 +279,7 @@ fn same_text(sheet: &[u8]) -> Result<usize, String> {
     }
     written.fill(0);
     if plain::write_without_rules(sheet, &mut written) != Ok(text.len()) || written != text {
-        return Err("another text without rules 9 to 12, 14 and 15".to_string());
+        return Err("another text without rules 9 to 12".to_string());
     }
     Ok(text.len())
 }

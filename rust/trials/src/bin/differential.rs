@@ -14,7 +14,7 @@ const USAGE: &str = "usage: differential [--count N] [--seed S] [--service check
                     [--margin M]
 
 Generates N sheets (100000 unless given) from the seed (1 unless given), after
-some 570 fixed ones at the limits, and puts each through all services, or the
+some 400 fixed ones at the limits, and puts each through all services, or the
 one that is named. A check is compared with the Rust check. The struct order and
 the text are asked for with buffers of every length around the answer's, and
 each answer and every byte in and around the buffer are compared with the
@@ -27,9 +27,8 @@ many had which edition and which answer; of those refused 3, how many for
 reserved identifiers alone, how many of edition 2 for keywords that C++20 added
 alone, and how many would be accepted but for either or both, and so are not
 compared with the crate, only with a refusal; how many sheets both editions
-accept, and how many only edition 1 does; how many are refused 12 and would else be
-refused 14 or 15, or 14 and else 15; and, for the text, what occurred in the accepted
-ones.
+accept, and how many only edition 1 does; and, for the text, what occurred in the
+accepted ones.
 
 With --margin 0 a buffer has nothing around it (64 bytes unless given), so that
 valgrind sees every byte too far.
@@ -137,7 +136,7 @@ impl Options {
 
 #[derive(Default)]
 struct Totals {
-    answers: [u64; 16],
+    answers: [u64; 13],
     /// By the first four bits.
     editions: [u64; 16],
     /// Refused for reserved identifiers alone, for keywords that C++20 added
@@ -145,9 +144,6 @@ struct Totals {
     reserved: u64,
     keyword: u64,
     not_compared: u64,
-    /// Refused 12 with 14 or 15 too, and refused 14 with 15.
-    behind_12: u64,
-    behind_14: u64,
     /// Accepted and put through the other edition, which accepts or refuses.
     both_editions: u64,
     one_edition: u64,
@@ -205,13 +201,6 @@ impl Totals {
             self.keyword += u64::from(Blame::keyword(sheet) != Blame::No);
             self.not_compared += u64::from(Blame::orders(sheet) == Blame::Only);
         }
-        if let Ok(sheet) = sheet::decode(sheet) {
-            let refusals: Vec<Refusal> = sheet::broken(&sheet).collect();
-            let last = refusals.last().is_some_and(|last| *last > Refusal::Ring);
-            let first = refusals.first().filter(|_| last && refusals.len() > 1);
-            self.behind_12 += u64::from(first == Some(&Refusal::Ring));
-            self.behind_14 += u64::from(first == Some(&Refusal::TwoWaysOut));
-        }
         self.sheet_bytes += sheet.len();
         Ok(())
     }
@@ -233,15 +222,12 @@ impl Display for Totals {
             writeln!(out, "edition {number:2}    {count}")?;
         }
         writeln!(out, "accepted      {}", self.answers[0])?;
-        for number in Refusal::ALL.map(Refusal::number) {
-            let count = self.answers[usize::from(number)];
+        for (number, count) in self.answers.iter().enumerate().skip(1) {
             writeln!(out, "refused {number:2}    {count}")?;
         }
         writeln!(out, "reserved (3)  {}", self.reserved)?;
         writeln!(out, "keyword (3)   {}", self.keyword)?;
         writeln!(out, "not compared  {}", self.not_compared)?;
-        writeln!(out, "12, and 14/15 {}", self.behind_12)?;
-        writeln!(out, "14, and 15    {}", self.behind_14)?;
         writeln!(out, "sheet bytes   {}", self.sheet_bytes)?;
         let services = [
             (&self.orders, "structs       ", "longest list  "),

@@ -5,13 +5,13 @@ use Rattle.bridge.specs.Write.{extern_arg, held_local, operand}
 use Rattle.sink.specs.Sink.{sink}
 use Rattle.shape.proofs.CommaLaws.{Listed, Gathered, listed_none, gathered_none}
 use Rattle.shape.proofs.ArgumentLaws.{listed_argument, listed_arguments, gathered_argument, gathered_arguments}
-use Rattle.tables.specs.Tables.{items_of, function_of_lem}
+use Rattle.tables.specs.Tables.{items_of, function_of}
 use Rattle.summary.proofs.LengthLaws.{passed, placed, placed_behind, passed_none, passed_all}
 use Rattle.summary.proofs.count.count_arguments.Statement.{statement}
 use Rattle.summary.proofs.count.count_arguments.Tie as tie
 
 abbrev invariant-loop : tie.invariant-loop
-invariant-loop s t pool f words p₀ comma₀ j₀ p comma j = (j ≤ f.arguments) × Listed (extern_arg (items_of s t)) false (function_of_lem s t f.number).arguments j comma (sink [] 1) (sink [] p.exts) × Listed (λ a. write_type_space (items_of s t) a.type ++ a.name) false (function_of_lem s t f.number).arguments j comma (sink [] 1) (sink [] p.pars) × Gathered (held_local (items_of s t)) (function_of_lem s t f.number).arguments j (sink [] 1) (sink [] p.locals) × Listed (operand (items_of s t)) false (function_of_lem s t f.number).arguments j comma (sink [] 1) (sink [] p.operands)
+invariant-loop s t pool f words p₀ comma₀ j₀ p comma j = (j ≤ f.arguments) × Listed (extern_arg (items_of s t)) false (function_of s t f.number).arguments j comma (sink [] 1) (sink [] p.exts) × Listed (λ a. write_type_space (items_of s t) a.type ++ a.name) false (function_of s t f.number).arguments j comma (sink [] 1) (sink [] p.pars) × Gathered (held_local (items_of s t)) (function_of s t f.number).arguments j (sink [] 1) (sink [] p.locals) × Listed (operand (items_of s t)) false (function_of s t f.number).arguments j comma (sink [] 1) (sink [] p.operands)
 
 abbrev decreases-loop : tie.decreases-loop
 decreases-loop s t pool f words p₀ comma₀ j₀ p comma j = f.arguments - j

@@ -1,2 +1,0 @@
-pub mod OperandLaws
-mod StatementLaws

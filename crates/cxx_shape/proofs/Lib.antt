@@ -1,4 +1,0 @@
-pub mod KindLaws
-mod PoolLaws
-pub mod SlotLaws
-pub mod CopyLaws

@@ -1,0 +1,95 @@
+-- Written by tools/proofkit from answers/kind_of.tpl (81f73f2d 91b5377b).
+use mathlib.Core.Path.{refl}
+use Rattle.format.specs.Decoding.{kind_of}
+use Rattle.types.proofs.TypeLaws.{kind_past, above, above_none}
+use Rattle.types.proofs.kind_of.Statement.{statement}
+use Rattle.types.proofs.kind_of.Tie as tie
+
+returns : tie.Need-returns
+unfolding kind_of
+returns c = rw c.match.keys1 refl
+
+returns-2 : tie.Need-returns-2
+unfolding kind_of
+returns-2 c = rw c.match.keys2 refl
+
+returns-3 : tie.Need-returns-3
+unfolding kind_of
+returns-3 c = rw c.match.keys3 refl
+
+returns-4 : tie.Need-returns-4
+unfolding kind_of
+returns-4 c = rw c.match.keys4 refl
+
+returns-5 : tie.Need-returns-5
+unfolding kind_of
+returns-5 c = rw c.match.keys5 refl
+
+returns-6 : tie.Need-returns-6
+unfolding kind_of
+returns-6 c = rw c.match.keys6 refl
+
+returns-7 : tie.Need-returns-7
+unfolding kind_of
+returns-7 c = rw c.match.keys7 refl
+
+returns-8 : tie.Need-returns-8
+unfolding kind_of
+returns-8 c = rw c.match.keys8 refl
+
+returns-9 : tie.Need-returns-9
+unfolding kind_of
+returns-9 c = rw c.match.keys9 refl
+
+returns-10 : tie.Need-returns-10
+unfolding kind_of
+returns-10 c = rw c.match.keys10 refl
+
+returns-11 : tie.Need-returns-11
+unfolding kind_of
+returns-11 c = rw c.match.keys11 refl
+
+returns-12 : tie.Need-returns-12
+unfolding kind_of
+returns-12 c = rw c.match.keys12 refl
+
+returns-13 : tie.Need-returns-13
+unfolding kind_of
+returns-13 c = rw c.match.keys13 refl
+
+returns-14 : tie.Need-returns-14
+unfolding kind_of
+returns-14 c = rw c.match.keys14 refl
+
+returns-15 : tie.Need-returns-15
+unfolding kind_of
+returns-15 c = rw c.match.keys15 refl
+
+returns-16 : tie.Need-returns-16
+unfolding kind_of
+returns-16 c = rw c.match.keys16 refl
+
+returns-17 : tie.Need-returns-17
+returns-17 c = let r = c.match.rest in kind_past _ (above 15 (above 14 (above 13 (above 12 (above 11 (above 10 (above 9 (above 8 (above 7 (above 6 (above 5 (above 4 (above 3 (above 2 (above 1 (above 0 (above_none _) r.0.0.0.0.0.0.0.0.0.0.0.0.0.0.0.1) r.0.0.0.0.0.0.0.0.0.0.0.0.0.0.1) r.0.0.0.0.0.0.0.0.0.0.0.0.0.1) r.0.0.0.0.0.0.0.0.0.0.0.0.1) r.0.0.0.0.0.0.0.0.0.0.0.1) r.0.0.0.0.0.0.0.0.0.0.1) r.0.0.0.0.0.0.0.0.0.1) r.0.0.0.0.0.0.0.0.1) r.0.0.0.0.0.0.0.1) r.0.0.0.0.0.0.1) r.0.0.0.0.0.1) r.0.0.0.0.1) r.0.0.0.1) r.0.0.1) r.0.1) r.1)
+
+pub kind-of-spec : {M : Type 1} → statement M
+kind-of-spec =
+    tie.close
+    (tie.spec
+    returns
+    returns-2
+    returns-3
+    returns-4
+    returns-5
+    returns-6
+    returns-7
+    returns-8
+    returns-9
+    returns-10
+    returns-11
+    returns-12
+    returns-13
+    returns-14
+    returns-15
+    returns-16
+    returns-17)

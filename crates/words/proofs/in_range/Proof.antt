@@ -1,0 +1,17 @@
+-- Written by tools/proofkit from answers/in_range.tpl (267f062d 91cdf84c).
+use borrow.Author.Tests.{le-leb, lt-leb}
+use Rattle.words.proofs.in_range.Statement.{statement}
+use Rattle.words.proofs.in_range.Tie as tie
+
+returns : tie.Need-returns
+returns c = rw (lt-leb _ _ c.if1.true)
+
+returns-2 : tie.Need-returns-2
+returns-2 c = rw (le-leb _ _ c.if1.false)
+
+pub in-range-spec : {M : Type 1} → statement M
+in-range-spec =
+    tie.close
+    (tie.spec
+    returns
+    returns-2)
