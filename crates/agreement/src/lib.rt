@@ -1,1 +1,3 @@
 // Demand 3: a text's one reading agrees with its sheet. Definitions alone: see specs/.
+
+#![tactic(auto)]

@@ -1,1 +1,3 @@
 // Worked examples of the definitions: see proofs/.
+
+#![tactic(auto)]

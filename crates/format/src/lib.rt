@@ -2,6 +2,7 @@
 // "The sheet"). The definitions of specs/ and the code that reads sheets share them.
 
 // syntax/atom.rs, in its order.
+#![tactic(auto)]
 #[derive(Clone, Copy)]
 pub enum Atom {
     Bool,

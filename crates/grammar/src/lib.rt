@@ -1,1 +1,3 @@
 // Definitions and theorems alone: the C++ grammar of document 01. See specs/, then proofs/.
+
+#![tactic(auto)]

@@ -1,1 +1,3 @@
 // Definitions alone: bytes, characters and the name rule. See specs/.
+
+#![tactic(auto)]

@@ -1,0 +1,17 @@
+use native.Mathlib.Omega.{arith}
+use mathlib.Core.Path.{◌≡◌, refl, ◌∙◌}
+use Prim.Native.Nat.{◌-◌, ◌≤◌}
+use lib.ListN.{length, length-set}
+use Rattle.format.specs.Decoding.{item}
+use Rattle.cursor.specs.Checking.{position_of}
+use Rattle.cursor.proofs.TableLaws.{placed_got, placed_fault, Filling, fill_none, fill_turn, fill_stop, fill_done}
+use Rattle.names.specs.Naming.{names_at}
+use Rattle.marks.specs.Marking.{mark_item}
+use Rattle.marks.proofs.GatherLaws.{moved, halted, folded, fold_none, fold_turn, fold_stop, fold_done}
+use Rattle.items.proofs.check_items.Given as goal
+
+abbrev pub invariant-loop-i : goal.invariant-loop-i
+invariant-loop-i l = (l.i ≤ l.items) × (length l.offsets ≡ length l.initial.offsets) × (length l.marks ≡ length l.initial.marks) × Filling (position_of (item (names_at l.s l.names) l.items)) l.s l.items l.initial.next.at l.i l.offsets l.next.at × (folded mark_item (item (names_at l.s l.names) l.items) l.s l.items l.initial.next.at l.initial.marks ≡ folded mark_item (item (names_at l.s l.names) l.items) l.s (l.items - l.i) l.next.at l.marks)
+
+abbrev pub decreases-loop-i : goal.decreases-loop-i
+decreases-loop-i l = l.items - l.i

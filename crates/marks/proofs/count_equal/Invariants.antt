@@ -1,0 +1,14 @@
+use native.Mathlib.Omega.{arith}
+use mathlib.Core.Path.{◌≡◌}
+use Prim.Native.Nat.{◌+◌, ◌≤◌, ◌-◌}
+use lib.Dec.{eqb}
+use lib.ListN.{length, get_or, drop}
+use Rattle.marks.specs.Keys.{count_of}
+use Rattle.marks.proofs.KeyLaws.{count_turn, count_end, one_low}
+use Rattle.marks.proofs.count_equal.Given as goal
+
+abbrev pub invariant-loop-j : goal.invariant-loop-j
+invariant-loop-j l = (l.j ≤ length l.keys) × (l.n ≤ l.j) × (l.n + count_of l.k (drop l.j l.keys) ≡ count_of l.k l.keys)
+
+abbrev pub decreases-loop-j : goal.decreases-loop-j
+decreases-loop-j l = length l.keys - l.j

@@ -1,0 +1,17 @@
+use native.Mathlib.Omega.{arith}
+use mathlib.Core.Path.{◌≡◌, refl}
+use Prim.Native.Nat.{◌-◌, ◌≤◌}
+use lib.ListN.{length, length-set}
+use Rattle.cursor.specs.Checking.{position_of}
+use Rattle.cursor.proofs.TableLaws.{placed_got, placed_fault, Filling, fill_none, fill_turn, fill_stop, fill_done}
+use Rattle.lexical.specs.Names.{table_of}
+use Rattle.format.specs.Decoding.{table_name}
+use Rattle.names.specs.Digests.{digest_of}
+use Rattle.names.proofs.DigestLaws.{digested, undigested, digest_got, digest_fault}
+use Rattle.names.proofs.check_names.Given as goal
+
+abbrev pub invariant-loop-i : goal.invariant-loop-i
+invariant-loop-i l = (l.i ≤ l.n) × (length l.offsets ≡ length l.initial.offsets) × (length l.digests ≡ length l.initial.digests) × Filling (position_of (table_name (table_of l.edition))) l.s l.n l.initial.next.at l.i l.offsets l.next.at × Filling (digest_of (table_name (table_of l.edition))) l.s l.n l.initial.next.at l.i l.digests l.next.at
+
+abbrev pub decreases-loop-i : goal.decreases-loop-i
+decreases-loop-i l = l.n - l.i

@@ -1,0 +1,5 @@
+use Rattle.sink.proofs.SinkLaws.{wrote_length}
+use Rattle.sink.proofs.put_spaces.Goals as goal
+
+pub returns : goal.returns
+returns c = c.put_repeat.ensures

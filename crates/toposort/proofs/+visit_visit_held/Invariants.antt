@@ -1,0 +1,24 @@
+use native.Mathlib.Omega.{arith}
+use mathlib.Core.Path.{◌≡◌, refl}
+use Prim.Native.Nat.{ℕ, ◌+◌, ◌-◌, ◌*◌, ◌<◌, ◌≤◌}
+use lib.ListN.{length, get_or, take, drop}
+use Rattle.toposort.specs.Sort.{visit_all, visit as visit·spec}
+use Rattle.toposort.specs.Adjacency.{graph_of}
+use Rattle.toposort.proofs.TableLaws.{visited_as, all_as, no_mark, room_marked, place_free, Going, going_as, going_next, all_ring, all_done}
+use Rattle.toposort.proofs.TableLaws.{visited_already, visited_ring, visited_deep, visited_below, visited_done}
+use Rattle.toposort.proofs.TableLaws.{part_next, part_end, table_part, table_inside}
+use Rattle.toposort.proofs.+visit_visit_held.Given as goal
+
+abbrev pub decreases-visit : goal.decreases-visit
+decreases-visit l = 2 * l.levels
+
+abbrev pub decreases-visit_held : goal.decreases-visit_held
+decreases-visit_held l = 2 * l.levels + 1
+
+abbrev pub invariant-visit_held-loop-k : goal.invariant-visit_held-loop-k
+invariant-visit_held-loop-k l = (l.end ≤ length l.held) × Going (graph_of l.starts l.held) l.levels
+    (visit_all (visit·spec (graph_of l.starts l.held) l.levels) (graph_of l.starts l.held l.i) l.initial.marks (take l.at l.initial.order))
+    (take (l.end - l.k) (drop l.k l.held)) l.marks l.order l.e
+
+abbrev pub decreases-visit_held-loop-k : goal.decreases-visit_held-loop-k
+decreases-visit_held-loop-k l = l.end - l.k

@@ -1,0 +1,71 @@
+use mathlib.Core.Path.{refl}
+use Rattle.format.specs.Decoding.{kind_of}
+use Rattle.types.proofs.TypeLaws.{kind_past, above, above_none}
+use Rattle.types.proofs.kind_of.Goals as goal
+
+pub returns-in-0 : goal.returns-in-0
+unfolding kind_of
+returns-in-0 c = rw c.in-0.is refl
+
+pub returns-in-1 : goal.returns-in-1
+unfolding kind_of
+returns-in-1 c = rw c.in-1.is refl
+
+pub returns-in-2 : goal.returns-in-2
+unfolding kind_of
+returns-in-2 c = rw c.in-2.is refl
+
+pub returns-in-3 : goal.returns-in-3
+unfolding kind_of
+returns-in-3 c = rw c.in-3.is refl
+
+pub returns-in-4 : goal.returns-in-4
+unfolding kind_of
+returns-in-4 c = rw c.in-4.is refl
+
+pub returns-in-5 : goal.returns-in-5
+unfolding kind_of
+returns-in-5 c = rw c.in-5.is refl
+
+pub returns-in-6 : goal.returns-in-6
+unfolding kind_of
+returns-in-6 c = rw c.in-6.is refl
+
+pub returns-in-7 : goal.returns-in-7
+unfolding kind_of
+returns-in-7 c = rw c.in-7.is refl
+
+pub returns-in-8 : goal.returns-in-8
+unfolding kind_of
+returns-in-8 c = rw c.in-8.is refl
+
+pub returns-in-9 : goal.returns-in-9
+unfolding kind_of
+returns-in-9 c = rw c.in-9.is refl
+
+pub returns-in-10 : goal.returns-in-10
+unfolding kind_of
+returns-in-10 c = rw c.in-10.is refl
+
+pub returns-in-11 : goal.returns-in-11
+unfolding kind_of
+returns-in-11 c = rw c.in-11.is refl
+
+pub returns-in-12 : goal.returns-in-12
+unfolding kind_of
+returns-in-12 c = rw c.in-12.is refl
+
+pub returns-in-13 : goal.returns-in-13
+unfolding kind_of
+returns-in-13 c = rw c.in-13.is refl
+
+pub returns-in-14 : goal.returns-in-14
+unfolding kind_of
+returns-in-14 c = rw c.in-14.is refl
+
+pub returns-in-15 : goal.returns-in-15
+unfolding kind_of
+returns-in-15 c = rw c.in-15.is refl
+
+pub returns-in_default : goal.returns-in_default
+returns-in_default c = let r = c.in_default.in_default-own.rest in kind_past _ (above 15 (above 14 (above 13 (above 12 (above 11 (above 10 (above 9 (above 8 (above 7 (above 6 (above 5 (above 4 (above 3 (above 2 (above 1 (above 0 (above_none _) r.0.0.0.0.0.0.0.0.0.0.0.0.0.0.0.1) r.0.0.0.0.0.0.0.0.0.0.0.0.0.0.1) r.0.0.0.0.0.0.0.0.0.0.0.0.0.1) r.0.0.0.0.0.0.0.0.0.0.0.0.1) r.0.0.0.0.0.0.0.0.0.0.0.1) r.0.0.0.0.0.0.0.0.0.0.1) r.0.0.0.0.0.0.0.0.0.1) r.0.0.0.0.0.0.0.0.1) r.0.0.0.0.0.0.0.1) r.0.0.0.0.0.0.1) r.0.0.0.0.0.1) r.0.0.0.0.1) r.0.0.0.1) r.0.0.1) r.0.1) r.1)

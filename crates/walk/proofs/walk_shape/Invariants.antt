@@ -1,0 +1,16 @@
+use native.Mathlib.Omega.{arith}
+use native.Mathlib.Nat.{mod-lt}
+use mathlib.Core.Path.{◌≡◌, refl, sym, ◌∙◌}
+use borrow.Author.Tests.{not-false}
+use Prim.Native.Nat.{◌-◌, ◌≤◌, ◌%◌, ◌/◌, ◌^◌}
+use lib.Pow.{pow_pos}
+use Rattle.lexical.specs.Bytes.{chars_in}
+use Rattle.words.specs.Walking.{walk_shape}
+use Rattle.walk.proofs.WindowLaws.{whole_rest, shifted, shifted_pos, shape_turn, shape_end, settled_left}
+use Rattle.walk.proofs.walk_shape.Given as goal
+
+abbrev pub invariant-loop-low : goal.invariant-loop-low
+invariant-loop-low l = (l.low ≤ l.bits) × (l.low % 7 ≡ 0) × (l.rest ≡ l.x % 2 ^ l.low) × (walk_shape l.initial.q (chars_in (l.bits / 7) l.x) ≡ walk_shape l.q (chars_in (l.low / 7) l.rest))
+
+abbrev pub decreases-loop-low : goal.decreases-loop-low
+decreases-loop-low l = l.low
