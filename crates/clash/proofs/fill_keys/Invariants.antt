@@ -1,0 +1,17 @@
+use native.Mathlib.Omega.{arith}
+use mathlib.Core.Path.{◌≡◌, refl, sym, ap, ◌∙◌}
+use Prim.Native.Nat.{ℕ, ◌≤◌, ◌<◌, ◌-◌}
+use lib.ListN.{length, length-set, get_or}
+use Rattle.names.specs.Digests.{digest}
+use Rattle.names.proofs.NameLaws.{digests_length, digest_there}
+use Rattle.view.specs.Values.{item_no}
+use Rattle.clash.specs.Clashes.{own_name}
+use Rattle.rules.proofs.SearchLaws.{filled_turn}
+use Rattle.clash.proofs.ViewLaws.{key_there}
+use Rattle.clash.proofs.fill_keys.Given as goal
+
+abbrev pub invariant-loop-i : goal.invariant-loop-i
+invariant-loop-i l = (l.i ≤ length l.items) × (length l.keys ≡ length l.initial.keys) × ((k : ℕ) → k < l.i → get_or l.keys k 0 ≡ digest (own_name (item_no l.s l.names l.items k)))
+
+abbrev pub decreases-loop-i : goal.decreases-loop-i
+decreases-loop-i l = length l.items - l.i

@@ -1,0 +1,17 @@
+use native.Mathlib.Omega.{arith}
+use mathlib.Core.Path.{◌≡◌, refl, sym, ◌∙◌}
+use Prim.Native.Nat.{◌≤◌, ◌-◌}
+use lib.ListN.{drop}
+use Rattle.lexical.proofs.BoolLaws.{not-true, not-false}
+use Rattle.clash.specs.Clashes.{same_names}
+use Rattle.view.specs.Values.{item_no}
+use Rattle.clash.proofs.ViewLaws.{depths_differ, spaces_turn, spaces_differ, spaces_end}
+use mathlib.Core.Path.{ap}
+use mathlib.Core.Bool.{not}
+use Rattle.clash.proofs.same_namespace.Given as goal
+
+abbrev pub invariant-loop-d : goal.invariant-loop-d
+invariant-loop-d l = (l.d ≤ l.v.depth) × (same_names (item_no l.s l.names l.items l.v.number).namespace (item_no l.s l.names l.items l.w.number).namespace ≡ same_names (drop l.d (item_no l.s l.names l.items l.v.number).namespace) (drop l.d (item_no l.s l.names l.items l.w.number).namespace))
+
+abbrev pub decreases-loop-d : goal.decreases-loop-d
+decreases-loop-d l = l.v.depth - l.d

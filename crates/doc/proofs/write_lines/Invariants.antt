@@ -1,0 +1,14 @@
+use mathlib.Core.List.{◌++◌}
+use native.Mathlib.Omega.{arith}
+use Rattle.lexical.specs.Bytes.{bytes}
+use Rattle.lexical.specs.Decimal.{pick_text}
+use Rattle.sink.specs.Sink.{sink}
+use Rattle.sink.proofs.SinkLaws.{wrote_length}
+use Rattle.doc.proofs.DocLaws.{Writing, writing_none, writing_yields, writing_one, writing_done}
+use Rattle.doc.proofs.write_lines.Given as goal
+
+abbrev pub invariant-loop-left : goal.invariant-loop-left
+invariant-loop-left w = Writing (λ l. pick_text w.doxygen (bytes "///") (bytes "//") ++ l ++ bytes "\n") w.s w.n w.initial.next.at w.left w.next.at (sink w.initial.out w.initial.here) (sink w.out w.here)
+
+abbrev pub decreases-loop-left : goal.decreases-loop-left
+decreases-loop-left l = l.left

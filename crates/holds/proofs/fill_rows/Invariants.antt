@@ -1,0 +1,12 @@
+use native.Mathlib.Omega.{arith}
+use Prim.Native.Nat.{◌-◌, ◌≤◌}
+use Rattle.toposort.specs.Adjacency.{item_numbers}
+use Rattle.view.specs.Values.{items_at}
+use Rattle.holds.proofs.EdgeLaws.{items_passed, Filling, fill_none, fill_next, filling_all, fill_done}
+use Rattle.holds.proofs.fill_rows.Given as goal
+
+abbrev pub invariant-loop-i : goal.invariant-loop-i
+invariant-loop-i l = (l.i ≤ item_numbers) × Filling (items_at l.s l.names l.items) l.i l.end l.starts l.held
+
+abbrev pub decreases-loop-i : goal.decreases-loop-i
+decreases-loop-i l = item_numbers - l.i

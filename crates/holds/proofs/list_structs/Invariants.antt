@@ -1,0 +1,12 @@
+use native.Mathlib.Omega.{arith}
+use Prim.Native.Nat.{◌-◌, ◌≤◌}
+use lib.ListN.{length}
+use Rattle.view.specs.Values.{items_at}
+use Rattle.holds.proofs.EdgeLaws.{items_there, items_passed, Listing, list_none, list_next, list_done}
+use Rattle.holds.proofs.list_structs.Given as goal
+
+abbrev pub invariant-loop-i : goal.invariant-loop-i
+invariant-loop-i l = (l.i ≤ length l.items) × Listing (items_at l.s l.names l.items) l.i l.n l.numbers
+
+abbrev pub decreases-loop-i : goal.decreases-loop-i
+decreases-loop-i l = length l.items - l.i

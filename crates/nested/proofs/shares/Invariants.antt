@@ -1,0 +1,17 @@
+use native.Mathlib.Omega.{arith}
+use mathlib.Core.Path.{◌≡◌}
+use Prim.Native.Nat.{◌≤◌, ◌-◌}
+use lib.ListN.{drop}
+use Rattle.lexical.proofs.BoolLaws.{not-true, not-false}
+use Rattle.view.specs.Values.{item_no}
+use Rattle.nested.specs.Groups.{shared}
+use Rattle.nested.proofs.ViewLaws.{first_short, second_short, spaces_begin, spaces_turn, spaces_differ, spaces_end}
+use mathlib.Core.Path.{ap}
+use mathlib.Core.Bool.{not}
+use Rattle.nested.proofs.shares.Given as goal
+
+abbrev pub invariant-loop-d : goal.invariant-loop-d
+invariant-loop-d l = (l.d ≤ l.depth) × (shared l.depth (item_no l.s l.names l.items l.v.number).namespace (item_no l.s l.names l.items l.w.number).namespace ≡ shared (l.depth - l.d) (drop l.d (item_no l.s l.names l.items l.v.number).namespace) (drop l.d (item_no l.s l.names l.items l.w.number).namespace))
+
+abbrev pub decreases-loop-d : goal.decreases-loop-d
+decreases-loop-d l = l.depth - l.d

@@ -1,0 +1,14 @@
+use native.Mathlib.Omega.{arith}
+use Prim.Native.Nat.{◌≤◌, ◌-◌}
+use mathlib.Core.Path.{◌≡◌, refl, ◌∙◌, sym}
+use lib.ListN.{length}
+use Rattle.tables.specs.Tables.{Filled}
+use Rattle.tables.proofs.PoolLaws.{filled_none, name_left, place_inside, turn_long, filled_turn}
+use borrow.Author.Rules.{rules}
+use Rattle.tables.proofs.fill_pool.Given as goal
+
+abbrev pub invariant-loop-i : goal.invariant-loop-i
+invariant-loop-i l = (l.i ≤ l.n) × (l.end ≤ 12000) × (length l.pool ≡ length l.initial.pool) × Filled l.s l.initial.t l.t l.pool l.end
+
+abbrev pub decreases-loop-i : goal.decreases-loop-i
+decreases-loop-i l = l.n - l.i

@@ -1,0 +1,14 @@
+use native.Mathlib.Omega.{arith}
+use mathlib.Core.Path.{sym}
+use lib.Seq.{length-take-le}
+use Rattle.tables.proofs.TableLaws.{names_part, items_part}
+use Rattle.tables.proofs.item.Goals as goal
+
+pub slice_bounds-item-end : goal.slice_bounds-item-end
+slice_bounds-item-end c = sym (length-take-le _ _ (omega (arith, c.requires.0.names, c.requires.0.long)))
+
+pub item-requires : goal.item-requires
+item-requires c = rw (names_part c.args.t.now, items_part c.args.t.now) (c.requires.0.whole, c.requires.1)
+
+pub returns : goal.returns
+returns c = rw (names_part c.args.t.now, items_part c.args.t.now) at c.item.ensures

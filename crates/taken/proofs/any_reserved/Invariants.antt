@@ -1,0 +1,14 @@
+use native.Mathlib.Omega.{arith}
+use mathlib.Core.Path.{◌≡◌, refl, sym, ◌∙◌}
+use Prim.Native.Nat.{◌≤◌, ◌-◌}
+use lib.ListN.{length, drop}
+use Rattle.rules.specs.Rules.{any, reserved_namespace}
+use Rattle.view.specs.Values.{items_at}
+use Rattle.clash.proofs.ListLaws.{items_turn, items_hit, items_end}
+use Rattle.taken.proofs.any_reserved.Given as goal
+
+abbrev pub invariant-loop-i : goal.invariant-loop-i
+invariant-loop-i l = (l.i ≤ length l.items) × (any (λ x. reserved_namespace x.namespace) (items_at l.s l.names l.items) ≡ any (λ x. reserved_namespace x.namespace) (drop l.i (items_at l.s l.names l.items)))
+
+abbrev pub decreases-loop-i : goal.decreases-loop-i
+decreases-loop-i l = length l.items - l.i
