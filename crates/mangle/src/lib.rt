@@ -1,4 +1,5 @@
 // The full names of items, and the symbols of functions and of layouts.
+#![tactic(auto)]
 mod full;
 mod mangle;
 mod namespace;

@@ -1,0 +1,5 @@
+use Rattle.sink.proofs.SinkLaws.{◌▷◌, wrote_as}
+use Rattle.forward.proofs.write_struct_decl.Goals as goal
+
+pub returns : goal.returns
+returns c = c.put_bytes-name.ensures ▷ wrote_as c.put_name_of-end.ensures c.requires.1.view.cxx ▷ c.put_bytes.ensures

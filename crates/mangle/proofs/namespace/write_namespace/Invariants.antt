@@ -1,0 +1,16 @@
+use native.Mathlib.Omega.{arith}
+use Prim.Native.Nat.{◌≤◌, ◌-◌}
+use lib.ListN.{take}
+use Rattle.syntax.specs.Items.{item_at}
+use Rattle.sink.specs.Sink.{sink, Wrote}
+use Rattle.sink.proofs.SinkLaws.{wrote_length}
+use Rattle.mangle.specs.Segments.{each_between}
+use Rattle.mangle.proofs.NameLaws.{spaces_none, spaces_turn, spaces_all}
+use Rattle.tables.specs.Tables.{items_of}
+use Rattle.mangle.proofs.namespace.write_namespace.Given as goal
+
+abbrev pub invariant-loop-d : goal.invariant-loop-d
+invariant-loop-d l = (l.d ≤ l.v.depth) × Wrote (sink l.initial.out l.initial.here) (each_between l.before l.behind (take l.d (item_at (items_of l.s l.t) l.v.number).namespace)) (sink l.out l.here)
+
+abbrev pub decreases-loop-d : goal.decreases-loop-d
+decreases-loop-d l = l.v.depth - l.d

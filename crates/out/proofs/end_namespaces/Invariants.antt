@@ -1,0 +1,10 @@
+use native.Mathlib.Omega.{arith}
+use Rattle.out.specs.State.{content_of}
+use Rattle.out.proofs.StateLaws.{Ending, ending_none, ending_known, ending_listed, ending_room, ending_turn, ending_done}
+use Rattle.out.proofs.end_namespaces.Given as goal
+
+abbrev pub invariant-loop-d : goal.invariant-loop-d
+invariant-loop-d l = Ending l.s l.names (content_of l.initial.c) (content_of l.c) l.d
+
+abbrev pub decreases-loop-d : goal.decreases-loop-d
+decreases-loop-d l = l.d
