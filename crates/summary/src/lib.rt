@@ -1,4 +1,5 @@
 // Summaries of functions: what both passes over a sheet ask of a function's arguments, gathered once.
+#![tactic(auto)]
 mod count;
 
 ghost use Rattle.std.specs.Prelude.{◌≡◌, ◌+◌, ◌<◌, ◌≤◌, length, replicate};

@@ -1,0 +1,67 @@
+use mathlib.Core.Path.{refl}
+use Rattle.format.specs.Decoding.{atom_of}
+use Rattle.count_type.proofs.CountLaws.{atom_rest}
+use Rattle.count_type.proofs.atom_length.Goals as goal
+
+pub returns-in-1 : goal.returns-in-1
+unfolding atom_of
+returns-in-1 c = rw c.in-1.is refl
+
+pub returns-in-2 : goal.returns-in-2
+unfolding atom_of
+returns-in-2 c = rw c.in-2.is refl
+
+pub returns-in-3 : goal.returns-in-3
+unfolding atom_of
+returns-in-3 c = rw c.in-3.is refl
+
+pub returns-in-4 : goal.returns-in-4
+unfolding atom_of
+returns-in-4 c = rw c.in-4.is refl
+
+pub returns-in-5 : goal.returns-in-5
+unfolding atom_of
+returns-in-5 c = rw c.in-5.is refl
+
+pub returns-in-6 : goal.returns-in-6
+unfolding atom_of
+returns-in-6 c = rw c.in-6.is refl
+
+pub returns-in-7 : goal.returns-in-7
+unfolding atom_of
+returns-in-7 c = rw c.in-7.is refl
+
+pub returns-in-8 : goal.returns-in-8
+unfolding atom_of
+returns-in-8 c = rw c.in-8.is refl
+
+pub returns-in-9 : goal.returns-in-9
+unfolding atom_of
+returns-in-9 c = rw c.in-9.is refl
+
+pub returns-in-10 : goal.returns-in-10
+unfolding atom_of
+returns-in-10 c = rw c.in-10.is refl
+
+pub returns-in-11 : goal.returns-in-11
+unfolding atom_of
+returns-in-11 c = rw c.in-11.is refl
+
+pub returns-in-12 : goal.returns-in-12
+unfolding atom_of
+returns-in-12 c = rw c.in-12.is refl
+
+pub returns-in-13 : goal.returns-in-13
+unfolding atom_of
+returns-in-13 c = rw c.in-13.is refl
+
+pub returns-in-14 : goal.returns-in-14
+unfolding atom_of
+returns-in-14 c = rw c.in-14.is refl
+
+pub returns-in-15 : goal.returns-in-15
+unfolding atom_of
+returns-in-15 c = rw c.in-15.is refl
+
+pub returns-in_default : goal.returns-in_default
+returns-in_default c = atom_rest _ c.in_default.in_default-own.rest

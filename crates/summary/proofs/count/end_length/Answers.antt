@@ -1,0 +1,12 @@
+use Rattle.std.proofs.Common.{refl, rules}
+use Rattle.summary.proofs.HeldLaws.{end_by_owner, end_of_others}
+use Rattle.summary.proofs.count.end_length.Goals as goal
+
+pub returns-in-1 : goal.returns-in-1
+returns-in-1 c = end_by_owner _ c.in-1.is refl
+
+pub returns-in-2 : goal.returns-in-2
+returns-in-2 c = end_by_owner _ c.in-2.is refl
+
+pub returns-in_default : goal.returns-in_default
+returns-in_default c = end_of_others c.args.owner _ c.in_default.in_default-own.rest c.value_length.ensures

@@ -1,0 +1,12 @@
+use Rattle.std.proofs.Common.{refl, arith, rules}
+use Rattle.sink.specs.Sink.{sink}
+use Rattle.sink.proofs.SinkLaws.{wrote_length}
+use Rattle.write_chain.specs.Chains.{ends_of, Remains}
+use Rattle.write_chain.proofs.ChainLaws.{remains_all, leaving_next, leaving_done}
+use Rattle.write_chain.proofs.leave.Given as goal
+
+abbrev pub invariant-loop-stack : goal.invariant-loop-stack
+invariant-loop-stack l = Remains (sink l.initial.out l.at) (ends_of l.codes) (sink l.out l.here) (ends_of l.stack)
+
+abbrev pub decreases-loop-stack : goal.decreases-loop-stack
+decreases-loop-stack l = l.stack
