@@ -1,131 +1,133 @@
-// Reads a sheet on standard input, and writes its text from a buffer of 65,536 bytes, or which refusal it has. With the
-// argument `check` it only says whether the sheet is accepted; with `order` it lists the sheet's structs, each after
-// those that it holds: an item number to a line, counted from 0. Where a read or a write fails, it says so on standard
-// error, with errno's number and text; what cannot be read is no sheet, and has no answer.
-ghost use Rattle.std.specs.Prelude.{◌≤◌, length};
+//! Reads a sheet on standard input, and writes its text from a buffer of 65,536 bytes, or which refusal it has. With the
+//! argument `check` it only says whether the sheet is accepted; with `order` it lists the sheet's structs, each after
+//! those that it holds: an item number to a line, counted from 0. Where a read or a write fails, it says so on standard
+//! error, with the system's text and number; what cannot be read is no sheet, and has no answer.
+#![tactic(auto)]
+
+ghost use Rattle.std.specs.Prelude.{◌≤◌, IfOk, length};
 
 use check_sheet::check;
 use format::Outline;
-use libc::{STDERR_FILENO, STDIN_FILENO, STDOUT_FILENO};
 use refusal::{Refusal, number};
 use rules::Checked;
 use services::Written;
+use std::env::{Env, FillError};
+use std::io;
+use std::io::{Input, Read};
 use struct_order::struct_order;
 use words::equal;
 use write_sheet::write;
 
-// ---- answers; false where a write fails
+// How many bytes of a sheet are read, and how many a text may have.
+const ROOM: usize = 65536;
 
-fn write_number(n: u8) -> bool {
-    io::print_decimal(STDOUT_FILENO, n as u64) && io::write_all(STDOUT_FILENO, b"\n")
+// ---- answers
+
+fn write_number(rt: &impl Print, n: u8) -> io::Result<()> {
+    println!(rt; "{n}")
 }
 
-fn write_refusal(e: Refusal) -> bool {
-    io::write_all(STDOUT_FILENO, b"refused ") && write_number(number(e))
+fn write_refusal(rt: &impl Print, e: Refusal) -> io::Result<()> {
+    rt.write_all(b"refused ")?;
+    write_number(rt, number(e))
 }
 
-fn write_text(sheet: &[u8]) -> bool {
-    let mut text = io::large_buffer();
+fn write_text(rt: &impl Print, sheet: &[u8]) -> io::Result<()> {
+    let mut text = [0u8; ROOM];
     let w = write(sheet, &mut text);
     match w {
-        Written::Length(n) => io::write_all(STDOUT_FILENO, &text[..n]),
-        Written::Refused(e) => write_refusal(e),
+        Written::Length(n) => rt.write_all(&text[..n]),
+        Written::Refused(e) => write_refusal(rt, e),
     }
 }
 
-fn write_check(sheet: &[u8]) -> bool {
+fn write_check(rt: &impl Print, sheet: &[u8]) -> io::Result<()> {
     let c = check(sheet);
     match c {
-        Checked::Accepted => io::write_all(STDOUT_FILENO, b"accepted\n"),
-        Checked::Refused(e) => write_refusal(e),
+        Checked::Accepted => rt.write_all(b"accepted\n"),
+        Checked::Refused(e) => write_refusal(rt, e),
     }
 }
 
-fn write_items(list: &[u8]) -> bool {
-    let mut i: usize = 0;
-    while i < list.len() {
-        let item = list[i];
-        if !write_number(item) {
-            return false;
-        }
-        i = i + 1;
+fn write_items(rt: &impl Print, list: &[u8]) -> io::Result<()> {
+    for item in list {
+        write_number(rt, *item)?;
     }
-    true
+    Ok(())
 }
 
-fn write_order(sheet: &[u8]) -> bool {
+fn write_order(rt: &impl Print, sheet: &[u8]) -> io::Result<()> {
     let mut list = [0u8; Outline::ITEMS];
     let w = struct_order(sheet, &mut list);
     match w {
-        Written::Length(n) => write_items(&list[..n]),
-        Written::Refused(e) => write_refusal(e),
+        Written::Length(n) => write_items(rt, &list[..n]),
+        Written::Refused(e) => write_refusal(rt, e),
     }
 }
 
 // ---- the program
 
-// What failed, and errno's number and text.
-fn write_failure(what: &[u8], error: i32) {
-    io::write_all(STDERR_FILENO, b"bridgetext: ");
-    io::write_all(STDERR_FILENO, what);
-    if 0 <= error {
-        io::write_all(STDERR_FILENO, b", errno ");
-        io::print_decimal(STDERR_FILENO, error as u64);
-    }
-    os::fail(b"");
+// What failed, and the system's text and number. Where this too cannot be written, nothing is left to say so.
+fn write_failure(rt: &impl Eprint, what: &str, error: io::Error) {
+    let _ = eprintln!(rt; "bridgetext: {what}: {error}");
 }
 
-// Reads until the buffer is full or the input ends: how many bytes it put there, or -1 where a read fails.
-fn read_sheet(sheet: &mut [u8]) -> isize
-    requires { length sheet.old ≤ 65536 }
+// Reads until the buffer is full or the input ends: how many bytes it put there.
+fn read_sheet(input: &mut impl Read, sheet: &mut [u8]) -> io::Result<usize>
+    ensures { IfOk result (λ n. n ≤ length sheet.new) }
 {
     let mut n: usize = 0;
     while n < sheet.len() {
-        let rest = &mut sheet[n..];
-        let got = libc::read(STDIN_FILENO, rest);
-        if got < 0 {
-            return -1;
-        }
-        let more = io::count(got, rest);
+        let more = input.read(&mut sheet[n..])?;
         if more == 0 {
-            return n as isize;
+            return Ok(n);
         }
-        n = n + more;
+        n += more;
     }
-    n as isize
+    Ok(n)
 }
 
-fn write_answer(is_check: bool, is_order: bool) {
-    let mut sheet = io::large_buffer();
-    let got = read_sheet(&mut sheet);
-    if got < 0 {
-        write_failure(b"cannot read the sheet", os::errno());
-        return;
-    }
-    let n = io::count(got, &sheet);
-    let is_written = if is_check {
-        write_check(&sheet[..n])
-    } else if is_order {
-        write_order(&sheet[..n])
-    } else {
-        write_text(&sheet[..n])
+fn write_answer(rt: &(impl Input + Print + Eprint), is_check: bool, is_order: bool) {
+    let mut sheet = [0u8; ROOM];
+    let n = match read_sheet(&mut rt.reader(), &mut sheet) {
+        Ok(n) => n,
+        Err(e) => {
+            write_failure(rt, "cannot read the sheet", e);
+            return;
+        }
     };
-    if !is_written {
-        write_failure(b"cannot write the answer", os::errno());
+    let written = if is_check {
+        write_check(rt, &sheet[..n])
+    } else if is_order {
+        write_order(rt, &sheet[..n])
+    } else {
+        write_text(rt, &sheet[..n])
+    };
+    if let Err(e) = written {
+        write_failure(rt, "cannot write the answer", e);
     }
 }
 
-fn main() {
-    let count = os::arg_count();
+fn write_usage(rt: &impl Eprint) {
+    let _ = eprintln!(rt; "usage: bridgetext [check|order] < SHEET");
+}
+
+fn main(rt: HostRuntime) {
     let mut word = [0u8; 8];
-    let n = os::arg(1, &mut word);
+    let n = match rt.arg(1, &mut word) {
+        Ok(n) => n,
+        Err(FillError::NotPresent) => {
+            write_answer(&rt, false, false);
+            return;
+        }
+        Err(FillError::TooLong) => 0,
+    };
     let is_check = equal(&word[..n], b"check");
     let is_order = equal(&word[..n], b"order");
-    if count < 2 {
-        write_answer(false, false);
-    } else if count == 2 && (is_check || is_order) {
-        write_answer(is_check, is_order);
+    let is_last = matches!(rt.arg(2, &mut []), Err(FillError::NotPresent));
+    if is_last && (is_check || is_order) {
+        write_answer(&rt, is_check, is_order);
     } else {
-        io::write_all(STDERR_FILENO, b"usage: bridgetext [check|order] < SHEET\n");
+        write_usage(&rt);
     }
 }
