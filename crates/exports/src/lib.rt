@@ -1,4 +1,6 @@
-// The services as C and Rust call them.
+//! The services with numbers for answers, as C and Rust get them. exports_c gives them C's symbols.
+#![tactic(auto)]
+
 ghost use Rattle.std.specs.Prelude.{◌≡◌, ◌<◌, ◌^◌, pos, neg_ℤ};
 ghost use Rattle.refusal.specs.Refusal.{number_of};
 ghost use Rattle.services.specs.Services.{written_code};
@@ -21,8 +23,7 @@ fn refusal_code(e: Refusal) -> i64
 }
 
 // Any bytes: 0 if the sheet is accepted, else the refusal's number negated.
-#[unsafe(no_mangle)]
-pub extern "C" fn bridgetext_check(sheet: &[u8]) -> i64
+pub fn bridgetext_check(sheet: &[u8]) -> i64
     ensures { ChecksCode sheet.now result }
 {
     let c = check(sheet);
@@ -44,8 +45,7 @@ fn written_code(w: Written) -> i64
 }
 
 // Any bytes: the length of the list at the front of `buf`, or the refusal's number negated.
-#[unsafe(no_mangle)]
-pub extern "C" fn bridgetext_struct_order(sheet: &[u8], buf: &mut [u8]) -> i64
+pub fn bridgetext_struct_order(sheet: &[u8], buf: &mut [u8]) -> i64
     ensures { OrdersCode sheet.now buf.old result buf.new }
 {
     let w = struct_order(sheet, buf);
@@ -53,8 +53,7 @@ pub extern "C" fn bridgetext_struct_order(sheet: &[u8], buf: &mut [u8]) -> i64
 }
 
 // Any bytes: the length of the text at the front of `buf`, or the refusal's number negated.
-#[unsafe(no_mangle)]
-pub extern "C" fn bridgetext_write(sheet: &[u8], buf: &mut [u8]) -> i64
+pub fn bridgetext_write(sheet: &[u8], buf: &mut [u8]) -> i64
     ensures { WritesCode sheet.now buf.old result buf.new }
 {
     let w = write(sheet, buf);
