@@ -10,7 +10,6 @@ use mir.Val.{SFits, to_z, of_z}
 use mir.Facts.{to_z_pos, to_z-of_z}
 use Rattle.format.specs.Sheet.{Sheet}
 use Rattle.services.specs.declared.Written.{Written}
-use Rattle.services.specs.declared.Written.TheVariants as Written
 use Rattle.services.specs.Services.{Serves, written_code}
 use Rattle.struct_order.proofs.ServeLaws.{served_inside}
 use Rattle.exports.specs.Codes.{Codes, length_of}

@@ -1,4 +1,4 @@
-use Rattle.std.proofs.Common.{length, ◌-◌, ◌≤◌, ℕ}
+use Rattle.std.proofs.Common.{length, ◌-◌, ◌≤◌}
 use Rattle.bridgetext.proofs.read_sheet.Given as goal
 
 abbrev pub invariant-loop-n : goal.invariant-loop-n
