@@ -10,7 +10,8 @@ use Rattle.grammar.specs.Tree.{LayoutDefinition, Local, held, room, Operand, rec
 use Rattle.grammar.specs.Tree.{into_raw, release, address, held_address, slot_address, CallForm, bare, error, returned}
 use Rattle.grammar.specs.Tree.{dereferenced, in_from_raw, in_unique_ptr, in_new_unchecked, in_slice, Call, Shim, Item}
 use Rattle.grammar.specs.Tree.{declares, defines, shim, Block, namespace, extern_c, Body, body_end, item, block, Line}
-use Rattle.grammar.specs.Tree.{struct_line, enum_line, using_line, Forward, forward_end, line, bare_namespace, Text, text}
+use Rattle.grammar.specs.Tree.{struct_line, enum_line, using_line, Forward, forward_end, line, bare_namespace, Text}
+use Rattle.grammar.specs.Tree.{text}
 use Rattle.grammar.specs.Reading.{Reading}
 use Rattle.bridge.specs.Write as Bridge
 use Rattle.agreement.specs.Agreement.{head_parts, Agrees}

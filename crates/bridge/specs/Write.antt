@@ -1,6 +1,7 @@
 -- bridge/write.rs: `write_forward_declarations`, then `write_functions` without its Struct and CxxFunction arms and
 -- without `write_std_specializations`, then `flush`. Names are those of write.rs.
-use Rattle.std.specs.Prelude.{ℕ, zero, suc, ◌+◌, ◌*◌, Bool, true, false, not, ◌&&◌, ◌||◌, List, [], ◌∷◌, ◌++◌, map, length, replicate, ◌==◌}
+use Rattle.std.specs.Prelude.{ℕ, zero, suc, ◌+◌, ◌*◌, Bool, true, false, not, ◌&&◌, ◌||◌, List, [], ◌∷◌, ◌++◌, map}
+use Rattle.std.specs.Prelude.{length, replicate, ◌==◌}
 use Rattle.lexical.specs.Bytes.{bytes, same}
 use Rattle.lexical.specs.Decimal.{pick_text}
 use Rattle.format.specs.Limits.{most_namespaces}
@@ -176,7 +177,8 @@ function_decl items x f =
 
 unfoldable pub write_rust_function_decl : List Item → Item → Function → Content → Content
 write_rust_function_decl items x f c =
-    end_block extern_c (write (function_decl items x f) (next_section (begin_block extern_c (set_namespace x.namespace c))))
+    end_block extern_c
+    (write (function_decl items x f) (next_section (begin_block extern_c (set_namespace x.namespace c))))
 
 unfoldable pub layout_decl : Item → List ℕ → List ℕ
 layout_decl x name = bytes "::std::size_t " ++ operator x name ++ bytes "() noexcept;\n"

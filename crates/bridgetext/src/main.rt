@@ -1,7 +1,7 @@
-//! Reads a sheet on standard input, and writes its text from a buffer of 65,536 bytes, or which refusal it has. With the
-//! argument `check` it only says whether the sheet is accepted; with `order` it lists the sheet's structs, each after
-//! those that it holds: an item number to a line, counted from 0. Where a read or a write fails, it says so on standard
-//! error, with the system's text and number; what cannot be read is no sheet, and has no answer.
+//! Reads a sheet on standard input, and writes its text from a buffer of 65,536 bytes, or which refusal it has. With
+//! the argument `check` it only says whether the sheet is accepted; with `order` it lists the sheet's structs, each
+//! after those that it holds: an item number to a line, counted from 0. Where a read or a write fails, it says so on
+//! standard error, with the system's text and number; what cannot be read is no sheet, and has no answer.
 #![tactic(auto)]
 
 ghost use Rattle.std.specs.Prelude.{◌≤◌, IfOk, length};

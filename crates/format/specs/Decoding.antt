@@ -1,6 +1,7 @@
 -- From bytes to the value of a sheet, or to the first fault of 1 to 8 (document 01, "The sheet", rules 1 to 4;
 -- document 02, order 3 of names, order 13 of editions).
-use Rattle.std.specs.Prelude.{List, [], ◌∷◌, Bool, true, false, not, ◌&&◌, ℕ, zero, suc, ◌-◌, ◌*◌, ◌%◌, length, get_or, leb, eqb}
+use Rattle.std.specs.Prelude.{List, [], ◌∷◌, Bool, true, false, not, ◌&&◌, ℕ, zero, suc, ◌-◌, ◌*◌, ◌%◌, length, get_or}
+use Rattle.std.specs.Prelude.{leb, eqb}
 use Rattle.refusal.specs.declared.Refusal.{Refusal}
 use Rattle.refusal.specs.declared.Refusal.TheVariants.{CutSheet, Edition, BadName, BadKind, TooDeep, BadComment, Tail}
 use Rattle.lexical.specs.Bytes.{within, every}

@@ -1,5 +1,6 @@
 -- What a tree must keep: the name rule and the limits of document 01's grammar.
-use Rattle.std.specs.Prelude.{ℕ, suc, ◌+◌, max, Bool, true, false, cond, not, ◌&&◌, ◌||◌, leb, List, [], ◌∷◌, length, ◌==◌, nat_le, nat_lt}
+use Rattle.std.specs.Prelude.{ℕ, suc, ◌+◌, max, Bool, true, false, cond, not, ◌&&◌, ◌||◌, leb, List, [], ◌∷◌, length}
+use Rattle.std.specs.Prelude.{◌==◌, nat_le, nat_lt}
 use Rattle.lexical.specs.Bytes.{bytes, within, every, same, member}
 use Rattle.lexical.specs.Names.{name_start, starts, reserved, is_name}
 use Rattle.grammar.specs.Token.{word_char}
@@ -112,7 +113,8 @@ at_most_one test (x ∷ xs) = cond (test x) 1 (at_most_one test xs)
 
 -- "31 arguments", and besides them one receiver and one slot
 unfoldable pub few_arguments : {A : Type 0} → (A → Bool) → (A → Bool) → List A → Bool
-few_arguments is_receiver is_slot xs = nat_le (length xs) (max_arguments + at_most_one is_receiver xs + at_most_one is_slot xs)
+few_arguments is_receiver is_slot xs =
+    nat_le (length xs) (max_arguments + at_most_one is_receiver xs + at_most_one is_slot xs)
 
 -- heads
 
@@ -227,7 +229,8 @@ unfoldable pub body_ok : ℕ → Bool → Body → Bool
 body_ok depth in_extern_c body_end = true
 body_ok depth in_extern_c (item i next) = item_ok depth in_extern_c i && body_ok depth in_extern_c next
 body_ok depth in_extern_c (block (namespace x) inside next) =
-    is_name x && (nat_lt depth max_namespaces && (body_ok (suc depth) in_extern_c inside && body_ok depth in_extern_c next))
+    is_name x
+    && (nat_lt depth max_namespaces && (body_ok (suc depth) in_extern_c inside && body_ok depth in_extern_c next))
 body_ok depth in_extern_c (block extern_c inside next) = body_ok depth true inside && body_ok depth in_extern_c next
 
 -- the forward part

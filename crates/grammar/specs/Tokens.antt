@@ -88,11 +88,13 @@ abbrev mutual
   base_tokens str rest = quoted ":: rust :: Str" rest
   base_tokens (full path) rest = path_tokens path rest
   base_tokens (template t x) rest = template_tokens t (type_tokens x (quoted ">" rest))
-  base_tokens (slice x is_const) rest = quoted ":: rust :: Slice <" (type_tokens x (const_tokens is_const (quoted ">" rest)))
+  base_tokens (slice x is_const) rest =
+      quoted ":: rust :: Slice <" (type_tokens x (const_tokens is_const (quoted ">" rest)))
   base_tokens (array x n) rest =
       quoted ":: std :: array <" (type_tokens x (quoted "," (word (decimal n) ∷ quoted ">" rest)))
   base_tokens (void_fn xs) rest = quoted ":: rust :: Fn < void (" (types_tokens xs (quoted ") >" rest))
-  base_tokens (fn x xs) rest = quoted ":: rust :: Fn <" (type_tokens x (quoted "(" (types_tokens xs (quoted ") >" rest))))
+  base_tokens (fn x xs) rest =
+      quoted ":: rust :: Fn <" (type_tokens x (quoted "(" (types_tokens xs (quoted ") >" rest))))
 
   pub types_tokens : CxxTypes → List Token → List Token
   types_tokens nil rest = rest

@@ -102,7 +102,8 @@ abbrev pub mark_error : ℕ → List ℕ → List ℕ
 mark_error i u = mark_if (ltb i 256) (error_at i) u
 
 unfoldable pub judge_argument : Bool → Bool → Argument → List ℕ → List ℕ
-judge_argument method throws a u = each mark_error (error_item throws a) (mark_if (unfit_now method throws a) unfit_at u)
+judge_argument method throws a u =
+    each mark_error (error_item throws a) (mark_if (unfit_now method throws a) unfit_at u)
 
 -- the item indexes of its type, and what it is
 unfoldable pub mark_argument : Bool → Bool → Argument → List ℕ → List ℕ

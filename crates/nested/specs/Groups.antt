@@ -1,6 +1,7 @@
 -- bridge/nested.rs without its lists. A group is named by one of its items, the leader, and a depth: its members need
 -- a forward declaration and lie in the leader's first so many namespaces.
-use Rattle.std.specs.Prelude.{◌≡◌, List, [], ◌∷◌, Bool, true, false, not, ◌&&◌, ℕ, zero, suc, ◌+◌, ◌<◌, ◌≤◌, ltb, eqb, length, take}
+use Rattle.std.specs.Prelude.{◌≡◌, List, [], ◌∷◌, Bool, true, false, not, ◌&&◌, ℕ, zero, suc, ◌+◌, ◌<◌, ◌≤◌, ltb, eqb}
+use Rattle.std.specs.Prelude.{length, take}
 use Rattle.lexical.specs.Bytes.{same}
 use Rattle.format.specs.Sheet.{Name, Body, enum, Item}
 use Rattle.format.specs.Decoding.{atom_of}

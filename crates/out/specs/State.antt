@@ -1,5 +1,6 @@
 -- How a Content of the code stands for a state of out.rs' machine.
-use Rattle.std.specs.Prelude.{◌≡◌, List, [], ◌∷◌, ◌++◌, map, Bool, ℕ, zero, suc, ◌+◌, ◌*◌, ◌/◌, ◌%◌, ◌<◌, ◌≤◌, ltb, length, get_or, drop}
+use Rattle.std.specs.Prelude.{◌≡◌, List, [], ◌∷◌, ◌++◌, map, Bool, ℕ, zero, suc, ◌+◌, ◌*◌, ◌/◌, ◌%◌, ◌<◌, ◌≤◌, ltb}
+use Rattle.std.specs.Prelude.{length, get_or, drop}
 use Rattle.format.specs.Limits.{most_names, most_bits, most_namespaces}
 use Rattle.format.specs.Decode.{many}
 use Rattle.format.specs.Sheet.{Name}

@@ -7,7 +7,8 @@ use Rattle.format.specs.Sheet.{Body, struct, enum, cxx_type, rust_type, function
 use Rattle.rules.specs.Rules.{gather}
 use Rattle.bridge.specs.Block.{Block, user_defined_namespace, extern_c, write_begin, write_end, same_block}
 use Rattle.bridge.specs.Out.{some}
-use Rattle.bridge.specs.Write.{forward_declarations, function_decl, layout_decl, layout_definition, function_shim, is_free}
+use Rattle.bridge.specs.Write.{forward_declarations, function_decl, layout_decl, layout_definition, function_shim}
+use Rattle.bridge.specs.Write.{is_free}
 
 pub record Piece : Type 0 where
   pub around : List Block  -- outermost first

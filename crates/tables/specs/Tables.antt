@@ -11,7 +11,8 @@ use Rattle.syntax.specs.Items.{item_at, full_name}
 use Rattle.bridge.specs.WriteType.{write_type_space}
 use Rattle.view.specs.declared.ItemView.{ItemView}
 use Rattle.view.specs.declared.FunctionView.{FunctionView}
-use Rattle.view.specs.Values.{next_of, Yields, name_at, names_at, items_at, item_no, function_at, argument_at, type_here, Whole}
+use Rattle.view.specs.Values.{next_of, Yields, name_at, names_at, items_at, item_no, function_at, argument_at}
+use Rattle.view.specs.Values.{type_here, Whole}
 use Rattle.view.specs.Views.{ItemAt, FunctionAt, ArgumentsAt, FactsOf, unpacked}
 
 -- the positions of the names, as many as place 1023 says

@@ -20,7 +20,8 @@ use Rattle.view.specs.declared.ItemView.{ItemView}
 use Rattle.view.specs.declared.FormView.{FormView}
 use Rattle.view.specs.declared.FunctionView.{FunctionView}
 use Rattle.view.specs.declared.ArgumentView.{ArgumentView}
-use Rattle.view.specs.Values.{value_or, next_of, Yields, name_at, names_at, items_at, function_at, argument_at, type_here}
+use Rattle.view.specs.Values.{value_or, next_of, Yields, name_at, names_at, items_at, function_at, argument_at}
+use Rattle.view.specs.Values.{type_here}
 
 -- what a body's kind is
 abbrev pub kind_of_body : Body → ItemKind

@@ -1,6 +1,7 @@
 -- A name that is walked once, from its first character to its last (document 02, order 2): a state of three bytes, its
 -- steps and its verdict, for any table of words.
-use Rattle.std.specs.Prelude.{List, [], ◌∷◌, ◌++◌, Bool, true, false, ◌&&◌, ◌||◌, not, ℕ, zero, suc, ◌+◌, ◌*◌, ◌/◌, ◌%◌, ◌<◌, ◌≤◌, leb, ltb, eqb, length, get_or, take, drop}
+use Rattle.std.specs.Prelude.{List, [], ◌∷◌, ◌++◌, Bool, true, false, ◌&&◌, ◌||◌, not, ℕ, zero, suc, ◌+◌, ◌*◌, ◌/◌}
+use Rattle.std.specs.Prelude.{◌%◌, ◌<◌, ◌≤◌, leb, ltb, eqb, length, get_or, take, drop}
 use Rattle.lexical.specs.Bytes.{every}
 use Rattle.lexical.specs.Names.{letter, digit, underscore, capital}
 use Rattle.format.specs.Decode.{pick}

@@ -1,5 +1,6 @@
 -- A type's text from outside in: what stands before each inner type, and the codes of what stands behind it.
-use Rattle.std.specs.Prelude.{ℕ, zero, suc, ◌+◌, ◌*◌, ◌/◌, ◌%◌, Bool, true, false, List, [], ◌∷◌, ◌++◌, length, slice_index_or}
+use Rattle.std.specs.Prelude.{ℕ, zero, suc, ◌+◌, ◌*◌, ◌/◌, ◌%◌, Bool, true, false, List, [], ◌∷◌, ◌++◌, length}
+use Rattle.std.specs.Prelude.{slice_index_or}
 use Rattle.lexical.specs.Bytes.{bytes}
 use Rattle.sink.specs.Sink.{Sink, Wrote}
 use Rattle.format.specs.Types.{Ty}
