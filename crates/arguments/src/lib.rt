@@ -1,5 +1,6 @@
 // The arguments of one function, walked past and looked at on the way: what rules 9 to 11 want of them is marked.
 #![tactic(auto)]
+
 ghost use Rattle.std.specs.Prelude.{◌≡◌, ◌&&◌, ◌<◌, ◌≤◌, length, get_or, take};
 ghost use Rattle.lexical.specs.Bytes.{same};
 ghost use Rattle.format.specs.Limits.{most_arguments, most_bits};

@@ -1,5 +1,6 @@
 // What stands around a shim's call: the return slot, the function that takes the result, and the return of the slot.
 #![tactic(auto)]
+
 ghost use Rattle.std.specs.Prelude.{◌≡◌, true, [], ◌++◌};
 ghost use Rattle.lexical.specs.Bytes.{bytes};
 ghost use Rattle.lexical.specs.Decimal.{pick_text};

@@ -1,5 +1,6 @@
 // The check service: what documents 01 and 02 answer to any bytes.
 #![tactic(auto)]
+
 ghost use Rattle.std.specs.Prelude.{◌≡◌, ◌≤◌, length, replicate};
 ghost use Rattle.format.specs.Limits.{most_names, most_items};
 ghost use Rattle.format.specs.Decoding.{decode as decodeOf};

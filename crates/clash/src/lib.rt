@@ -1,6 +1,7 @@
 // Rule 10 of document 01's table for pairs of items: two types with the same full name, two functions with the same
 // symbol. Each is told by the names that it is made of.
 #![tactic(auto)]
+
 ghost use Rattle.std.specs.Prelude.{◌≡◌, true, ◌||◌, ◌+◌, ◌<◌, ◌≤◌, length, get_or, drop};
 ghost use Rattle.lexical.specs.Bytes.{same};
 ghost use Rattle.syntax.specs.Items.{full_name};

@@ -1,5 +1,6 @@
 // The comment lines of a sheet: the line rule, and lines that are checked.
 #![tactic(auto)]
+
 ghost use Rattle.std.specs.Prelude.{◌≡◌, List, ℕ, ◌+◌, ◌*◌, ◌≤◌, length};
 ghost use Rattle.lexical.specs.Bytes.{within, every};
 ghost use Rattle.format.specs.Decode.{many};

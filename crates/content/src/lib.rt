@@ -1,5 +1,6 @@
 // What out.rs does to the state of a text, and what nested.rs asks of items, by the table of names and items.
 #![tactic(auto)]
+
 ghost use Rattle.std.specs.Prelude.{◌≡◌, ◌<◌, ◌≤◌, length};
 ghost use Rattle.format.specs.declared.ItemKind.TheVariants.{Enum};
 ghost use Rattle.syntax.specs.Items.{item_at};

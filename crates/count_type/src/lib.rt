@@ -1,6 +1,7 @@
 // How long a type's text is. A text is first written where it has no room, only to count it; there most types need no
 // spelling.
 #![tactic(auto)]
+
 ghost use Rattle.std.specs.Prelude.{◌≡◌, ◌<◌, length};
 ghost use Rattle.format.specs.Decoding.{atom_of, kind_of, type_at};
 ghost use Rattle.syntax.specs.Items.{item_at, full_name};

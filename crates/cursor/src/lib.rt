@@ -1,5 +1,6 @@
 // Fields of a sheet at bit positions (document 01, "The sheet").
 #![tactic(auto)]
+
 ghost use Rattle.std.specs.Prelude.{◌≡◌, ◌+◌, ◌*◌, ◌≤◌, ◌<◌, length, get_or};
 ghost use Rattle.format.specs.Limits.{most_bytes, most_bits};
 ghost use Rattle.format.specs.Bits.{bit_at, bits_at, bits, width_of, index};

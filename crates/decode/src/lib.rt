@@ -1,6 +1,7 @@
 // A sheet, checked for the refusals 1 to 8, with tables of where its names and its items stand, of the names' digests,
 // and of what its items name.
 #![tactic(auto)]
+
 ghost use Rattle.std.specs.Prelude.{◌≡◌, ◌≤◌, length};
 ghost use Rattle.lexical.specs.Names.{table_of};
 ghost use Rattle.format.specs.Limits.{most_names, most_items};

@@ -3,6 +3,7 @@
 
 // syntax/atom.rs, in its order.
 #![tactic(auto)]
+
 #[derive(Clone, Copy)]
 pub enum Atom {
     Bool,

@@ -1,5 +1,6 @@
 // write.rs: `write_forward_declarations`.
 #![tactic(auto)]
+
 ghost use Rattle.std.specs.Prelude.{◌≡◌, [], ◌++◌, true, ◌-◌, ◌<◌, ◌≤◌, length, get_or};
 ghost use Rattle.lexical.specs.Bytes.{bytes};
 ghost use Rattle.lexical.specs.Decimal.{pick_text};

@@ -1,5 +1,6 @@
 // The head of a shim.
 #![tactic(auto)]
+
 ghost use Rattle.std.specs.Prelude.{◌≡◌, ◌++◌, map, false, ◌&&◌, ◌≤◌, ◌<◌, length};
 ghost use Rattle.lexical.specs.Bytes.{bytes};
 ghost use Rattle.lexical.specs.Decimal.{pick_text};

@@ -1,6 +1,7 @@
 // Which structs the structs of a sheet hold by named fields: the table that crate toposort sorts by. Every reader is
 // lent the sheet and the tables of the positions of its names and items, cut to their lengths.
 #![tactic(auto)]
+
 ghost use Rattle.std.specs.Prelude.{◌≡◌, ◌+◌, ◌*◌, ◌≤◌, ◌<◌, length};
 ghost use Rattle.format.specs.Limits.{most_fields};
 ghost use Rattle.format.specs.Decode.{pick, many};

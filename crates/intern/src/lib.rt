@@ -1,5 +1,6 @@
 // Types that arguments share: each is spelled once in the pool, and told by its bits from then on.
 #![tactic(auto)]
+
 ghost use Rattle.std.specs.Prelude.{◌/◌, ◌<◌, ◌≤◌, length, take};
 ghost use Rattle.view.specs.Views.{FactsOf, unpacked};
 ghost use Rattle.tables.specs.Tables.{names_in, items_in, Item, Typed, Function, Lent, Filled};

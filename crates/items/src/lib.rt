@@ -1,6 +1,7 @@
 // The items of a sheet, checked; names are the positions of the sheet's names, items is the number of its items. The
 // walk marks what rules 9 to 11 ask for.
 #![tactic(auto)]
+
 ghost use Rattle.std.specs.Prelude.{◌≡◌, List, ℕ, ◌≤◌, length};
 ghost use Rattle.format.specs.Decode.{got, many};
 ghost use Rattle.format.specs.Bits.{index};

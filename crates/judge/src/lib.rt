@@ -1,5 +1,6 @@
 // Rules 9 to 11 of document 01's table, as far as the marks of a decoded sheet decide them.
 #![tactic(auto)]
+
 ghost use Rattle.std.specs.Prelude.{◌≡◌, ◌<◌, length};
 ghost use Rattle.lexical.specs.Bytes.{same};
 ghost use Rattle.rules.specs.Rules.{any, twice, functions, wrong_part, argument_names, unfit_argument};

@@ -1,5 +1,6 @@
 // The full names of items, and the symbols of functions and of layouts.
 #![tactic(auto)]
+
 mod full;
 mod mangle;
 mod namespace;

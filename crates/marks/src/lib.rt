@@ -1,6 +1,7 @@
 // The table of marks that a walk over a sheet leaves behind: a 1 where something was met. What each place says is in
 // specs/Marking.antt. And keys: names that are equal have equal keys.
 #![tactic(auto)]
+
 ghost use Rattle.std.specs.Prelude.{◌≡◌, ◌&&◌, ◌<◌, length, eqb};
 ghost use Rattle.rules.specs.Rules.{any, twice};
 ghost use Rattle.marks.specs.Keys.{one_if, count_of};

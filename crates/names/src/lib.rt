@@ -1,5 +1,6 @@
 // The names of a sheet: the table of their positions and digests, and access to names by position and by number.
 #![tactic(auto)]
+
 ghost use Rattle.std.specs.Prelude.{◌≡◌, ◌+◌, ◌-◌, ◌*◌, ◌^◌, ◌≤◌, ◌<◌, length, get_or};
 ghost use Rattle.lexical.specs.Bytes.{same};
 ghost use Rattle.lexical.specs.Names.{table_of, sheet_name};

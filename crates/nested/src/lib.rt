@@ -1,6 +1,7 @@
 // nested.rs: the items of a namespace's level, without a list of them. A group is named by one of its items, the
 // leader, and a depth: its members need a forward declaration and lie in the leader's first so many namespaces.
 #![tactic(auto)]
+
 ghost use Rattle.std.specs.Prelude.{◌≡◌, ◌<◌, ◌≤◌, length, get_or};
 ghost use Rattle.lexical.specs.Bytes.{same};
 ghost use Rattle.format.specs.declared.ItemKind.TheVariants.{Enum};

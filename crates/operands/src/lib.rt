@@ -1,5 +1,6 @@
 // The arguments of a shim's call: the locals that hold some of them, and the operands.
 #![tactic(auto)]
+
 ghost use Rattle.std.specs.Prelude.{◌≡◌, ◌<◌, ◌≤◌, false, map, length};
 ghost use Rattle.rules.specs.Rules.{gather};
 ghost use Rattle.bridge.specs.Write.{commas, indirect_return, held_local, operand, operands};

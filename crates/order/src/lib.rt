@@ -1,5 +1,6 @@
 // The structs of a sheet in the order of toposort.rs, and whether they hold one another in a ring.
 #![tactic(auto)]
+
 ghost use Rattle.std.specs.Prelude.{◌≡◌, length};
 ghost use Rattle.toposort.specs.Adjacency.{item_numbers};
 ghost use Rattle.rules.specs.Rules.{ring as ringOf};

@@ -1,6 +1,7 @@
 // Text with pending boundaries and sections: the port of block.rs and out.rs. The text stands in a buffer that the
 // caller lends, from its first byte on.
 #![tactic(auto)]
+
 ghost use Rattle.std.specs.Prelude.{◌≡◌, [], ◌&&◌, ◌<◌, ◌≤◌, length, set, ltb};
 ghost use Rattle.sink.specs.Sink.{sink, Wrote};
 ghost use Rattle.format.specs.Limits.{most_bits, most_namespaces};

@@ -1,5 +1,6 @@
 // The parameters of a Rust function's declaration in C++ (bridge/write.rs `write_rust_function_decl_impl`).
 #![tactic(auto)]
+
 ghost use Rattle.std.specs.Prelude.{◌≡◌, false, map, ◌<◌, ◌≤◌, length};
 ghost use Rattle.bridge.specs.Write.{commas, indirect_return, shape as shape_of, extern_arg_type, extern_arg};
 ghost use Rattle.bridge.specs.Write.{receiver, slot, extern_parameters};

@@ -1,5 +1,6 @@
 // Writers of characters that stand in a sheet: those of a name, and any in a row.
 #![tactic(auto)]
+
 ghost use Rattle.sink.specs.Sink.{sink, Wrote};
 ghost use Rattle.format.specs.Decode.{many};
 ghost use Rattle.format.specs.Bits.{bits};

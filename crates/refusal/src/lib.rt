@@ -1,6 +1,7 @@
 // The refusals of document 01, in its order. `number_of` of specs/Refusal.antt gives each its number.
 
 #![tactic(auto)]
+
 ghost use Rattle.std.specs.Prelude.{◌≡◌};
 ghost use Rattle.refusal.specs.Refusal.{number_of};
 

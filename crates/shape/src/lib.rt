@@ -1,5 +1,6 @@
 // The types that a call treats in a way of their own, and what a declaration and a shim write alike.
 #![tactic(auto)]
+
 ghost use Rattle.std.specs.Prelude.{◌≡◌, ◌||◌, ltb, length};
 ghost use Rattle.format.specs.Decoding.{type_at, form_of};
 ghost use Rattle.rules.specs.Rules.{is_method};

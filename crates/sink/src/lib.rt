@@ -1,6 +1,7 @@
 // Writers of bytes into a lent buffer. Each takes the buffer and the place of its first byte, stores its text if the
 // buffer has room for it, and answers the place behind it. On an empty slice the same call measures.
 #![tactic(auto)]
+
 ghost use Rattle.std.specs.Prelude.{[], ◌∷◌, ◌≡◌, ◌+◌, ◌≤◌, min, length, take, replicate};
 ghost use Rattle.std.proofs.lemmas.List.Edits.{sets};
 ghost use Rattle.lexical.specs.Decimal.{digits, decimal, pick_text};

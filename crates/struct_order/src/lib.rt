@@ -1,5 +1,6 @@
 // The struct order service: one byte per item number, counted from 0.
 #![tactic(auto)]
+
 ghost use Rattle.std.specs.Prelude.{◌≤◌, length, replicate};
 ghost use Rattle.format.specs.Limits.{most_names, most_items};
 ghost use Rattle.format.specs.Decoding.{decode as decodeOf};

@@ -1,5 +1,6 @@
 // Summaries of functions: what both passes over a sheet ask of a function's arguments, gathered once.
 #![tactic(auto)]
+
 mod count;
 
 ghost use Rattle.std.specs.Prelude.{◌≡◌, ◌+◌, ◌<◌, ◌≤◌, length, replicate};

@@ -1,6 +1,7 @@
 // What every writer is lent beside the sheet: the positions of its names and items in one table, and their texts in a
 // pool. A table of known length costs a writer one register.
 #![tactic(auto)]
+
 ghost use Rattle.std.specs.Prelude.{◌≡◌, [], ◌+◌, ◌/◌, ◌%◌, ◌≤◌, ◌<◌, length, get_or, drop, replicate};
 ghost use Rattle.std.proofs.Math.Seq.{slice};
 ghost use Rattle.lexical.specs.Bytes.{same};

@@ -1,5 +1,6 @@
 // Rule 10 of document 01's table, on a decoded sheet: what is taken.
 #![tactic(auto)]
+
 ghost use Rattle.std.specs.Prelude.{◌≡◌, ◌<◌, length};
 ghost use Rattle.rules.specs.Rules.{any, reserved_namespace, taken as taken_of};
 ghost use Rattle.view.specs.Values.{items_at, item_no, Ready};

@@ -1,5 +1,6 @@
 // Characters of a sheet.
 #![tactic(auto)]
+
 ghost use Rattle.std.specs.Prelude.{◌≡◌, ◌+◌, ◌*◌, ◌/◌, ◌%◌, ◌^◌, ◌≤◌, ◌<◌, length};
 ghost use Rattle.format.specs.Decode.{many};
 ghost use Rattle.format.specs.Bits.{bits};

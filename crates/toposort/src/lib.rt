@@ -1,5 +1,6 @@
 // The order of structs: each after those that it holds (toposort.rs).
 #![tactic(auto)]
+
 ghost use Rattle.std.specs.Prelude.{◌≡◌, ◌<◌, length, replicate};
 ghost use Rattle.toposort.specs.Adjacency.{item_numbers, graph_of, Adjacency, Room, Visited, VisitedAll, Sorted};
 

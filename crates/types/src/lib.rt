@@ -1,6 +1,7 @@
 // The types of a sheet, walked by recursion over the levels left (document 01, "A type is a 4-bit kind"). What they
 // name is marked on the way, as far as the lent table reaches: who wants no marks lends an empty one.
 #![tactic(auto)]
+
 ghost use Rattle.std.specs.Prelude.{◌≡◌, ◌≤◌};
 ghost use Rattle.format.specs.Limits.{most_levels, most_bits};
 ghost use Rattle.format.specs.Decode.{many};

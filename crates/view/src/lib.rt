@@ -1,6 +1,7 @@
 // Random access into a decoded sheet: its names, items and types by number. Every reader is lent the sheet and the
 // tables of the positions of its names and items, cut to their lengths.
 #![tactic(auto)]
+
 ghost use Rattle.std.specs.Prelude.{◌≡◌, [], ◌≤◌, ◌<◌, eqb, length, get_or};
 ghost use Rattle.format.specs.Limits.{most_names, most_bits};
 ghost use Rattle.format.specs.Bits.{bits_at};

@@ -1,5 +1,6 @@
 // Windows of a name: at most eight characters that stand in one number, 7 bits each, and are walked at once.
 #![tactic(auto)]
+
 ghost use Rattle.std.specs.Prelude.{◌≡◌, true, ◌/◌, ◌%◌, ◌^◌, ◌≤◌, ◌<◌};
 ghost use Rattle.lexical.specs.Bytes.{chars_in};
 ghost use Rattle.words.specs.Walking.{walk_shape, walk as walk_of, Fits};

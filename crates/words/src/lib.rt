@@ -1,6 +1,7 @@
 // The name rule of documents 01 and 02 as a walk over the characters of a name: the table of words that are no names,
 // the state, its steps and its verdict (specs/Walking.antt).
 #![tactic(auto)]
+
 ghost use Rattle.std.specs.Prelude.{◌≡◌, [], ◌∷◌, ◌-◌, ◌≤◌, ◌<◌, length, get_or};
 ghost use Rattle.lexical.specs.Bytes.{within, same};
 ghost use Rattle.lexical.specs.Names.{letter};

@@ -1,5 +1,6 @@
 // Texts of types: atoms, what opens a template, what stands around a pointer, and the space behind a type.
 #![tactic(auto)]
+
 ghost use Rattle.std.specs.Prelude.{◌≡◌};
 ghost use Rattle.sink.specs.Sink.{sink, Wrote};
 ghost use Rattle.format.specs.Decoding.{atom_of};

@@ -1,6 +1,7 @@
 // Types spelled by two loops. Inwards what stands before each inner type is written, and a code of four bits for what
 // stands behind it goes onto a stack; outwards that is written.
 #![tactic(auto)]
+
 ghost use Rattle.std.specs.Prelude.{◌≡◌, [], length};
 ghost use Rattle.lexical.specs.Decimal.{pick_text};
 ghost use Rattle.sink.specs.Sink.{sink, Wrote};

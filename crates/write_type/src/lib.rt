@@ -1,5 +1,6 @@
 // How types are spelled in C++: `write_type` and `write_type_space` of write.rs.
 #![tactic(auto)]
+
 ghost use Rattle.std.specs.Prelude.{◌≡◌, length};
 ghost use Rattle.sink.specs.Sink.{sink, Wrote};
 ghost use Rattle.format.specs.Decoding.{type_at};

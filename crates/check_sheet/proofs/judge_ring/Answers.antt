@@ -1,4 +1,3 @@
-
 use Rattle.check_sheet.proofs.judge_ring.Goals as goal
 
 pub returns-then-ring : goal.returns-then-ring

@@ -1,4 +1,3 @@
-
 use Rattle.doc.proofs.is_alone.Goals as goal
 
 pub returns-then-doxygen : goal.returns-then-doxygen

@@ -1,4 +1,3 @@
-
 use Rattle.out.proofs.is_blank.Goals as goal
 
 pub returns-then-f : goal.returns-then-f

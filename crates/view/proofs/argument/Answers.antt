@@ -1,4 +1,3 @@
-
 use Rattle.view.proofs.argument.Goals as goal
 
 pub returns : goal.returns

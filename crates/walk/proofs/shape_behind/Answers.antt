@@ -47,39 +47,42 @@ pub overflow_add-u : goal.overflow_add-u
 unfolding lanes score_marks
 overflow_add-u c =
     let low : c.match-shape.score ≤ 64 =
-          elim c.match-shape.branch
-            [ in-Empty w ↦ omega arith | in-Leading w ↦ omega arith | in-Plain w ↦ omega arith | in-Underscore w ↦ omega arith ] in
+    elim c.match-shape.branch
+    [ in-Empty w ↦ omega arith | in-Leading w ↦ omega arith | in-Plain w ↦ omega arith | in-Underscore w ↦ omega arith ] in
     record { fits = sum_room c.args.x c.args.bits c.requires.1 c.requires.2 c.requires.3 _ low }
 
 pub returns-then-u-ne0 : goal.returns-then-u-ne0
 unfolding lanes name_marks score_marks
 returns-then-u-ne0 c =
     let s : Score c.args.shape c.match-shape.score =
-          elim c.match-shape.branch
-            [ in-Empty w ↦ score_empty c.requires.0 w.in-Empty.is
-            | in-Leading w ↦ score_leading c.requires.0 w.in-Leading.is
-            | in-Plain w ↦ score_plain w.in-Plain.is w.score-is
-            | in-Underscore w ↦ score_under w.in-Underscore.is w.score-is ] in
+    elim c.match-shape.branch [
+      | in-Empty w ↦ score_empty c.requires.0 w.in-Empty.is
+      | in-Leading w ↦ score_leading c.requires.0 w.in-Leading.is
+      | in-Plain w ↦ score_plain w.in-Plain.is w.score-is
+      | in-Underscore w ↦ score_under w.in-Underscore.is w.score-is
+    ] in
     window_double c.args.x c.args.bits c.requires.1 c.requires.2 c.requires.3 s refl (all_here c.args.x c.args.bits c.requires.1 c.requires.2 c.requires.3 c.if-good-bits.false) c.if-u-ne0.true
 
 pub returns-then-u-ne0-2 : goal.returns-then-u-ne0-2
 unfolding lanes name_marks score_marks
 returns-then-u-ne0-2 c =
     let s : Score c.args.shape c.match-shape.score =
-          elim c.match-shape.branch
-            [ in-Empty w ↦ score_empty c.requires.0 w.in-Empty.is
-            | in-Leading w ↦ score_leading c.requires.0 w.in-Leading.is
-            | in-Plain w ↦ score_plain w.in-Plain.is w.score-is
-            | in-Underscore w ↦ score_under w.in-Underscore.is w.score-is ] in
+    elim c.match-shape.branch [
+      | in-Empty w ↦ score_empty c.requires.0 w.in-Empty.is
+      | in-Leading w ↦ score_leading c.requires.0 w.in-Leading.is
+      | in-Plain w ↦ score_plain w.in-Plain.is w.score-is
+      | in-Underscore w ↦ score_under w.in-Underscore.is w.score-is
+    ] in
     window_score c.args.x c.args.bits c.requires.1 c.requires.2 c.requires.3 s refl (all_here c.args.x c.args.bits c.requires.1 c.requires.2 c.requires.3 c.if-good-bits.false) c.if-u-ne0.false c.if-u-ne0-2.true
 
 pub returns : goal.returns
 unfolding lanes name_marks score_marks
 returns c =
     let s : Score c.args.shape c.match-shape.score =
-          elim c.match-shape.branch
-            [ in-Empty w ↦ score_empty c.requires.0 w.in-Empty.is
-            | in-Leading w ↦ score_leading c.requires.0 w.in-Leading.is
-            | in-Plain w ↦ score_plain w.in-Plain.is w.score-is
-            | in-Underscore w ↦ score_under w.in-Underscore.is w.score-is ] in
+    elim c.match-shape.branch [
+      | in-Empty w ↦ score_empty c.requires.0 w.in-Empty.is
+      | in-Leading w ↦ score_leading c.requires.0 w.in-Leading.is
+      | in-Plain w ↦ score_plain w.in-Plain.is w.score-is
+      | in-Underscore w ↦ score_under w.in-Underscore.is w.score-is
+    ] in
     window_plain c.args.x c.args.bits c.requires.1 c.requires.2 c.requires.3 s refl (all_here c.args.x c.args.bits c.requires.1 c.requires.2 c.requires.3 c.if-good-bits.false) c.if-u-ne0.false c.if-u-ne0-2.false

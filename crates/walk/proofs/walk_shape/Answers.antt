@@ -26,9 +26,10 @@ returns-then-low-eq0 c = shape_end c.args.x c.loop-low.low c.args.shape c.loop-l
 pub shape_behind-requires : goal.shape_behind-requires
 shape_behind-requires c =
     let done : settled c.loop-low.q ≡ true =
-          elim c.loop-low-test.branch
-            [ then-loop-low-test+else-not-is_settled w ↦ sym w.is_settled.ensures ∙ w.if-not-is_settled.false
-            | else-loop-low-test w ↦ let n : c.loop-low.low ≡ 0 → ⊥ = c.if-low-eq0.false in absurd (omega arith) ] in
+    elim c.loop-low-test.branch [
+      | then-loop-low-test+else-not-is_settled w ↦ sym w.is_settled.ensures ∙ w.if-not-is_settled.false
+      | else-loop-low-test w ↦ let n : c.loop-low.low ≡ 0 → ⊥ = c.if-low-eq0.false in absurd (omega arith)
+    ] in
     (done, omega (arith, c.requires.0), c.loop-low.invariant.1, rw c.loop-low.invariant.2 (mod-lt c.args.x (pow_pos c.loop-low.low)))
 
 pub returns : goal.returns

@@ -1,4 +1,3 @@
-
 use Rattle.words.proofs.is_free.Goals as goal
 
 pub returns-in-Empty : goal.returns-in-Empty

@@ -1,4 +1,3 @@
-
 use Rattle.words.proofs.step_shape.Goals as goal
 
 pub returns-in-Empty : goal.returns-in-Empty

@@ -57,11 +57,12 @@ write_type-field-n-requires t c = (c.requires.0.tabled.whole.named.limited, omeg
 pub write_type-loop-i-init : goal.write_type-loop-i-init
 write_type-loop-i-init t c =
     let h = body_there _ _ _ _ c.requires.1 c.field-k.ensures c.kind_of-kind.ensures c.in-Fn.is in
-    let v : Spells (write_ret (items_of _ _)) none (optional (type_at _ _) _ _) _ _ _ = elim c.if-b-eq1.branch
-          [ write_type-then-b-eq1 w ↦ spells_met w.out-is w.here-is w.next-is
-              (spells_gives _ _ _ _ h c.field-b.ensures _ w.if-b-eq1.true w.write_type-w-then-b-eq1.ensures)
-          | write_type-else-b-eq1 w ↦ spells_met w.out-is w.here-is w.next-is
-              (spells_void _ _ _ _ h c.field-b.ensures _ w.if-b-eq1.false w.put_bytes-here-else-b-eq1.ensures) ] in
+    let v : Spells (write_ret (items_of _ _)) none (optional (type_at _ _) _ _) _ _ _ = elim c.if-b-eq1.branch [
+      | write_type-then-b-eq1 w ↦ spells_met w.out-is w.here-is w.next-is
+          (spells_gives _ _ _ _ h c.field-b.ensures _ w.if-b-eq1.true w.write_type-w-then-b-eq1.ensures)
+      | write_type-else-b-eq1 w ↦ spells_met w.out-is w.here-is w.next-is
+          (spells_void _ _ _ _ h c.field-b.ensures _ w.if-b-eq1.false w.put_bytes-here-else-b-eq1.ensures)
+    ] in
     going_none _ _ _ _ _ _ _ (types_there _ _ _ _ h _ v c.field-n.ensures)
 
 pub write_type-write_type-w-requires-in-loop-i : goal.write_type-write_type-w-requires-in-loop-i
@@ -73,11 +74,12 @@ write_type-loop-i-preserved t c = going_turn _ _ _ _ _ _ c.loop-i-test.true c.lo
 pub write_type-returns-after-loop-i : goal.write_type-returns-after-loop-i
 write_type-returns-after-loop-i t c =
     as_type _ _ _ _ c.requires.1 c.field-k.ensures c.kind_of-kind.ensures _ c.in-Fn.is (λ h.
-    let v : Spells (write_ret (items_of _ _)) none (optional (type_at _ _) _ _) _ _ _ = elim c.if-b-eq1.branch
-          [ write_type-then-b-eq1 w ↦ spells_met w.out-is w.here-is w.next-is
-              (spells_gives _ _ _ _ h c.field-b.ensures _ w.if-b-eq1.true w.write_type-w-then-b-eq1.ensures)
-          | write_type-else-b-eq1 w ↦ spells_met w.out-is w.here-is w.next-is
-              (spells_void _ _ _ _ h c.field-b.ensures _ w.if-b-eq1.false w.put_bytes-here-else-b-eq1.ensures) ] in
+    let v : Spells (write_ret (items_of _ _)) none (optional (type_at _ _) _ _) _ _ _ = elim c.if-b-eq1.branch [
+      | write_type-then-b-eq1 w ↦ spells_met w.out-is w.here-is w.next-is
+          (spells_gives _ _ _ _ h c.field-b.ensures _ w.if-b-eq1.true w.write_type-w-then-b-eq1.ensures)
+      | write_type-else-b-eq1 w ↦ spells_met w.out-is w.here-is w.next-is
+          (spells_void _ _ _ _ h c.field-b.ensures _ w.if-b-eq1.false w.put_bytes-here-else-b-eq1.ensures)
+    ] in
     spells_fn _ _ _ _ h _ v c.field-n.ensures c.put_bytes-here.ensures c.put_bytes-here-in-Fn.ensures
     (going_done _ _ _ _ _ _ c.loop-i-test.false c.loop-i.invariant) c.put_bytes-end-in-Fn.ensures)
 

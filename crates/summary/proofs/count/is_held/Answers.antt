@@ -1,4 +1,3 @@
-
 use Rattle.summary.proofs.count.is_held.Goals as goal
 
 pub returns-then-a : goal.returns-then-a
