@@ -20,7 +20,8 @@ pub repeats-close-requires : goal.repeats-close-requires
 repeats-close-requires c = few_keys _ _ c.requires.3 (omega arith)
 
 pub returns-then-not-close : goal.returns-then-not-close
-returns-then-not-close c = notes_apart c.check_each-r.ensures (omega arith) c.repeats-close.ensures (not-true _ (ap not c.if-not-close.true))
+returns-then-not-close c =
+    notes_apart c.check_each-r.ensures (omega arith) c.repeats-close.ensures (not-true _ (ap not c.if-not-close.true))
 
 pub slice_bounds-equal_names-end : goal.slice_bounds-equal_names-end
 slice_bounds-equal_names-end c = sym (length-take-le _ _ (omega arith))

@@ -7,7 +7,8 @@ pub shape-v-requires : goal.shape-v-requires
 shape-v-requires c = (c.requires.0, c.requires.1 c.if-direct.true)
 
 pub returns-then-direct : goal.returns-then-direct
-returns-then-direct c = first_text _ c.if-direct.true (end_written c.shape-v.ensures c.is_closed-closed.ensures c.put_when.ensures)
+returns-then-direct c =
+    first_text _ c.if-direct.true (end_written c.shape-v.ensures c.is_closed-closed.ensures c.put_when.ensures)
 
 pub returns : goal.returns
 returns c = second_text _ c.if-direct.false (wrote_nil _)

@@ -16,10 +16,13 @@ pub write_outermost-typed-requires-in-SliceRef : goal.write_outermost-typed-requ
 write_outermost-typed-requires-in-SliceRef c = (c.requires.0, c.requires.1)
 
 pub returns-in-RustBox : goal.returns-in-RustBox
-returns-in-RustBox c = begin_written c.shape-v.ensures _ _ c.in-RustBox.is (c.write_outermost-typed.ensures ▷ c.put_bytes.ensures)
+returns-in-RustBox c =
+    begin_written c.shape-v.ensures _ _ c.in-RustBox.is (c.write_outermost-typed.ensures ▷ c.put_bytes.ensures)
 
 pub returns-in-UniquePtr : goal.returns-in-UniquePtr
-returns-in-UniquePtr c = begin_written c.shape-v.ensures _ _ c.in-UniquePtr.is (c.write_outermost-typed-in-UniquePtr.ensures ▷ c.put_bytes-in-UniquePtr.ensures)
+returns-in-UniquePtr c =
+    begin_written c.shape-v.ensures _ _ c.in-UniquePtr.is (c.write_outermost-typed-in-UniquePtr.ensures ▷
+        c.put_bytes-in-UniquePtr.ensures)
 
 pub returns-in-Ref : goal.returns-in-Ref
 returns-in-Ref c = begin_written c.shape-v.ensures _ _ c.in-Ref.is c.put_bytes-in-Ref.ensures
@@ -28,7 +31,9 @@ pub returns-in-Str : goal.returns-in-Str
 returns-in-Str c = begin_written c.shape-v.ensures _ _ c.in-Str.is c.put_bytes-in-Str.ensures
 
 pub returns-in-SliceRef : goal.returns-in-SliceRef
-returns-in-SliceRef c = begin_written c.shape-v.ensures _ _ c.in-SliceRef.is (c.put_bytes-begun.ensures ▷ c.write_outermost-typed-in-SliceRef.ensures ▷ c.put_bytes-in-SliceRef.ensures)
+returns-in-SliceRef c =
+    begin_written c.shape-v.ensures _ _ c.in-SliceRef.is (c.put_bytes-begun.ensures ▷
+        c.write_outermost-typed-in-SliceRef.ensures ▷ c.put_bytes-in-SliceRef.ensures)
 
 pub returns-in-Other : goal.returns-in-Other
 returns-in-Other c = begin_written c.shape-v.ensures _ _ c.in-Other.is (wrote_nil _)

@@ -14,7 +14,8 @@ pub slice_bounds-judge-end-3 : goal.slice_bounds-judge-end-3
 slice_bounds-judge-end-3 c = sym (length-take-le _ _ (omega (arith, c.requires.0.few)))
 
 pub judge-requires : goal.judge-requires
-judge-requires c = (ready_tables _ c.requires.0 c.requires.1 c.requires.2, marked_tables _ c.requires.0 c.requires.1 c.requires.2)
+judge-requires c =
+    (ready_tables _ c.requires.0 c.requires.1 c.requires.2, marked_tables _ c.requires.0 c.requires.1 c.requires.2)
 
 pub returns : goal.returns
 returns c = check_tables _ c.requires.0 c.requires.1 c.requires.2 c.judge.ensures

@@ -8,4 +8,5 @@ returns-in-Refused c = rw (sym c.judge_parts-parts.ensures ∙ c.in-Refused.is)
 
 pub returns-in-Accepted : goal.returns-in-Accepted
 unfolding ruled_items
-returns-in-Accepted c = rw (sym c.judge_parts-parts.ensures ∙ c.in-Accepted.is) (c.judge_ring.ensures ∙ ap ringed c.ring_in-found.ensures)
+returns-in-Accepted c =
+    rw (sym c.judge_parts-parts.ensures ∙ c.in-Accepted.is) (c.judge_ring.ensures ∙ ap ringed c.ring_in-found.ensures)

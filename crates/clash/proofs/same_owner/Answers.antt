@@ -15,7 +15,10 @@ pub item-w-requires : goal.item-w-requires
 item-w-requires c = (c.requires.0.whole, c.requires.2.view.owner c.if-g-eq0.false)
 
 pub same_name-requires : goal.same_name-requires
-same_name-requires c = (c.requires.0.whole.named, c.requires.0.digested, c.item-v.ensures.1.view.named, c.item-w.ensures.1.view.named)
+same_name-requires c =
+    (c.requires.0.whole.named, c.requires.0.digested, c.item-v.ensures.1.view.named, c.item-w.ensures.1.view.named)
 
 pub returns : goal.returns
-returns c = owners_both c.requires.1 c.requires.2 c.if-f-eq0.false c.if-g-eq0.false c.item-v.ensures.1 c.item-v.ensures.0 c.item-w.ensures.1 c.item-w.ensures.0 c.same_name.ensures
+returns c =
+    owners_both c.requires.1 c.requires.2 c.if-f-eq0.false c.if-g-eq0.false c.item-v.ensures.1 c.item-v.ensures.0
+        c.item-w.ensures.1 c.item-w.ensures.0 c.same_name.ensures

@@ -10,7 +10,8 @@ use mathlib.Core.Bool.{not}
 use Rattle.comments.proofs.all_line_chars.Given as goal
 
 abbrev pub invariant-loop-left : goal.invariant-loop-left
-invariant-loop-left l = (l.next + 7 * l.left ≡ l.at + 7 * l.n) × (line_chars l.s l.at l.n ≡ line_chars l.s l.next l.left)
+invariant-loop-left l =
+    (l.next + 7 * l.left ≡ l.at + 7 * l.n) × (line_chars l.s l.at l.n ≡ line_chars l.s l.next l.left)
 
 abbrev pub decreases-loop-left : goal.decreases-loop-left
 decreases-loop-left l = l.left

@@ -8,7 +8,8 @@ use Rattle.cursor.proofs.CheckLaws.{stepped, stopped, many_none, many_turn, many
 use Rattle.comments.proofs.check_lines.Given as goal
 
 abbrev pub invariant-loop-i : goal.invariant-loop-i
-invariant-loop-i l = (l.i ≤ l.n) × (step_of (many l.n line l.s l.initial.next.at) ≡ step_of (many (l.n - l.i) line l.s l.next.at))
+invariant-loop-i l =
+    (l.i ≤ l.n) × (step_of (many l.n line l.s l.initial.next.at) ≡ step_of (many (l.n - l.i) line l.s l.next.at))
 
 abbrev pub decreases-loop-i : goal.decreases-loop-i
 decreases-loop-i l = l.n - l.i

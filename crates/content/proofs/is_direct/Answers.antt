@@ -8,7 +8,9 @@ pub slice_bounds-is_direct-end : goal.slice_bounds-is_direct-end
 slice_bounds-is_direct-end c = sym (length-take-le _ _ (omega (arith, c.requires.0.names, c.requires.0.long)))
 
 pub is_direct-requires : goal.is_direct-requires
-is_direct-requires c = rw (names_part c.args.t.now, items_part c.args.t.now) (c.requires.0.whole, c.requires.1, c.requires.2, c.requires.3)
+is_direct-requires c =
+    rw (names_part c.args.t.now, items_part c.args.t.now) (c.requires.0.whole, c.requires.1, c.requires.2,
+        c.requires.3)
 
 pub returns : goal.returns
 returns c = rw (names_part c.args.t.now, items_part c.args.t.now) at c.is_direct.ensures

@@ -10,7 +10,8 @@ pub overflow_mul-result : goal.overflow_mul-result
 overflow_mul-result t c = omega (arith, bits_short _ _ _ c.extract_slowly-high.ensures (omega arith))
 
 pub overflow_add-result : goal.overflow_add-result
-overflow_add-result t c = omega (arith, c.bit_in.ensures.1, bits_short _ _ _ c.extract_slowly-high.ensures (omega arith))
+overflow_add-result t c =
+    omega (arith, c.bit_in.ensures.1, bits_short _ _ _ c.extract_slowly-high.ensures (omega arith))
 
 pub returns : goal.returns
 returns t c = bits_all _ _ (bits_more _ _ _ c.extract_slowly-high.ensures c.bit_in.ensures.0) (omega arith)

@@ -11,7 +11,8 @@ read-f-requires c = (omega arith, width_le _ c.width.ensures)
 
 pub returns-then-i-n : goal.returns-then-i-n
 unfolding index
-returns-then-i-n c = rw (← c.width.ensures, value c.read-f.ensures c.in-Value.is, lt-ltb _ _ c.if-i-n.true) record { step = refl }
+returns-then-i-n c =
+    rw (← c.width.ensures, value c.read-f.ensures c.in-Value.is, lt-ltb _ _ c.if-i-n.true) record { step = refl }
 
 pub returns-in-Cut : goal.returns-in-Cut
 unfolding index
@@ -19,4 +20,5 @@ returns-in-Cut c = rw (← c.width.ensures, cut _ _ _ c.read-f.ensures c.in-Cut.
 
 pub returns-else-i-n : goal.returns-else-i-n
 unfolding index
-returns-else-i-n c = rw (← c.width.ensures, value c.read-f.ensures c.in-Value.is, le-ltb _ _ c.if-i-n.false) record { step = refl }
+returns-else-i-n c =
+    rw (← c.width.ensures, value c.read-f.ensures c.in-Value.is, le-ltb _ _ c.if-i-n.false) record { step = refl }

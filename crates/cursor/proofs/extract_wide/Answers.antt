@@ -9,4 +9,6 @@ pub nonzero_rem-result : goal.nonzero_rem-result
 nonzero_rem-result c = shl_pos _ c.requires.1
 
 pub returns : goal.returns
-returns c = extract_is _ _ _ _ _ c.requires.1 c.word-w.ensures (omega (arith, c.word_start-b.ensures)) (omega (arith, c.word_start-b.ensures))
+returns c =
+    extract_is _ _ _ _ _ c.requires.1 c.word-w.ensures (omega (arith, c.word_start-b.ensures))
+        (omega (arith, c.word_start-b.ensures))

@@ -12,24 +12,33 @@ pub slice_bounds-decode_items-end : goal.slice_bounds-decode_items-end
 slice_bounds-decode_items-end c = omega (arith, field_lt 10 _ _ (value c.read-f.ensures c.in-Value.is), c.requires)
 
 pub slice_bounds-decode_items-end-in-At : goal.slice_bounds-decode_items-end-in-At
-slice_bounds-decode_items-end-in-At c = sym (length-take-le _ _ (omega (arith, field_lt 10 _ _ (value c.read-f.ensures c.in-Value.is), c.requires)))
+slice_bounds-decode_items-end-in-At c =
+    sym (length-take-le _ _ (omega (arith, field_lt 10 _ _ (value c.read-f.ensures c.in-Value.is), c.requires)))
 
 pub slice_bounds-decode_items-end-in-At-2 : goal.slice_bounds-decode_items-end-in-At-2
-slice_bounds-decode_items-end-in-At-2 c = omega (arith, field_lt 10 _ _ (value c.read-f.ensures c.in-Value.is), c.requires)
+slice_bounds-decode_items-end-in-At-2 c =
+    omega (arith, field_lt 10 _ _ (value c.read-f.ensures c.in-Value.is), c.requires)
 
 pub slice_bounds-decode_items-end-in-At-3 : goal.slice_bounds-decode_items-end-in-At-3
-slice_bounds-decode_items-end-in-At-3 c = sym (length-take-le _ _ (omega (arith, field_lt 10 _ _ (value c.read-f.ensures c.in-Value.is), c.requires)))
+slice_bounds-decode_items-end-in-At-3 c =
+    sym (length-take-le _ _ (omega (arith, field_lt 10 _ _ (value c.read-f.ensures c.in-Value.is), c.requires)))
 
 pub decode_items-requires : goal.decode_items-requires
 decode_items-requires c =
-    let l = names_ready c.args.edition _ _ _ _ (value c.read-f.ensures c.in-Value.is) c.check_names-a.ensures c.in-At.is c.requires.0 (omega (arith, field_lt 10 _ _ (value c.read-f.ensures c.in-Value.is), c.requires, c.names-1)) in
+    let l = names_ready c.args.edition _ _ _ _ (value c.read-f.ensures c.in-Value.is) c.check_names-a.ensures
+        c.in-At.is c.requires.0 (omega (arith, field_lt 10 _ _ (value c.read-f.ensures c.in-Value.is), c.requires,
+        c.names-1)) in
     (l.0, l.1, omega (arith, c.requires))
 
 pub returns-in-Cut : goal.returns-in-Cut
 returns-in-Cut c = tables_cut _ _ _ _ _ (cut _ _ _ c.read-f.ensures c.in-Cut.is)
 
 pub returns-in-Fault : goal.returns-in-Fault
-returns-in-Fault c = tables_fault _ _ _ _ _ (value c.read-f.ensures c.in-Value.is) c.check_names-a.ensures c.in-Fault.is
+returns-in-Fault c =
+    tables_fault _ _ _ _ _ (value c.read-f.ensures c.in-Value.is) c.check_names-a.ensures c.in-Fault.is
 
 pub returns-in-At : goal.returns-in-At
-returns-in-At c = tables_rest _ _ _ _ _ (value c.read-f.ensures c.in-Value.is) c.check_names-a.ensures c.in-At.is (omega (arith, field_lt 10 _ _ (value c.read-f.ensures c.in-Value.is), c.requires, c.names-1)) c.decode_items.ensures
+returns-in-At c =
+    tables_rest _ _ _ _ _ (value c.read-f.ensures c.in-Value.is) c.check_names-a.ensures c.in-At.is
+        (omega (arith, field_lt 10 _ _ (value c.read-f.ensures c.in-Value.is), c.requires, c.names-1))
+        c.decode_items.ensures

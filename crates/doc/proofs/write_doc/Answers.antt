@@ -7,4 +7,6 @@ pub write_lines-here-requires : goal.write_lines-here-requires
 write_lines-here-requires c = (omega arith, lines_yield _ _ c.requires.1 c.field-count.ensures)
 
 pub returns : goal.returns
-returns c = doc_written _ _ c.requires.1 c.field-count.ensures _ c.write_lines-here.ensures c.is_alone-alone.ensures c.put_when.ensures
+returns c =
+    doc_written _ _ c.requires.1 c.field-count.ensures _ c.write_lines-here.ensures c.is_alone-alone.ensures
+        c.put_when.ensures

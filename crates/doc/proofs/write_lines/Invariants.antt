@@ -8,7 +8,9 @@ use Rattle.doc.proofs.DocLaws.{Writing, writing_none, writing_yields, writing_on
 use Rattle.doc.proofs.write_lines.Given as goal
 
 abbrev pub invariant-loop-left : goal.invariant-loop-left
-invariant-loop-left w = Writing (λ l. pick_text w.doxygen (bytes "///") (bytes "//") ++ l ++ bytes "\n") w.s w.n w.initial.next.at w.left w.next.at (sink w.initial.out w.initial.here) (sink w.out w.here)
+invariant-loop-left w =
+    Writing (λ l. pick_text w.doxygen (bytes "///") (bytes "//") ++ l ++ bytes "\n") w.s w.n w.initial.next.at w.left
+        w.next.at (sink w.initial.out w.initial.here) (sink w.out w.here)
 
 abbrev pub decreases-loop-left : goal.decreases-loop-left
 decreases-loop-left l = l.left

@@ -11,7 +11,8 @@ pub item-leader-requires : goal.item-leader-requires
 item-leader-requires c = (c.requires.0.tabled, omega (arith, items_count_lem c.requires.0.tabled))
 
 pub write_entries-requires : goal.write_entries-requires
-write_entries-requires c = (c.requires.0, c.requires.1, c.item-leader.ensures.1, omega arith, rw c.item-leader.ensures.0 (first_item _))
+write_entries-requires c =
+    (c.requires.0, c.requires.1, c.item-leader.ensures.1, omega arith, rw c.item-leader.ensures.0 (first_item _))
 
 pub returns : goal.returns
 returns c = forward_all _ _ c.write_entries.ensures

@@ -24,7 +24,8 @@ pub bounds-starts-i : goal.bounds-starts-i
 bounds-starts-i c = omega (arith, c.loop-i.invariant.1.count)
 
 pub loop-i-preserved : goal.loop-i-preserved
-loop-i-preserved c = let p = c.put_item-end.ensures in (omega arith, fill_next c.loop-i.invariant.1 c.loop-i-test.true p.0 p.1 p.2)
+loop-i-preserved c =
+    let p = c.put_item-end.ensures in (omega arith, fill_next c.loop-i.invariant.1 c.loop-i-test.true p.0 p.1 p.2)
 
 pub returns : goal.returns
 returns c = fill_done (items_passed _ _ _ c.requires.0.few) (filling_all (omega arith) c.loop-i.invariant.1)

@@ -8,10 +8,15 @@ pub field-index-requires : goal.field-index-requires
 field-index-requires c = (c.requires.0.named.limited, width_le _ c.width-w.ensures)
 
 pub bounds-structs-i : goal.bounds-structs-i
-bounds-structs-i c = omega (arith, c.requires.0.few, c.requires.1.size, found_there _ _ _ c.requires.2 c.width-w.ensures c.field-index.ensures)
+bounds-structs-i c =
+    omega (arith, c.requires.0.few, c.requires.1.size, found_there _ _ _ c.requires.2 c.width-w.ensures
+        c.field-index.ensures)
 
 pub overflow_cast-number : goal.overflow_cast-number
-overflow_cast-number c = omega (arith, c.requires.0.few, found_there _ _ _ c.requires.2 c.width-w.ensures c.field-index.ensures)
+overflow_cast-number c =
+    omega (arith, c.requires.0.few, found_there _ _ _ c.requires.2 c.width-w.ensures c.field-index.ensures)
 
 pub returns : goal.returns
-returns c = tells_named _ _ _ c.requires.2 c.width-w.ensures c.field-index.ensures _ (c.requires.1.each _ (items_there _ _ _ (found_there _ _ _ c.requires.2 c.width-w.ensures c.field-index.ensures)))
+returns c =
+    tells_named _ _ _ c.requires.2 c.width-w.ensures c.field-index.ensures _ (c.requires.1.each _ (items_there _ _ _
+        (found_there _ _ _ c.requires.2 c.width-w.ensures c.field-index.ensures)))

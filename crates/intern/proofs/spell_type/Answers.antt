@@ -20,7 +20,10 @@ pub returns-then-count-end : goal.returns-then-count-end
 returns-then-count-end c = filled_same _ c.requires.0 c.requires.1
 
 pub slice_bounds-put_text-end-2 : goal.slice_bounds-put_text-end-2
-slice_bounds-put_text-end-2 c = sym (length-take-le _ _ (omega (arith, wrote_length c.write_outermost_space-count.ensures)))
+slice_bounds-put_text-end-2 c =
+    sym (length-take-le _ _ (omega (arith, wrote_length c.write_outermost_space-count.ensures)))
 
 pub returns : goal.returns
-returns c = spelled _ c.requires.0 c.write_outermost_space-count.ensures refl (omega arith) c.put_text.ensures (omega arith) (omega arith) (omega arith) c.if-t-k-ne0.false
+returns c =
+    spelled _ c.requires.0 c.write_outermost_space-count.ensures refl (omega arith) c.put_text.ensures (omega arith)
+        (omega arith) (omega arith) c.if-t-k-ne0.false

@@ -12,4 +12,5 @@ unfolding form
 returns-in-Cut c = rw (cut _ _ _ c.read-f.ensures c.in-Cut.is) record { gathered = refl }
 
 pub returns-else-k-eq0 : goal.returns-else-k-eq0
-returns-else-k-eq0 c = form_marks _ _ _ (value c.read-f.ensures c.in-Value.is) c.if-k-eq0.false c.check_item_index.ensures
+returns-else-k-eq0 c =
+    form_marks _ _ _ (value c.read-f.ensures c.in-Value.is) c.if-k-eq0.false c.check_item_index.ensures

@@ -10,4 +10,5 @@ returns-in-Cut c = rw (cut _ _ _ c.read-f.ensures c.in-Cut.is) record { step = r
 
 pub returns-in-Value : goal.returns-in-Value
 unfolding namespace
-returns-in-Value c = rw (value c.read-f.ensures c.in-Value.is) (names_of_lem c.args.s.now c.args.names.now _ _ c.check_indexes.ensures)
+returns-in-Value c =
+    rw (value c.read-f.ensures c.in-Value.is) (names_of_lem c.args.s.now c.args.names.now _ _ c.check_indexes.ensures)

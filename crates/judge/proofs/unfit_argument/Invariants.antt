@@ -11,7 +11,9 @@ use Rattle.judge.proofs.MarkedLaws.{unfit_marked, unfit_unmarked}
 use Rattle.judge.proofs.unfit_argument.Given as goal
 
 abbrev pub invariant-loop-i : goal.invariant-loop-i
-invariant-loop-i l = (l.i ≤ length l.items) × (unfit_argument (items_at l.s l.names l.items) ≡ some_from (indirect_error l.s l.names l.items l.marks) l.i (length l.items - l.i))
+invariant-loop-i l =
+    (l.i ≤ length l.items) × (unfit_argument (items_at l.s l.names l.items) ≡ some_from (indirect_error l.s l.names
+        l.items l.marks) l.i (length l.items - l.i))
 
 abbrev pub decreases-loop-i : goal.decreases-loop-i
 decreases-loop-i l = length l.items - l.i

@@ -12,10 +12,13 @@ pub overflow_mul-behind : goal.overflow_mul-behind
 overflow_mul-behind c = omega (arith, field_lt 6 _ _ (value c.read-f.ensures c.in-Value.is))
 
 pub overflow_add-behind : goal.overflow_add-behind
-overflow_add-behind c = omega (arith, field_lt 6 _ _ (value c.read-f.ensures c.in-Value.is), field_end 6 _ _ (value c.read-f.ensures c.in-Value.is))
+overflow_add-behind c =
+    omega (arith, field_lt 6 _ _ (value c.read-f.ensures c.in-Value.is), field_end 6 _ _ (value c.read-f.ensures
+        c.in-Value.is))
 
 pub returns-then-end_of-behind : goal.returns-then-end_of-behind
-returns-then-end_of-behind c = name_short (sheet_name (table_of c.args.edition)) _ _ (value c.read-f.ensures c.in-Value.is) (omega arith)
+returns-then-end_of-behind c =
+    name_short (sheet_name (table_of c.args.edition)) _ _ (value c.read-f.ensures c.in-Value.is) (omega arith)
 
 pub judge_name-r-requires : goal.judge_name-r-requires
 judge_name-r-requires c = (c.requires.0, c.requires.1, omega arith)
@@ -30,4 +33,6 @@ returns-in-Good c =
     name_good (sheet_name (table_of c.args.edition)) _ _ (value c.read-f.ensures c.in-Value.is) (omega arith) q.0 q.1
 
 pub returns-in-Bad : goal.returns-in-Bad
-returns-in-Bad c = name_bad (sheet_name (table_of c.args.edition)) _ _ (value c.read-f.ensures c.in-Value.is) (omega arith) (told_bad _ _ c.judge_name-r.ensures c.in-Bad.is)
+returns-in-Bad c =
+    name_bad (sheet_name (table_of c.args.edition)) _ _ (value c.read-f.ensures c.in-Value.is) (omega arith)
+        (told_bad _ _ c.judge_name-r.ensures c.in-Bad.is)

@@ -7,7 +7,8 @@ use Rattle.names.proofs.DigestLaws.{short_more, short_fits, short_digest, short_
 use Rattle.names.proofs.digest.Given as goal
 
 abbrev pub invariant-loop-i : goal.invariant-loop-i
-invariant-loop-i l = (l.i ≤ length l.w) × (l.x + 3 ≤ 2 ^ (7 * l.i + 2)) × (digest l.w ≡ window_from (8 - l.i) 0 l.x (drop l.i l.w))
+invariant-loop-i l =
+    (l.i ≤ length l.w) × (l.x + 3 ≤ 2 ^ (7 * l.i + 2)) × (digest l.w ≡ window_from (8 - l.i) 0 l.x (drop l.i l.w))
 
 abbrev pub decreases-loop-i : goal.decreases-loop-i
 decreases-loop-i l = length l.w - l.i

@@ -8,4 +8,6 @@ pub bounds-digests-k : goal.bounds-digests-k
 bounds-digests-k c = omega (arith, ap length c.requires.1, digests_length c.args.s.now c.args.names.now)
 
 pub returns-then-digests-k : goal.returns-then-digests-k
-returns-then-digests-k c = sym (unlike c.args.s.now c.args.names.now c.args.text.now c.requires.1 c.requires.2 c.digest-h.ensures c.if-digests-k.true)
+returns-then-digests-k c =
+    sym (unlike c.args.s.now c.args.names.now c.args.text.now c.requires.1 c.requires.2 c.digest-h.ensures
+        c.if-digests-k.true)

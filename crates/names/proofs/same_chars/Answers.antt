@@ -11,4 +11,5 @@ pub slice_bounds-equal-end-2 : goal.slice_bounds-equal-end-2
 slice_bounds-equal-end-2 c = sym (length-take-le _ _ (omega arith))
 
 pub returns : goal.returns
-returns c = rw (← fetched _ _ c.requires.1 c.fetch-n.ensures, ← fetched _ _ c.requires.2 c.fetch-m.ensures) c.equal.ensures
+returns c =
+    rw (← fetched _ _ c.requires.1 c.fetch-n.ensures, ← fetched _ _ c.requires.2 c.fetch-m.ensures) c.equal.ensures

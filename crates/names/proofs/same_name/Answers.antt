@@ -16,7 +16,8 @@ pub bounds-digests-b : goal.bounds-digests-b
 bounds-digests-b c = omega (arith, ap length c.requires.1, digests_length c.args.s.now c.args.names.now)
 
 pub returns-then-digests-a : goal.returns-then-digests-a
-returns-then-digests-a c = sym (differ c.args.s.now c.args.names.now c.requires.1 c.requires.2 c.requires.3 c.if-digests-a.true)
+returns-then-digests-a c =
+    sym (differ c.args.s.now c.args.names.now c.requires.1 c.requires.2 c.requires.3 c.if-digests-a.true)
 
 pub same_chars-requires : goal.same_chars-requires
 same_chars-requires c = (search rules, c.requires.0.each _ c.requires.2, c.requires.0.each _ c.requires.3)

@@ -17,13 +17,16 @@ pub opens-found-requires : goal.opens-found-requires
 opens-found-requires c = (c.requires.0, c.requires.1, c.requires.2, omega arith)
 
 pub returns-then-found : goal.returns-then-found
-returns-then-found c = next_found _ _ _ _ _ _ (omega arith) c.opens-found.ensures c.loop-i.invariant.2 (omega arith) c.if-found.true
+returns-then-found c =
+    next_found _ _ _ _ _ _ (omega arith) c.opens-found.ensures c.loop-i.invariant.2 (omega arith) c.if-found.true
 
 pub overflow_add-i : goal.overflow_add-i
 overflow_add-i c = omega (arith, c.requires.0.few)
 
 pub loop-i-preserved : goal.loop-i-preserved
-loop-i-preserved c = (omega arith, omega arith, next_turn _ _ _ _ _ _ (omega arith) c.opens-found.ensures c.loop-i.invariant.2 c.if-found.false)
+loop-i-preserved c =
+    (omega arith, omega arith, next_turn _ _ _ _ _ _ (omega arith) c.opens-found.ensures c.loop-i.invariant.2
+        c.if-found.false)
 
 pub returns : goal.returns
 returns c = next_end_lem _ _ _ _ _ _ c.loop-i.i refl (omega arith) (omega arith) (omega arith) c.loop-i.invariant.2

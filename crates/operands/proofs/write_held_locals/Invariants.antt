@@ -10,7 +10,9 @@ use Rattle.tables.specs.Tables.{items_of, function_of}
 use Rattle.operands.proofs.write_held_locals.Given as goal
 
 abbrev pub invariant-loop-j : goal.invariant-loop-j
-invariant-loop-j l = (l.j ≤ l.f.arguments) × Gathered (held_local (items_of l.s l.t)) (function_of l.s l.t l.f.number).arguments l.j (sink l.initial.out l.initial.here) (sink l.out l.here)
+invariant-loop-j l =
+    (l.j ≤ l.f.arguments) × Gathered (held_local (items_of l.s l.t)) (function_of l.s l.t l.f.number).arguments l.j
+        (sink l.initial.out l.initial.here) (sink l.out l.here)
 
 abbrev pub decreases-loop-j : goal.decreases-loop-j
 decreases-loop-j l = l.f.arguments - l.j

@@ -16,4 +16,5 @@ unfolding content_of
 overflow_add-c c = omega (arith, c.requires.0)
 
 pub returns : goal.returns
-returns c = rw c.put_place.ensures (place_appended c.args.c.now (omega (arith, c.put_place-arg-1.given)) _ c.pack-p.ensures)
+returns c =
+    rw c.put_place.ensures (place_appended c.args.c.now (omega (arith, c.put_place-arg-1.given)) _ c.pack-p.ensures)

@@ -5,7 +5,8 @@ use Rattle.out.proofs.StateLaws.{Beginning, beginning_none, beginning_known, beg
 use Rattle.out.proofs.begin_namespaces.Given as goal
 
 abbrev pub invariant-loop-d : goal.invariant-loop-d
-invariant-loop-d l = Beginning l.s l.names (namespace_at l.s l.names l.spaces l.depth) (content_of l.initial.c) (content_of l.c) l.d
+invariant-loop-d l =
+    Beginning l.s l.names (namespace_at l.s l.names l.spaces l.depth) (content_of l.initial.c) (content_of l.c) l.d
 
 abbrev pub decreases-loop-d : goal.decreases-loop-d
 decreases-loop-d l = l.depth - l.d

@@ -10,7 +10,9 @@ use Rattle.tables.specs.Tables.{items_of, function_of}
 use Rattle.parameters.proofs.write_extern_args.Given as goal
 
 abbrev pub invariant-loop-j : goal.invariant-loop-j
-invariant-loop-j l = (l.j ≤ l.f.arguments) × Listed (extern_arg (items_of l.s l.t)) l.before (function_of l.s l.t l.f.number).arguments l.j l.comma (sink l.initial.out l.at) (sink l.out l.here)
+invariant-loop-j l =
+    (l.j ≤ l.f.arguments) × Listed (extern_arg (items_of l.s l.t)) l.before (function_of l.s l.t l.f.number).arguments
+        l.j l.comma (sink l.initial.out l.at) (sink l.out l.here)
 
 abbrev pub decreases-loop-j : goal.decreases-loop-j
 decreases-loop-j l = l.f.arguments - l.j

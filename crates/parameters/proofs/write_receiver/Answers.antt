@@ -3,10 +3,13 @@ use Rattle.parameters.proofs.ParameterLaws.{receiver_some, receiver_none, receiv
 use Rattle.parameters.proofs.write_receiver.Goals as goal
 
 pub write_full_name-named-requires : goal.write_full_name-named-requires
-write_full_name-named-requires c = (c.requires.0, c.requires.1.view.owner (receiver_owner c.requires.1 c.is_method-method.ensures c.if-method.true))
+write_full_name-named-requires c =
+    (c.requires.0, c.requires.1.view.owner (receiver_owner c.requires.1 c.is_method-method.ensures c.if-method.true))
 
 pub returns-then-method : goal.returns-then-method
-returns-then-method c = wrote_as (c.write_full_name-named.ensures ▷ c.put_when-qualified.ensures ▷ c.put_bytes.ensures) (receiver_some c.requires.1 c.is_method-method.ensures c.if-method.true)
+returns-then-method c =
+    wrote_as (c.write_full_name-named.ensures ▷ c.put_when-qualified.ensures ▷ c.put_bytes.ensures) (receiver_some
+        c.requires.1 c.is_method-method.ensures c.if-method.true)
 
 pub returns : goal.returns
 returns c = wrote_as (wrote_nil _) (receiver_none c.requires.1 c.is_method-method.ensures c.if-method.false)

@@ -11,7 +11,8 @@ pub put_part-requires : goal.put_part-requires
 put_part-requires c = (c.type_word-word.ensures (λ z. omega (arith, c.if-word-gt0.true, z))).near
 
 pub returns-then-word-gt0 : goal.returns-then-word-gt0
-returns-then-word-gt0 c = wrote_as c.put_part.ensures (c.type_word-word.ensures (λ z. omega (arith, c.if-word-gt0.true, z))).is
+returns-then-word-gt0 c =
+    wrote_as c.put_part.ensures (c.type_word-word.ensures (λ z. omega (arith, c.if-word-gt0.true, z))).is
 
 pub write_spaced-requires : goal.write_spaced-requires
 write_spaced-requires c = (c.requires.0, outermost_yields _ _ _ c.requires.1)

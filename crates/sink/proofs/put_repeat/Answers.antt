@@ -24,7 +24,11 @@ pub overflow_add-result : goal.overflow_add-result
 overflow_add-result c = omega (arith, room c.has_room-room.ensures c.if-room.true)
 
 pub returns-then-room : goal.returns-then-room
-returns-then-room c = wrote_repeated c.args.count c.args.byte c.loop-i.invariant.1 (omega arith) (room c.has_room-room.ensures c.if-room.true) (omega arith)
+returns-then-room c =
+    wrote_repeated c.args.count c.args.byte c.loop-i.invariant.1 (omega arith) (room c.has_room-room.ensures
+        c.if-room.true) (omega arith)
 
 pub returns : goal.returns
-returns c = wrote_none (length-replicate _ _) (no_room c.has_room-room.ensures c.if-room.false) (omega arith) c.advance.ensures
+returns c =
+    wrote_none (length-replicate _ _) (no_room c.has_room-room.ensures c.if-room.false) (omega arith)
+        c.advance.ensures

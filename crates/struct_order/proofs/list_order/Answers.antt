@@ -17,4 +17,5 @@ pub returns-in-Cycle : goal.returns-in-Cycle
 returns-in-Cycle c = list_ring c.order_of-r.ensures _ c.in-Cycle.is
 
 pub returns-else-buf-end : goal.returns-else-buf-end
-returns-else-buf-end c = list_fits c.order_of-r.ensures _ c.in-Done.is c.if-buf-end.false (omega arith) c.put_bytes.ensures
+returns-else-buf-end c =
+    list_fits c.order_of-r.ensures _ c.in-Done.is c.if-buf-end.false (omega arith) c.put_bytes.ensures

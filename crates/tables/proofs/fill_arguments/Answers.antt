@@ -72,7 +72,8 @@ argument_entry-requires c =
         laws.argument_named _ _ _ _ c.requires.1 c.loop-i.next.at
             c.loop-i.invariant.2 c.loop-i-test.true wide c.field-name.ensures,
       ),
-      laws.argument_type _ _ _ _ c.requires.1 c.loop-i.next.at c.loop-i.invariant.2 c.loop-i-test.true wide c.field-name.ensures,
+      laws.argument_type _ _ _ _ c.requires.1 c.loop-i.next.at c.loop-i.invariant.2 c.loop-i-test.true wide
+          c.field-name.ensures,
     )
 
 pub bounds-offsets-j-in-loop-i : goal.bounds-offsets-j-in-loop-i
@@ -86,7 +87,8 @@ skip_type-next-requires c =
     let wide = c.width-w.ensures ∙ ap width_of (sym (names_count_lem c.requires.0)) in
     rw (← items_count_lem c.requires.0) (
       c.requires.0.whole.named.limited,
-      laws.argument_type _ _ _ _ c.requires.1 c.loop-i.next.at c.loop-i.invariant.2 c.loop-i-test.true wide c.field-name.ensures,
+      laws.argument_type _ _ _ _ c.requires.1 c.loop-i.next.at c.loop-i.invariant.2 c.loop-i-test.true wide
+          c.field-name.ensures,
     )
 
 pub loop-i-preserved : goal.loop-i-preserved
@@ -97,9 +99,12 @@ loop-i-preserved c =
       simp length-set (omega arith),
       laws.arguments_turn _ _ _ _ c.requires.1 c.loop-i.next.at c.loop-i.invariant.2
           c.loop-i-test.true wide c.field-name.ensures c.argument_entry.result (omega (arith, c.requires.1.view.few))
-          entry.named (rw entry.of (laws.argument_type _ _ _ _ c.requires.1 c.loop-i.next.at c.loop-i.invariant.2 c.loop-i-test.true
+          entry.named (rw entry.of (laws.argument_type _ _ _ _ c.requires.1 c.loop-i.next.at c.loop-i.invariant.2
+              c.loop-i-test.true
           wide c.field-name.ensures)) entry.facts (rw (← items_count_lem c.requires.0) at c.skip_type-next.ensures),
     )
 
 pub returns : goal.returns
-returns c = laws.arguments_done _ _ _ _ c.requires.1 c.loop-i.next c.loop-i.invariant.2 c.loop-i.invariant.0 c.loop-i-test.false
+returns c =
+    laws.arguments_done _ _ _ _ c.requires.1 c.loop-i.next c.loop-i.invariant.2 c.loop-i.invariant.0
+        c.loop-i-test.false

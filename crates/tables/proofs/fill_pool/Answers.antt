@@ -42,7 +42,8 @@ loop-i-preserved c =
       omega arith,
       omega arith,
       turn_long c.loop-i.invariant.3 _ part found kept ∙ c.loop-i.invariant.2,
-      filled_turn c.loop-i.invariant.3 _ part found kept (name_left c.loop-i.invariant.3 c.requires.0 (omega arith)) c.unpack.ensures
+      filled_turn c.loop-i.invariant.3 _ part found kept (name_left c.loop-i.invariant.3 c.requires.0 (omega arith))
+          c.unpack.ensures
           (omega (arith, c.loop-i.invariant.2)),
     )
 

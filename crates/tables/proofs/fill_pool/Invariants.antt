@@ -8,7 +8,8 @@ use borrow.Author.Rules.{rules}
 use Rattle.tables.proofs.fill_pool.Given as goal
 
 abbrev pub invariant-loop-i : goal.invariant-loop-i
-invariant-loop-i l = (l.i ≤ l.n) × (l.end ≤ 12000) × (length l.pool ≡ length l.initial.pool) × Filled l.s l.initial.t l.t l.pool l.end
+invariant-loop-i l =
+    (l.i ≤ l.n) × (l.end ≤ 12000) × (length l.pool ≡ length l.initial.pool) × Filled l.s l.initial.t l.t l.pool l.end
 
 abbrev pub decreases-loop-i : goal.decreases-loop-i
 decreases-loop-i l = l.n - l.i

@@ -8,7 +8,8 @@ pub slice_bounds-function-end : goal.slice_bounds-function-end
 slice_bounds-function-end c = sym (length-take-le _ _ (omega (arith, c.requires.0.names, c.requires.0.long)))
 
 pub function-requires : goal.function-requires
-function-requires c = rw (names_part c.args.t.now, items_part c.args.t.now) (c.requires.0.whole, c.requires.1, c.requires.2)
+function-requires c =
+    rw (names_part c.args.t.now, items_part c.args.t.now) (c.requires.0.whole, c.requires.1, c.requires.2)
 
 pub returns : goal.returns
 returns c = rw (names_part c.args.t.now, items_part c.args.t.now) at c.function.ensures

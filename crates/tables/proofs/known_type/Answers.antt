@@ -19,7 +19,8 @@ pub bounds-t-k-2 : goal.bounds-t-k-2
 bounds-t-k-2 c = omega (arith, c.requires.long, c.row_of-k.ensures)
 
 pub returns-then-bits-word : goal.returns-then-bits-word
-returns-then-bits-word c = λ some. known (c.requires.met _ c.row_of-k.ensures some) c.extract-bits.ensures (omega arith) c.if-bits-word.true
+returns-then-bits-word c =
+    λ some. known (c.requires.met _ c.row_of-k.ensures some) c.extract-bits.ensures (omega arith) c.if-bits-word.true
 
 pub returns : goal.returns
 returns c = λ none. absurd (none refl)

@@ -7,7 +7,8 @@ use Rattle.text.proofs.CharLaws.{char_in, hold_none, hold_next, hold_less}
 use Rattle.text.proofs.put_few.Given as goal
 
 abbrev pub invariant-loop-i : goal.invariant-loop-i
-invariant-loop-i l = (l.i ≤ l.n) × (l.down ≡ 7 * (l.n - l.i)) × (length l.buf ≡ length l.initial.buf) × Holds l.s l.at l.i l.buf
+invariant-loop-i l =
+    (l.i ≤ l.n) × (l.down ≡ 7 * (l.n - l.i)) × (length l.buf ≡ length l.initial.buf) × Holds l.s l.at l.i l.buf
 
 abbrev pub decreases-loop-i : goal.decreases-loop-i
 decreases-loop-i l = l.n - l.i

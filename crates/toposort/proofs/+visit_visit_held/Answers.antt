@@ -99,7 +99,8 @@ visit_held-loop-k-preserved t c =
     (v.0, going_next within c.to_usize-j.ensures.1 now (visited_as c.in-Done.is c.visit-r.ensures))
 
 pub visit_held-returns : goal.visit_held-returns
-visit_held-returns t c = all_done c.requires.2.order (going_as (part_end _ _ _ c.loop-k-test.false) c.loop-k.invariant.1)
+visit_held-returns t c =
+    all_done c.requires.2.order (going_as (part_end _ _ _ c.loop-k-test.false) c.loop-k.invariant.1)
 
 pub visit_held-bounds-marks-j : goal.visit_held-bounds-marks-j
 visit_held-bounds-marks-j t c =

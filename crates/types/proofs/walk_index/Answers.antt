@@ -15,7 +15,10 @@ pub extract-i-requires : goal.extract-i-requires
 extract-i-requires c = (omega arith, width_le _ c.width-w.ensures, omega arith)
 
 pub returns-then-items-i : goal.returns-then-items-i
-returns-then-items-i c = index_loose _ _ _ c.width-w.ensures (bits_whole _ _ _ (omega arith) c.extract-i.ensures) c.if-items-i.true
+returns-then-items-i c =
+    index_loose _ _ _ c.width-w.ensures (bits_whole _ _ _ (omega arith) c.extract-i.ensures) c.if-items-i.true
 
 pub returns : goal.returns
-returns c = index_marked _ _ _ c.width-w.ensures (bits_whole _ _ _ (omega arith) c.extract-i.ensures) (omega arith) (omega arith) c.set_mark.ensures
+returns c =
+    index_marked _ _ _ c.width-w.ensures (bits_whole _ _ _ (omega arith) c.extract-i.ensures) (omega arith)
+        (omega arith) c.set_mark.ensures

@@ -34,11 +34,15 @@ overflow_add-digits-2 c = record { fits = omega (arith, and_le_r c.args.x (lanes
 
 pub returns-then-good-bits : goal.returns-then-good-bits
 unfolding lanes name_marks
-returns-then-good-bits c = window_broken _ _ c.requires.0 (none_here c.args.x c.args.bits c.requires.1 c.requires.2 c.requires.3 c.if-good-bits.true)
+returns-then-good-bits c =
+    window_broken _ _ c.requires.0 (none_here c.args.x c.args.bits c.requires.1 c.requires.2 c.requires.3
+        c.if-good-bits.true)
 
 pub returns-in-Reserved : goal.returns-in-Reserved
 unfolding lanes name_marks
-returns-in-Reserved c = rw c.in-Reserved.is (window_reserved _ (all_here c.args.x c.args.bits c.requires.1 c.requires.2 c.requires.3 c.if-good-bits.false))
+returns-in-Reserved c =
+    rw c.in-Reserved.is (window_reserved _ (all_here c.args.x c.args.bits c.requires.1 c.requires.2 c.requires.3
+        c.if-good-bits.false))
 
 pub returns-in-Broken : goal.returns-in-Broken
 returns-in-Broken c = rw c.in-Broken.is (sym (broken_stays _))
@@ -48,7 +52,8 @@ unfolding lanes score_marks
 overflow_add-u c =
     let low : c.match-shape.score ≤ 64 =
     elim c.match-shape.branch
-    [ in-Empty w ↦ omega arith | in-Leading w ↦ omega arith | in-Plain w ↦ omega arith | in-Underscore w ↦ omega arith ] in
+    [ in-Empty w ↦ omega arith | in-Leading w ↦ omega arith | in-Plain w ↦ omega arith | in-Underscore w ↦ omega arith
+        ] in
     record { fits = sum_room c.args.x c.args.bits c.requires.1 c.requires.2 c.requires.3 _ low }
 
 pub returns-then-u-ne0 : goal.returns-then-u-ne0
@@ -61,7 +66,8 @@ returns-then-u-ne0 c =
       | in-Plain w ↦ score_plain w.in-Plain.is w.score-is
       | in-Underscore w ↦ score_under w.in-Underscore.is w.score-is
     ] in
-    window_double c.args.x c.args.bits c.requires.1 c.requires.2 c.requires.3 s refl (all_here c.args.x c.args.bits c.requires.1 c.requires.2 c.requires.3 c.if-good-bits.false) c.if-u-ne0.true
+    window_double c.args.x c.args.bits c.requires.1 c.requires.2 c.requires.3 s refl (all_here c.args.x c.args.bits
+        c.requires.1 c.requires.2 c.requires.3 c.if-good-bits.false) c.if-u-ne0.true
 
 pub returns-then-u-ne0-2 : goal.returns-then-u-ne0-2
 unfolding lanes name_marks score_marks
@@ -73,7 +79,8 @@ returns-then-u-ne0-2 c =
       | in-Plain w ↦ score_plain w.in-Plain.is w.score-is
       | in-Underscore w ↦ score_under w.in-Underscore.is w.score-is
     ] in
-    window_score c.args.x c.args.bits c.requires.1 c.requires.2 c.requires.3 s refl (all_here c.args.x c.args.bits c.requires.1 c.requires.2 c.requires.3 c.if-good-bits.false) c.if-u-ne0.false c.if-u-ne0-2.true
+    window_score c.args.x c.args.bits c.requires.1 c.requires.2 c.requires.3 s refl (all_here c.args.x c.args.bits
+        c.requires.1 c.requires.2 c.requires.3 c.if-good-bits.false) c.if-u-ne0.false c.if-u-ne0-2.true
 
 pub returns : goal.returns
 unfolding lanes name_marks score_marks
@@ -85,4 +92,5 @@ returns c =
       | in-Plain w ↦ score_plain w.in-Plain.is w.score-is
       | in-Underscore w ↦ score_under w.in-Underscore.is w.score-is
     ] in
-    window_plain c.args.x c.args.bits c.requires.1 c.requires.2 c.requires.3 s refl (all_here c.args.x c.args.bits c.requires.1 c.requires.2 c.requires.3 c.if-good-bits.false) c.if-u-ne0.false c.if-u-ne0-2.false
+    window_plain c.args.x c.args.bits c.requires.1 c.requires.2 c.requires.3 s refl (all_here c.args.x c.args.bits
+        c.requires.1 c.requires.2 c.requires.3 c.if-good-bits.false) c.if-u-ne0.false c.if-u-ne0-2.false

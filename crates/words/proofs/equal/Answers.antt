@@ -16,7 +16,8 @@ pub returns-then-a-i : goal.returns-then-a-i
 returns-then-a-i c = sym (c.loop-i.invariant.1 ∙ same_no _ _ _ c.loop-i-test.true (omega arith) c.if-a-i.true)
 
 pub loop-i-preserved : goal.loop-i-preserved
-loop-i-preserved c = (omega arith, c.loop-i.invariant.1 ∙ same_turn _ _ _ c.loop-i-test.true (omega arith) c.if-a-i.false)
+loop-i-preserved c =
+    (omega arith, c.loop-i.invariant.1 ∙ same_turn _ _ _ c.loop-i-test.true (omega arith) c.if-a-i.false)
 
 pub returns : goal.returns
 returns c = sym (c.loop-i.invariant.1 ∙ same_end _ _ _ c.loop-i-test.false (omega arith))

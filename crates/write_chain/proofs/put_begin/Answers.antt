@@ -42,4 +42,5 @@ unfolding kind_of
 returns-in-13 c = rw c.in-13.is c.put_bytes-in-13.ensures
 
 pub returns-in_default : goal.returns-in_default
-returns-in_default c = wrote_as (wrote_nil _) (begin_rest (kind_of _) (prefix_none _ c.in_default.in_default-own.rest))
+returns-in_default c =
+    wrote_as (wrote_nil _) (begin_rest (kind_of _) (prefix_none _ c.in_default.in_default-own.rest))

@@ -20,10 +20,13 @@ pub returns-then-count-end : goal.returns-then-count-end
 returns-then-count-end c = filled_same _ c.requires.0 c.requires.1
 
 pub slice_bounds-put_text-end-3 : goal.slice_bounds-put_text-end-3
-slice_bounds-put_text-end-3 c = sym (length-take-le _ _ (omega (arith, c.requires.3, wrote_length c.write_full_name-count.ensures)))
+slice_bounds-put_text-end-3 c =
+    sym (length-take-le _ _ (omega (arith, c.requires.3, wrote_length c.write_full_name-count.ensures)))
 
 pub bounds-t-i : goal.bounds-t-i
 bounds-t-i c = omega (arith, c.requires.2, items_count_lem c.requires.0.tabled, c.requires.0.tabled.items)
 
 pub returns : goal.returns
-returns c = filled_item c.requires.0 c.requires.2 c.write_full_name-count.ensures c.requires.3 (omega arith) c.put_text.ensures (omega arith) (omega arith)
+returns c =
+    filled_item c.requires.0 c.requires.2 c.write_full_name-count.ensures c.requires.3 (omega arith)
+        c.put_text.ensures (omega arith) (omega arith)

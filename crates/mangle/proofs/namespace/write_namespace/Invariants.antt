@@ -10,7 +10,9 @@ use Rattle.tables.specs.Tables.{items_of}
 use Rattle.mangle.proofs.namespace.write_namespace.Given as goal
 
 abbrev pub invariant-loop-d : goal.invariant-loop-d
-invariant-loop-d l = (l.d ≤ l.v.depth) × Wrote (sink l.initial.out l.initial.here) (each_between l.before l.behind (take l.d (item_at (items_of l.s l.t) l.v.number).namespace)) (sink l.out l.here)
+invariant-loop-d l =
+    (l.d ≤ l.v.depth) × Wrote (sink l.initial.out l.initial.here) (each_between l.before l.behind
+        (take l.d (item_at (items_of l.s l.t) l.v.number).namespace)) (sink l.out l.here)
 
 abbrev pub decreases-loop-d : goal.decreases-loop-d
 decreases-loop-d l = l.v.depth - l.d

@@ -16,7 +16,8 @@ pub length_word-requires-3 : goal.length_word-requires-3
 length_word-requires-3 c = later (c.count_arguments-p.ensures.held_to c.if-p-eq0.false) (omega arith) (omega arith)
 
 pub length_word-requires-4 : goal.length_word-requires-4
-length_word-requires-4 c = later (c.count_arguments-p.ensures.operands_to c.if-p-eq0.false) (omega arith) (omega arith)
+length_word-requires-4 c =
+    later (c.count_arguments-p.ensures.operands_to c.if-p-eq0.false) (omega arith) (omega arith)
 
 pub bounds-words-n : goal.bounds-words-n
 bounds-words-n c = omega (arith, c.requires.2.room)

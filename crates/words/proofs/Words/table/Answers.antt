@@ -7,5 +7,6 @@ use Rattle.words.proofs.TableLaws.{sort, right}
 use Rattle.words.proofs.Words.table.Goals as goal
 
 pub returns : goal.returns
-unfolding every keywords added_keywords keywords20 alternative_tokens reserved table_of begins first_with before sorted chosen common words_of total starts_of shared_of firsts_of sort
+unfolding every keywords added_keywords keywords20 alternative_tokens reserved table_of begins first_with before
+    sorted chosen common words_of total starts_of shared_of firsts_of sort
 returns c = right _ refl refl refl refl refl refl refl refl refl refl
