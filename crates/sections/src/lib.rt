@@ -1,6 +1,7 @@
 // Declarations, layouts and shims, each in its namespace and section: the port of the parts of write.rs that write an
 // item. Every function is lent the sheet, the table and the pool, the digests of the names, and the buffer; a
 // function's writer also the summaries that are kept, and room for one.
+#![tactic(auto)]
 ghost use Rattle.std.specs.Prelude.{◌≡◌, false, ◌≤◌, length};
 ghost use Rattle.format.specs.declared.ItemKind.TheVariants.{RustFunction};
 ghost use Rattle.syntax.specs.Items.{item_at};

@@ -6,7 +6,7 @@ ghost use Rattle.std.specs.Prelude.{◌≡◌, [], ◌≤◌, ◌<◌, eqb, leng
 ghost use Rattle.format.specs.Limits.{most_names, most_bits};
 ghost use Rattle.format.specs.Bits.{bits_at};
 ghost use Rattle.format.specs.Sheet.{free};
-ghost use Rattle.format.specs.Decoding.{kind_of, type, form};
+ghost use Rattle.format.specs.Decoding.{kind_of, type as type_of, form};
 ghost use Rattle.format.specs.declared.ItemKind.TheVariants.{RustFunction};
 ghost use Rattle.syntax.specs.Items.{item_at};
 ghost use Rattle.syntax.specs.Types.{pointer_bit, is_indirect_template, needs_indirect_abi};
@@ -158,7 +158,7 @@ fn form_at(s: &[u8], c: Cursor, items: u32) -> FormView
 // Past the outermost type at c, in a sheet of so many items.
 pub fn past_type(s: &[u8], c: Cursor, items: u32) -> Cursor
     requires { Limited s.now }
-    ensures { result.at ≡ next_of (type items s.now c.at) }
+    ensures { result.at ≡ next_of (type_of items s.now c.at) }
 {
     let mut none = [0u8; 1];
     let r = check_type(s, c, items, &mut none[..0]);
@@ -188,8 +188,8 @@ pub fn prefix_of(k: u32) -> u32
 
 // Past the outermost type at c, which is known to be there.
 pub fn skip_type(s: &[u8], c: Cursor, items: u32) -> Cursor
-    requires { Limited s.now × Yields (type items s.now c.at) (type_here items s.now c.at) }
-    ensures { result.at ≡ next_of (type items s.now c.at) }
+    requires { Limited s.now × Yields (type_of items s.now c.at) (type_here items s.now c.at) }
+    ensures { result.at ≡ next_of (type_of items s.now c.at) }
 {
     let mut at = c.at;
     let mut k = extract(s, at, 4);
@@ -214,8 +214,8 @@ pub fn skip_type(s: &[u8], c: Cursor, items: u32) -> Cursor
 // Past the type at c, where the return bit before it says that there is one.
 fn past_return(s: &[u8], c: Cursor, returns: bool, items: u32) -> Cursor
     requires { Limited s.now ×
-        Yields (return_of returns (type items) s.now c.at) (return_here returns items s.now c.at) }
-    ensures { result.at ≡ next_of (return_of returns (type items) s.now c.at) }
+        Yields (return_of returns (type_of items) s.now c.at) (return_here returns items s.now c.at) }
+    ensures { result.at ≡ next_of (return_of returns (type_of items) s.now c.at) }
 {
     if returns {
         return skip_type(s, c, items);
@@ -318,7 +318,7 @@ fn pack(name: u32, of: Cursor, owner: u32, indirect: bool, string: bool) -> u32
 // The entry of an argument with this name, whose type stands at c.
 pub fn argument_entry(s: &[u8], names: &[u32], items: &[u32], name: u32, c: Cursor) -> u32
     requires { Whole s.now names.now items.now × (name ≤ most_names) ×
-        Yields (type (length items.now) s.now c.at) (type_here (length items.now) s.now c.at) }
+        Yields (type_of (length items.now) s.now c.at) (type_here (length items.now) s.now c.at) }
     ensures { EntryOf s.now names.now items.now name c.at result }
 {
     let k = extract(s, c.at, 4);
@@ -353,7 +353,7 @@ pub fn argument(offsets: &[u32], j: u32) -> ArgumentView
 // The kind of the outermost type at c.
 pub fn type_kind(s: &[u8], items: &[u32], c: Cursor) -> TypeKind
     requires { Limited s.now ×
-        Yields (type (length items.now) s.now c.at) (type_here (length items.now) s.now c.at) }
+        Yields (type_of (length items.now) s.now c.at) (type_here (length items.now) s.now c.at) }
     ensures { result ≡ kind_of_type (type_here (length items.now) s.now c.at) }
 {
     let k = field(s, c, 4);
@@ -406,7 +406,7 @@ fn is_indirect_kind(kind: TypeKind) -> bool
 // Whether the type at c, which is no atom and whose kind has the number k, needs an indirect ABI.
 fn is_indirect_other(s: &[u8], names: &[u32], items: &[u32], c: Cursor, k: u32) -> bool
     requires { Whole s.now names.now items.now ×
-        Yields (type (length items.now) s.now c.at) (type_here (length items.now) s.now c.at) ×
+        Yields (type_of (length items.now) s.now c.at) (type_here (length items.now) s.now c.at) ×
         (k ≡ bits_at s.now c.at 4) × (k ≡ 0 → ⊥) }
     ensures { result ≡ needs_indirect_abi (items_at s.now names.now items.now)
         (type_here (length items.now) s.now c.at) }
@@ -421,7 +421,7 @@ fn is_indirect_other(s: &[u8], names: &[u32], items: &[u32], c: Cursor, k: u32) 
 // Whether the type at c needs an indirect ABI.
 pub fn needs_indirect_abi(s: &[u8], names: &[u32], items: &[u32], c: Cursor) -> bool
     requires { Whole s.now names.now items.now ×
-        Yields (type (length items.now) s.now c.at) (type_here (length items.now) s.now c.at) }
+        Yields (type_of (length items.now) s.now c.at) (type_here (length items.now) s.now c.at) }
     ensures { result ≡ needs_indirect_abi (items_at s.now names.now items.now)
         (type_here (length items.now) s.now c.at) }
 {

@@ -1,10 +1,9 @@
 use native.Mathlib.Omega.{arith}
-use mathlib.Core.Path.{◌≡◌, refl, ap}
-use Prim.Native.Nat.{◌-◌, ◌≤◌}
+use mathlib.Core.Path.{refl, ap}
+use Prim.Native.Nat.{◌-◌}
 use lib.ListN.{length, length-set}
-use Rattle.format.specs.Limits.{most_bits}
 use Rattle.names.proofs.NameLaws.{digests_length}
-use Rattle.arguments.proofs.ArgumentLaws.{Noting, noting_none, noting_turn, noting_stop, noting_done}
+use Rattle.arguments.proofs.ArgumentLaws.{noting_none, noting_turn, noting_stop, noting_done}
 use Rattle.arguments.proofs.check_each.Goals as goal
 
 pub loop-i-init : goal.loop-i-init

@@ -1,10 +1,8 @@
-use native.Mathlib.Omega.{arith}
-use mathlib.Core.Path.{◌≡◌, refl, ap}
+use mathlib.Core.Path.{◌≡◌}
 use Prim.Native.Nat.{◌-◌, ◌≤◌}
-use lib.ListN.{length, length-set}
+use lib.ListN.{length}
 use Rattle.format.specs.Limits.{most_bits}
-use Rattle.names.proofs.NameLaws.{digests_length}
-use Rattle.arguments.proofs.ArgumentLaws.{Noting, noting_none, noting_turn, noting_stop, noting_done}
+use Rattle.arguments.proofs.ArgumentLaws.{Noting}
 use Rattle.arguments.proofs.check_each.Given as goal
 
 abbrev pub invariant-loop-i : goal.invariant-loop-i

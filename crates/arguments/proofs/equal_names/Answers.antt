@@ -1,12 +1,6 @@
 use native.Mathlib.Omega.{arith}
-use mathlib.Core.Path.{◌≡◌, refl, sym, ◌∙◌}
-use mathlib.Core.List.{[]}
-use mathlib.Core.Bool.{false}
-use Prim.Native.Nat.{◌+◌, ◌≤◌, ◌-◌}
-use lib.ListN.{length, get_or, drop}
-use Rattle.lexical.specs.Bytes.{same}
-use Rattle.rules.specs.Rules.{any, twice}
-use Rattle.arguments.specs.Arguments.{names_of}
+use mathlib.Core.Path.{refl, sym, ◌∙◌}
+use Prim.Native.Nat.{◌-◌}
 use Rattle.arguments.proofs.PairLaws.{pair_turn, pair_hit, row_end, rows_end}
 use Rattle.arguments.proofs.equal_names.Goals as goal
 

@@ -1,5 +1,4 @@
-use native.Mathlib.Omega.{arith}
-use mathlib.Core.Path.{◌≡◌, refl, sym, ◌∙◌}
+use mathlib.Core.Path.{◌≡◌}
 use mathlib.Core.List.{[]}
 use mathlib.Core.Bool.{false}
 use Prim.Native.Nat.{◌+◌, ◌≤◌, ◌-◌}
@@ -7,7 +6,6 @@ use lib.ListN.{length, get_or, drop}
 use Rattle.lexical.specs.Bytes.{same}
 use Rattle.rules.specs.Rules.{any, twice}
 use Rattle.arguments.specs.Arguments.{names_of}
-use Rattle.arguments.proofs.PairLaws.{pair_turn, pair_hit, row_end, rows_end}
 use Rattle.arguments.proofs.equal_names.Given as goal
 
 abbrev pub invariant-loop-j : goal.invariant-loop-j

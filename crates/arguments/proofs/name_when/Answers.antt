@@ -1,4 +1,3 @@
-use mathlib.Core.Path.{refl}
 use Rattle.arguments.proofs.name_when.Goals as goal
 
 pub name_is-requires : goal.name_is-requires

@@ -1,4 +1,3 @@
-use Rattle.std.proofs.Common.{rules}
 use Rattle.sink.proofs.SinkLaws.{first_text, second_text}
 use Rattle.call.proofs.put_slot_value.Goals as goal
 

@@ -1,4 +1,3 @@
-use Rattle.std.proofs.Common.{rules}
 use Rattle.sink.proofs.SinkLaws.{◌▷◌, wrote_nil}
 use Rattle.call.proofs.CallLaws.{begin_written}
 use Rattle.call.proofs.write_call_begin.Goals as goal

@@ -1,4 +1,3 @@
-use Rattle.std.proofs.Common.{rules}
 use Rattle.sink.proofs.SinkLaws.{◌▷◌, wrote_nil, first_text, second_text}
 use Rattle.call.proofs.write_slot.Goals as goal
 

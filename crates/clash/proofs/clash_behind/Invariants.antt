@@ -1,11 +1,9 @@
-use native.Mathlib.Omega.{arith}
-use mathlib.Core.Path.{◌≡◌, refl, sym, ◌∙◌}
-use Prim.Native.Nat.{◌+◌, ◌<◌, ◌≤◌, ◌-◌}
+use mathlib.Core.Path.{◌≡◌}
+use Prim.Native.Nat.{◌+◌, ◌≤◌, ◌-◌}
 use lib.ListN.{length, drop}
 use Rattle.rules.specs.Rules.{any}
 use Rattle.view.specs.Values.{items_at, item_no}
 use Rattle.clash.specs.Clashes.{clashes}
-use Rattle.clash.proofs.ListLaws.{items_turn, items_hit, items_end}
 use Rattle.clash.proofs.clash_behind.Given as goal
 
 abbrev pub invariant-loop-j : goal.invariant-loop-j

@@ -1,9 +1,6 @@
 use native.Mathlib.Omega.{arith}
-use mathlib.Core.Path.{◌≡◌, refl, sym, ap, ◌∙◌}
-use Prim.Native.Nat.{◌+◌, ◌<◌, ◌≤◌, ◌-◌}
-use lib.ListN.{length, drop}
-use Rattle.rules.specs.Rules.{twice}
-use Rattle.view.specs.Values.{items_at, item_no}
+use mathlib.Core.Path.{refl, sym, ◌∙◌}
+use Prim.Native.Nat.{◌-◌}
 use Rattle.clash.specs.Clashes.{clashes}
 use Rattle.clash.proofs.ListLaws.{pairs_turn, pairs_hit, pairs_end}
 use Rattle.clash.proofs.clashing.Goals as goal

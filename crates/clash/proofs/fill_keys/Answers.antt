@@ -1,9 +1,9 @@
 use native.Mathlib.Omega.{arith}
-use mathlib.Core.Path.{◌≡◌, refl, sym, ap, ◌∙◌}
-use Prim.Native.Nat.{ℕ, ◌≤◌, ◌<◌, ◌-◌}
-use lib.ListN.{length, length-set, get_or}
+use mathlib.Core.Path.{◌≡◌, refl, ap}
+use Prim.Native.Nat.{◌-◌}
+use lib.ListN.{length, length-set}
 use Rattle.names.specs.Digests.{digest}
-use Rattle.names.proofs.NameLaws.{digests_length, digest_there}
+use Rattle.names.proofs.NameLaws.{digests_length}
 use Rattle.view.specs.Values.{item_no}
 use Rattle.clash.specs.Clashes.{own_name}
 use Rattle.rules.proofs.SearchLaws.{filled_turn}

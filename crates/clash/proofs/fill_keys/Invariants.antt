@@ -1,13 +1,9 @@
-use native.Mathlib.Omega.{arith}
-use mathlib.Core.Path.{◌≡◌, refl, sym, ap, ◌∙◌}
+use mathlib.Core.Path.{◌≡◌}
 use Prim.Native.Nat.{ℕ, ◌≤◌, ◌<◌, ◌-◌}
-use lib.ListN.{length, length-set, get_or}
+use lib.ListN.{length, get_or}
 use Rattle.names.specs.Digests.{digest}
-use Rattle.names.proofs.NameLaws.{digests_length, digest_there}
 use Rattle.view.specs.Values.{item_no}
 use Rattle.clash.specs.Clashes.{own_name}
-use Rattle.rules.proofs.SearchLaws.{filled_turn}
-use Rattle.clash.proofs.ViewLaws.{key_there}
 use Rattle.clash.proofs.fill_keys.Given as goal
 
 abbrev pub invariant-loop-i : goal.invariant-loop-i

@@ -1,13 +1,8 @@
-use native.Mathlib.Omega.{arith}
-use mathlib.Core.Path.{◌≡◌, refl, sym, ◌∙◌}
+use mathlib.Core.Path.{◌≡◌}
 use Prim.Native.Nat.{◌≤◌, ◌-◌}
 use lib.ListN.{drop}
-use Rattle.lexical.proofs.BoolLaws.{not-true, not-false}
 use Rattle.clash.specs.Clashes.{same_names}
 use Rattle.view.specs.Values.{item_no}
-use Rattle.clash.proofs.ViewLaws.{depths_differ, spaces_turn, spaces_differ, spaces_end}
-use mathlib.Core.Path.{ap}
-use mathlib.Core.Bool.{not}
 use Rattle.clash.proofs.same_namespace.Given as goal
 
 abbrev pub invariant-loop-d : goal.invariant-loop-d

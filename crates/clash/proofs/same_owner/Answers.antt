@@ -1,4 +1,3 @@
-use mathlib.Core.Path.{sym, ◌∙◌}
 use Rattle.clash.proofs.ViewLaws.{owners_none, owners_differ, owners_both}
 use Rattle.clash.proofs.same_owner.Goals as goal
 

@@ -1,10 +1,9 @@
 use borrow.Author.Tests.{not-true, not-false}
 use native.Mathlib.Omega.{arith}
 use mathlib.Core.Bool.{true, false}
-use mathlib.Core.Path.{◌≡◌, refl, sym, ◌∙◌}
-use Prim.Native.Nat.{◌+◌, ◌*◌}
+use mathlib.Core.Path.{refl, sym, ◌∙◌}
 use Rattle.lexical.proofs.BoolLaws.{known}
-use Rattle.comments.proofs.LineLaws.{line_chars, line_turn}
+use Rattle.comments.proofs.LineLaws.{line_turn}
 use mathlib.Core.Path.{ap}
 use mathlib.Core.Bool.{not}
 use Rattle.comments.proofs.all_line_chars.Goals as goal

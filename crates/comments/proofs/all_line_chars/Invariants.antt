@@ -1,12 +1,6 @@
-use borrow.Author.Tests.{not-true, not-false}
-use native.Mathlib.Omega.{arith}
-use mathlib.Core.Bool.{true, false}
-use mathlib.Core.Path.{◌≡◌, refl, sym, ◌∙◌}
+use mathlib.Core.Path.{◌≡◌}
 use Prim.Native.Nat.{◌+◌, ◌*◌}
-use Rattle.lexical.proofs.BoolLaws.{known}
-use Rattle.comments.proofs.LineLaws.{line_chars, line_turn}
-use mathlib.Core.Path.{ap}
-use mathlib.Core.Bool.{not}
+use Rattle.comments.proofs.LineLaws.{line_chars}
 use Rattle.comments.proofs.all_line_chars.Given as goal
 
 abbrev pub invariant-loop-left : goal.invariant-loop-left

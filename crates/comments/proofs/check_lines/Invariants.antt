@@ -1,10 +1,8 @@
-use native.Mathlib.Omega.{arith}
-use mathlib.Core.Path.{◌≡◌, sym, ◌∙◌}
+use mathlib.Core.Path.{◌≡◌}
 use Prim.Native.Nat.{◌-◌, ◌≤◌}
 use Rattle.format.specs.Decode.{many}
 use Rattle.format.specs.Decoding.{line}
 use Rattle.cursor.specs.Checking.{step_of}
-use Rattle.cursor.proofs.CheckLaws.{stepped, stopped, many_none, many_turn, many_stop, many_done}
 use Rattle.comments.proofs.check_lines.Given as goal
 
 abbrev pub invariant-loop-i : goal.invariant-loop-i

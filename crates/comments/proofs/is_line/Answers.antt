@@ -1,5 +1,4 @@
 use borrow.Author.Tests.{not-true, not-false}
-use native.Mathlib.Omega.{arith}
 use mathlib.Core.Path.{◌∙◌}
 use Rattle.format.specs.Decoding.{line_ok}
 use Rattle.lexical.proofs.BoolLaws.{known}

@@ -1,19 +1,13 @@
-use mathlib.Core.Path.{◌≡◌, refl}
-use native.Mathlib.Omega.{arith}
+use mathlib.Core.Path.{◌≡◌}
 use Prim.Native.Nat.{◌-◌, ◌*◌}
 use lib.ListN.{length}
 use Rattle.format.specs.Bits.{bits_at}
 use Rattle.format.specs.Decoding.{kind_of}
-use Rattle.cursor.proofs.WidthLaws.{width_le}
 use Rattle.view.specs.Views.{prefix_of}
 use Rattle.write_type.specs.TypeAt.{ty_at}
 use Rattle.tables.specs.Tables.{items_in, items_of}
-use Rattle.tables.proofs.TableLaws.{width_is}
 use Rattle.write_chain.specs.Chains.{write_type_as}
-use Rattle.write_chain.proofs.InnerLaws.{pointer_prefix, reads_template, reads_pointer}
-use Rattle.write_chain.proofs.InnerLaws.{type_room, inner_room, atom_room, atom_text, str_text}
-use Rattle.write_chain.proofs.InnerLaws.{named_room, named_low, named_text}
-use Rattle.count_type.proofs.CountLaws.{Counting, counting_whole, counting_turn, counting_near, counting_done, counts_none, atom_fits, begin_fits, one_long}
+use Rattle.count_type.proofs.CountLaws.{Counting}
 use Rattle.count_type.proofs.count_type.Given as goal
 
 abbrev pub invariant-loop-prefix : goal.invariant-loop-prefix

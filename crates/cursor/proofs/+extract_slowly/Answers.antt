@@ -1,4 +1,3 @@
-use Prim.Native.Nat.{ℕ, ◌<◌}
 use native.Mathlib.Omega.{arith}
 use Rattle.cursor.proofs.BitLaws.{bits_none, bits_more, bits_short, bits_all}
 use Rattle.cursor.proofs.+extract_slowly.Goals as goal

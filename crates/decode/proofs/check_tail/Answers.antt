@@ -1,5 +1,4 @@
 use mathlib.Core.Path.{refl}
-use native.Mathlib.Omega.{arith}
 use borrow.Author.Tests.{eq-eqb}
 use Rattle.format.specs.Decoding.{tail}
 use Rattle.cursor.proofs.FieldLaws.{value, cut, field_next}

@@ -1,4 +1,3 @@
-use mathlib.Core.Path.{refl}
 use native.Mathlib.Omega.{arith}
 use Rattle.cursor.proofs.FieldLaws.{value, cut, field_lt}
 use Rattle.names.proofs.NameLaws.{names_length}

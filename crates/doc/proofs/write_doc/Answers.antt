@@ -1,5 +1,4 @@
 use native.Mathlib.Omega.{arith}
-use Rattle.sink.proofs.SinkLaws.{wrote_length}
 use Rattle.doc.proofs.DocLaws.{lines_yield, doc_written}
 use Rattle.doc.proofs.write_doc.Goals as goal
 

@@ -1,5 +1,5 @@
 use native.Mathlib.Omega.{arith}
-use Rattle.sink.proofs.SinkLaws.{◌▷◌, wrote_as, wrote_length}
+use Rattle.sink.proofs.SinkLaws.{◌▷◌, wrote_as}
 use Rattle.doc.proofs.DocLaws.{line_yields, line_is, line_next}
 use Rattle.doc.proofs.write_line.Goals as goal
 

@@ -1,10 +1,8 @@
 use mathlib.Core.List.{◌++◌}
-use native.Mathlib.Omega.{arith}
 use Rattle.lexical.specs.Bytes.{bytes}
 use Rattle.lexical.specs.Decimal.{pick_text}
 use Rattle.sink.specs.Sink.{sink}
-use Rattle.sink.proofs.SinkLaws.{wrote_length}
-use Rattle.doc.proofs.DocLaws.{Writing, writing_none, writing_yields, writing_one, writing_done}
+use Rattle.doc.proofs.DocLaws.{Writing}
 use Rattle.doc.proofs.write_lines.Given as goal
 
 abbrev pub invariant-loop-left : goal.invariant-loop-left

@@ -1,16 +1,7 @@
 use native.Mathlib.Omega.{arith}
-use mathlib.Core.Path.{◌≡◌}
-use mathlib.Core.Bool.{true}
-use Prim.Native.Nat.{ℕ, ◌-◌, ◌<◌, ◌≤◌}
-use lib.ListN.{length}
-use Rattle.format.specs.Limits.{most_namespaces}
-use Rattle.sink.specs.Sink.{sink, Wrote}
-use Rattle.sink.proofs.SinkLaws.{◌▷◌, wrote_length}
-use Rattle.nested.specs.Groups.{opens}
+use Prim.Native.Nat.{◌-◌}
 use Rattle.nested.proofs.ViewLaws.{count}
-use Rattle.forward.specs.Entries.{namespaces_before}
 use Rattle.forward.proofs.EntryLaws.{spaces_begin, spaces_turn, entries_end, entries_last, view_deep, view_first}
-use Rattle.tables.specs.Tables.{items_of, item_of, items_in}
 use Rattle.tables.proofs.TableLaws.{items_count_lem}
 use Rattle.forward.proofs.+write_entries.Goals as goal
 

@@ -1,13 +1,8 @@
-use native.Mathlib.Omega.{arith}
 use Prim.Native.Nat.{◌≤◌, ◌-◌}
 use lib.ListN.{length}
 use Rattle.sink.specs.Sink.{sink, Wrote}
-use Rattle.sink.proofs.SinkLaws.{wrote_length}
-use Rattle.nested.proofs.ViewLaws.{count}
 use Rattle.forward.specs.Entries.{direct_before}
-use Rattle.forward.proofs.EntryLaws.{direct_begin, direct_turn, direct_end}
 use Rattle.tables.specs.Tables.{items_of, item_of, items_in}
-use Rattle.tables.proofs.TableLaws.{items_count_lem}
 use Rattle.forward.proofs.write_direct.Given as goal
 
 abbrev pub invariant-loop-i : goal.invariant-loop-i

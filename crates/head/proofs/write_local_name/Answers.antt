@@ -1,4 +1,4 @@
-use Rattle.sink.proofs.SinkLaws.{◌▷◌, wrote_length}
+use Rattle.sink.proofs.SinkLaws.{◌▷◌}
 use Rattle.head.proofs.HeadLaws.{self_none, self_one, local_name_written}
 use Rattle.head.proofs.write_local_name.Goals as goal
 

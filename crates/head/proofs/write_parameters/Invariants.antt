@@ -1,14 +1,9 @@
 use mathlib.Core.List.{◌++◌}
 use mathlib.Core.Bool.{false}
 use Prim.Native.Nat.{◌-◌, ◌≤◌}
-use native.Mathlib.Omega.{arith}
 use Rattle.bridge.specs.WriteType.{write_type_space}
 use Rattle.sink.specs.Sink.{sink}
-use Rattle.sink.proofs.SinkLaws.{wrote_length}
-use Rattle.shape.proofs.CommaLaws.{Listed, listed_none}
-use Rattle.count_type.proofs.CountLaws.{wrote_counted}
-use Rattle.shape.proofs.ArgumentLaws.{listed_argument, listed_arguments}
-use Rattle.summary.proofs.LengthLaws.{kept}
+use Rattle.shape.proofs.CommaLaws.{Listed}
 use Rattle.tables.specs.Tables.{items_of, function_of}
 use Rattle.head.proofs.write_parameters.Given as goal
 

@@ -1,4 +1,3 @@
-use Rattle.sink.proofs.SinkLaws.{wrote_length}
 use Rattle.head.proofs.HeadLaws.{head_written}
 use Rattle.head.proofs.write_shim_decl.Goals as goal
 

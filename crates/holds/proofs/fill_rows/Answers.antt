@@ -1,8 +1,6 @@
 use native.Mathlib.Omega.{arith}
-use Prim.Native.Nat.{◌-◌, ◌≤◌}
-use Rattle.toposort.specs.Adjacency.{item_numbers}
-use Rattle.view.specs.Values.{items_at}
-use Rattle.holds.proofs.EdgeLaws.{items_passed, Filling, fill_none, fill_next, filling_all, fill_done}
+use Prim.Native.Nat.{◌-◌}
+use Rattle.holds.proofs.EdgeLaws.{items_passed, fill_none, fill_next, filling_all, fill_done}
 use Rattle.holds.proofs.fill_rows.Goals as goal
 
 pub bounds-starts-0 : goal.bounds-starts-0

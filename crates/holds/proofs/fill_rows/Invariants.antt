@@ -1,8 +1,7 @@
-use native.Mathlib.Omega.{arith}
 use Prim.Native.Nat.{◌-◌, ◌≤◌}
 use Rattle.toposort.specs.Adjacency.{item_numbers}
 use Rattle.view.specs.Values.{items_at}
-use Rattle.holds.proofs.EdgeLaws.{items_passed, Filling, fill_none, fill_next, filling_all, fill_done}
+use Rattle.holds.proofs.EdgeLaws.{Filling}
 use Rattle.holds.proofs.fill_rows.Given as goal
 
 abbrev pub invariant-loop-i : goal.invariant-loop-i

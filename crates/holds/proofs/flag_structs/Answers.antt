@@ -1,8 +1,6 @@
 use native.Mathlib.Omega.{arith}
-use Prim.Native.Nat.{◌-◌, ◌≤◌}
-use lib.ListN.{length}
-use Rattle.view.specs.Values.{items_at}
-use Rattle.holds.proofs.EdgeLaws.{items_passed, Flagging, flag_none, flag_next, flag_done}
+use Prim.Native.Nat.{◌-◌}
+use Rattle.holds.proofs.EdgeLaws.{items_passed, flag_none, flag_next, flag_done}
 use Rattle.holds.proofs.flag_structs.Goals as goal
 
 pub loop-i-init : goal.loop-i-init

@@ -1,8 +1,7 @@
-use native.Mathlib.Omega.{arith}
 use Prim.Native.Nat.{◌-◌, ◌≤◌}
 use lib.ListN.{length}
 use Rattle.view.specs.Values.{items_at}
-use Rattle.holds.proofs.EdgeLaws.{items_passed, Flagging, flag_none, flag_next, flag_done}
+use Rattle.holds.proofs.EdgeLaws.{Flagging}
 use Rattle.holds.proofs.flag_structs.Given as goal
 
 abbrev pub invariant-loop-i : goal.invariant-loop-i

@@ -1,8 +1,6 @@
 use native.Mathlib.Omega.{arith}
-use Prim.Native.Nat.{◌-◌, ◌≤◌}
-use lib.ListN.{length}
-use Rattle.view.specs.Values.{items_at}
-use Rattle.holds.proofs.EdgeLaws.{items_there, items_passed, Listing, list_none, list_next, list_done}
+use Prim.Native.Nat.{◌-◌}
+use Rattle.holds.proofs.EdgeLaws.{items_there, items_passed, list_none, list_next, list_done}
 use Rattle.holds.proofs.list_structs.Goals as goal
 
 pub loop-i-init : goal.loop-i-init

@@ -1,8 +1,7 @@
-use native.Mathlib.Omega.{arith}
 use Prim.Native.Nat.{◌-◌, ◌≤◌}
 use lib.ListN.{length}
 use Rattle.view.specs.Values.{items_at}
-use Rattle.holds.proofs.EdgeLaws.{items_there, items_passed, Listing, list_none, list_next, list_done}
+use Rattle.holds.proofs.EdgeLaws.{Listing}
 use Rattle.holds.proofs.list_structs.Given as goal
 
 abbrev pub invariant-loop-i : goal.invariant-loop-i

@@ -1,9 +1,6 @@
 use native.Mathlib.Omega.{arith}
-use Prim.Native.Nat.{◌-◌, ◌≤◌}
-use lib.ListN.{length}
-use Rattle.view.specs.Values.{items_at}
-use Rattle.holds.specs.Edges.{fields_here}
-use Rattle.holds.proofs.FieldLaws.{Walking, walk_none, walk_room, one_less, walk_type, walk_next, walk_done}
+use Prim.Native.Nat.{◌-◌}
+use Rattle.holds.proofs.FieldLaws.{walk_none, walk_room, one_less, walk_type, walk_next, walk_done}
 use Rattle.holds.proofs.put_fields.Goals as goal
 
 pub loop-i-init : goal.loop-i-init

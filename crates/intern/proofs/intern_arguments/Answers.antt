@@ -1,8 +1,7 @@
 use native.Mathlib.Omega.{arith}
-use Prim.Native.Nat.{◌≤◌, ◌-◌}
-use Rattle.tables.specs.Tables.{Filled}
+use Prim.Native.Nat.{◌-◌}
 use Rattle.mangle.proofs.FullLaws.{filled_same, filled_next}
-use Rattle.intern.proofs.InternLaws.{Entries, entries_of_lem, entry_typed, entry_facts}
+use Rattle.intern.proofs.InternLaws.{entries_of_lem, entry_typed, entry_facts}
 use borrow.Author.Rules.{rules}
 use Rattle.intern.proofs.intern_arguments.Goals as goal
 

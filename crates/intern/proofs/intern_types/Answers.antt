@@ -1,6 +1,5 @@
 use native.Mathlib.Omega.{arith}
-use Prim.Native.Nat.{◌≤◌, ◌-◌}
-use Rattle.tables.specs.Tables.{Filled}
+use Prim.Native.Nat.{◌-◌}
 use Rattle.mangle.proofs.FullLaws.{filled_same, filled_next, item_left}
 use Rattle.intern.proofs.intern_types.Goals as goal
 

@@ -1,7 +1,5 @@
-use native.Mathlib.Omega.{arith}
 use Prim.Native.Nat.{◌≤◌, ◌-◌}
 use Rattle.tables.specs.Tables.{Filled}
-use Rattle.mangle.proofs.FullLaws.{filled_same, filled_next, item_left}
 use Rattle.intern.proofs.intern_types.Given as goal
 
 abbrev pub invariant-loop-i : goal.invariant-loop-i

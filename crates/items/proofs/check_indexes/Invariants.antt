@@ -1,9 +1,7 @@
-use native.Mathlib.Omega.{arith}
-use mathlib.Core.Path.{◌≡◌, sym, ◌∙◌}
+use mathlib.Core.Path.{◌≡◌}
 use Prim.Native.Nat.{◌-◌, ◌≤◌}
 use Rattle.format.specs.Decode.{many}
 use Rattle.cursor.specs.Checking.{step_of}
-use Rattle.cursor.proofs.CheckLaws.{stepped, stopped, many_none, many_turn, many_stop, many_done}
 use Rattle.format.specs.Bits.{index}
 use Rattle.items.proofs.check_indexes.Given as goal
 

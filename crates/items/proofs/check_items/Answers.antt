@@ -1,13 +1,12 @@
 use native.Mathlib.Omega.{arith}
-use mathlib.Core.Path.{◌≡◌, refl, ◌∙◌}
-use Prim.Native.Nat.{◌-◌, ◌≤◌}
-use lib.ListN.{length, length-set}
+use mathlib.Core.Path.{refl, ◌∙◌}
+use Prim.Native.Nat.{◌-◌}
+use lib.ListN.{length-set}
 use Rattle.format.specs.Decoding.{item}
 use Rattle.cursor.specs.Checking.{position_of}
-use Rattle.cursor.proofs.TableLaws.{placed_got, placed_fault, Filling, fill_none, fill_turn, fill_stop, fill_done}
-use Rattle.names.specs.Naming.{names_at}
+use Rattle.cursor.proofs.TableLaws.{placed_got, placed_fault, fill_none, fill_turn, fill_stop, fill_done}
 use Rattle.marks.specs.Marking.{mark_item}
-use Rattle.marks.proofs.GatherLaws.{moved, halted, folded, fold_none, fold_turn, fold_stop, fold_done}
+use Rattle.marks.proofs.GatherLaws.{moved, halted, fold_none, fold_turn, fold_stop, fold_done}
 use Rattle.items.proofs.check_items.Goals as goal
 
 pub loop-i-init : goal.loop-i-init

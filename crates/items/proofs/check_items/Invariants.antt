@@ -1,13 +1,12 @@
-use native.Mathlib.Omega.{arith}
-use mathlib.Core.Path.{◌≡◌, refl, ◌∙◌}
+use mathlib.Core.Path.{◌≡◌}
 use Prim.Native.Nat.{◌-◌, ◌≤◌}
-use lib.ListN.{length, length-set}
+use lib.ListN.{length}
 use Rattle.format.specs.Decoding.{item}
 use Rattle.cursor.specs.Checking.{position_of}
-use Rattle.cursor.proofs.TableLaws.{placed_got, placed_fault, Filling, fill_none, fill_turn, fill_stop, fill_done}
+use Rattle.cursor.proofs.TableLaws.{Filling}
 use Rattle.names.specs.Naming.{names_at}
 use Rattle.marks.specs.Marking.{mark_item}
-use Rattle.marks.proofs.GatherLaws.{moved, halted, folded, fold_none, fold_turn, fold_stop, fold_done}
+use Rattle.marks.proofs.GatherLaws.{folded}
 use Rattle.items.proofs.check_items.Given as goal
 
 abbrev pub invariant-loop-i : goal.invariant-loop-i

@@ -1,10 +1,6 @@
 use native.Mathlib.Omega.{arith}
-use mathlib.Core.Path.{◌≡◌, sym, ◌∙◌}
-use Prim.Native.Nat.{◌≤◌, ◌-◌}
-use lib.ListN.{length}
-use Rattle.rules.specs.Rules.{unfit_argument}
-use Rattle.view.specs.Values.{items_at}
-use Rattle.marks.specs.Reading.{some_from}
+use mathlib.Core.Path.{sym, ◌∙◌}
+use Prim.Native.Nat.{◌-◌}
 use Rattle.marks.proofs.SomeLaws.{some_turn, some_yes, some_end}
 use Rattle.judge.specs.Marked.{indirect_error}
 use Rattle.judge.proofs.MarkedLaws.{unfit_marked, unfit_unmarked}

@@ -1,13 +1,10 @@
-use native.Mathlib.Omega.{arith}
-use mathlib.Core.Path.{◌≡◌, sym, ◌∙◌}
+use mathlib.Core.Path.{◌≡◌}
 use Prim.Native.Nat.{◌≤◌, ◌-◌}
 use lib.ListN.{length}
 use Rattle.rules.specs.Rules.{wrong_part}
 use Rattle.view.specs.Values.{items_at}
 use Rattle.marks.specs.Reading.{some_from}
-use Rattle.marks.proofs.SomeLaws.{some_turn, some_yes, some_end}
 use Rattle.judge.specs.Marked.{named_function}
-use Rattle.judge.proofs.MarkedLaws.{wrong_marked}
 use Rattle.judge.proofs.wrong_part.Given as goal
 
 abbrev pub invariant-loop-i : goal.invariant-loop-i

@@ -1,9 +1,7 @@
 use native.Mathlib.Omega.{arith}
-use mathlib.Core.Path.{◌≡◌}
-use Prim.Native.Nat.{◌+◌, ◌≤◌, ◌-◌}
+use Prim.Native.Nat.{◌-◌}
 use lib.Dec.{eqb}
-use lib.ListN.{length, get_or, drop}
-use Rattle.marks.specs.Keys.{count_of}
+use lib.ListN.{get_or}
 use Rattle.marks.proofs.KeyLaws.{count_turn, count_end, one_low}
 use Rattle.marks.proofs.count_equal.Goals as goal
 

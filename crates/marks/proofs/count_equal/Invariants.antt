@@ -1,10 +1,7 @@
-use native.Mathlib.Omega.{arith}
 use mathlib.Core.Path.{◌≡◌}
 use Prim.Native.Nat.{◌+◌, ◌≤◌, ◌-◌}
-use lib.Dec.{eqb}
-use lib.ListN.{length, get_or, drop}
+use lib.ListN.{length, drop}
 use Rattle.marks.specs.Keys.{count_of}
-use Rattle.marks.proofs.KeyLaws.{count_turn, count_end, one_low}
 use Rattle.marks.proofs.count_equal.Given as goal
 
 abbrev pub invariant-loop-j : goal.invariant-loop-j

@@ -1,9 +1,9 @@
 use native.Mathlib.Omega.{arith}
-use mathlib.Core.Path.{◌≡◌, sym, ◌∙◌}
-use Prim.Native.Nat.{◌+◌, ◌%◌, ◌≤◌, ◌-◌}
-use lib.ListN.{length, get_or, length-set}
+use mathlib.Core.Path.{sym, ◌∙◌}
+use Prim.Native.Nat.{◌%◌, ◌-◌}
+use lib.ListN.{get_or, length-set}
 use lib.Seq.{length-take-le}
-use Rattle.marks.proofs.KeyLaws.{Apart, apart_none, apart_all, keys_hit, keys_turn}
+use Rattle.marks.proofs.KeyLaws.{apart_none, apart_all, keys_hit, keys_turn}
 use Rattle.marks.proofs.repeats_in.Goals as goal
 
 pub loop-i-init : goal.loop-i-init

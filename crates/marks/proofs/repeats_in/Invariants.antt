@@ -1,9 +1,7 @@
-use native.Mathlib.Omega.{arith}
-use mathlib.Core.Path.{◌≡◌, sym, ◌∙◌}
-use Prim.Native.Nat.{◌+◌, ◌%◌, ◌≤◌, ◌-◌}
-use lib.ListN.{length, get_or, length-set}
-use lib.Seq.{length-take-le}
-use Rattle.marks.proofs.KeyLaws.{Apart, apart_none, apart_all, keys_hit, keys_turn}
+use mathlib.Core.Path.{◌≡◌}
+use Prim.Native.Nat.{◌≤◌, ◌-◌}
+use lib.ListN.{length}
+use Rattle.marks.proofs.KeyLaws.{Apart}
 use Rattle.marks.proofs.repeats_in.Given as goal
 
 abbrev pub invariant-loop-i : goal.invariant-loop-i

@@ -1,9 +1,9 @@
 use native.Mathlib.Omega.{arith}
-use mathlib.Core.Path.{◌≡◌, refl}
-use Prim.Native.Nat.{◌-◌, ◌≤◌}
-use lib.ListN.{length, length-set}
+use mathlib.Core.Path.{refl}
+use Prim.Native.Nat.{◌-◌}
+use lib.ListN.{length-set}
 use Rattle.cursor.specs.Checking.{position_of}
-use Rattle.cursor.proofs.TableLaws.{placed_got, placed_fault, Filling, fill_none, fill_turn, fill_stop, fill_done}
+use Rattle.cursor.proofs.TableLaws.{placed_got, placed_fault, fill_none, fill_turn, fill_stop, fill_done}
 use Rattle.lexical.specs.Names.{table_of}
 use Rattle.format.specs.Decoding.{table_name}
 use Rattle.names.specs.Digests.{digest_of}

@@ -1,13 +1,11 @@
-use native.Mathlib.Omega.{arith}
-use mathlib.Core.Path.{◌≡◌, refl}
+use mathlib.Core.Path.{◌≡◌}
 use Prim.Native.Nat.{◌-◌, ◌≤◌}
-use lib.ListN.{length, length-set}
+use lib.ListN.{length}
 use Rattle.cursor.specs.Checking.{position_of}
-use Rattle.cursor.proofs.TableLaws.{placed_got, placed_fault, Filling, fill_none, fill_turn, fill_stop, fill_done}
+use Rattle.cursor.proofs.TableLaws.{Filling}
 use Rattle.lexical.specs.Names.{table_of}
 use Rattle.format.specs.Decoding.{table_name}
 use Rattle.names.specs.Digests.{digest_of}
-use Rattle.names.proofs.DigestLaws.{digested, undigested, digest_got, digest_fault}
 use Rattle.names.proofs.check_names.Given as goal
 
 abbrev pub invariant-loop-i : goal.invariant-loop-i

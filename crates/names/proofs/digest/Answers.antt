@@ -1,8 +1,6 @@
 use native.Mathlib.Omega.{arith}
-use mathlib.Core.Path.{◌≡◌, refl, sym, ◌∙◌}
-use Prim.Native.Nat.{◌+◌, ◌*◌, ◌^◌, ◌≤◌, ◌-◌}
-use lib.ListN.{length, drop}
-use Rattle.names.specs.Digests.{digest, window_from}
+use mathlib.Core.Path.{refl, sym, ◌∙◌}
+use Prim.Native.Nat.{◌-◌}
 use Rattle.names.proofs.DigestLaws.{short_more, short_fits, short_digest, short_turn, short_end}
 use Rattle.names.proofs.digest.Goals as goal
 

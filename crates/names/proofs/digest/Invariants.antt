@@ -1,9 +1,7 @@
-use native.Mathlib.Omega.{arith}
-use mathlib.Core.Path.{◌≡◌, refl, sym, ◌∙◌}
+use mathlib.Core.Path.{◌≡◌}
 use Prim.Native.Nat.{◌+◌, ◌*◌, ◌^◌, ◌≤◌, ◌-◌}
 use lib.ListN.{length, drop}
 use Rattle.names.specs.Digests.{digest, window_from}
-use Rattle.names.proofs.DigestLaws.{short_more, short_fits, short_digest, short_turn, short_end}
 use Rattle.names.proofs.digest.Given as goal
 
 abbrev pub invariant-loop-i : goal.invariant-loop-i

@@ -1,14 +1,9 @@
-use native.Mathlib.Omega.{arith}
-use mathlib.Core.Path.{◌≡◌, ◌∙◌}
+use mathlib.Core.Path.{◌≡◌}
 use Prim.Native.Nat.{◌/◌, ◌%◌, ◌^◌, ◌<◌, ◌≤◌, ◌-◌}
 use Rattle.text.specs.Text.{chars_at}
-use Rattle.cursor.proofs.BitLaws.{bits_short, bits_lt}
 use Rattle.words.specs.Walking.{walk, Fits, start}
 use Rattle.words.specs.Words.{words_in}
-use Rattle.words.proofs.WalkLaws.{fits_walk}
 use Rattle.names.specs.Digests.{digest, digest_from}
-use Rattle.names.proofs.DigestLaws.{digest_start, digest_turn, digest_end}
-use Rattle.names.proofs.JudgeLaws.{state_start, state_turn, state_end, judged_good, judged_bad}
 use Rattle.names.proofs.judge_name.Given as goal
 
 abbrev pub invariant-loop-next : goal.invariant-loop-next

@@ -2,7 +2,7 @@ use native.Mathlib.Omega.{arith}
 use mathlib.Core.Path.{sym, ap}
 use lib.ListN.{length}
 use Rattle.lexical.proofs.ByteLaws.{same_refl}
-use Rattle.names.proofs.NameLaws.{digests_length, digest_there, differ}
+use Rattle.names.proofs.NameLaws.{digests_length, differ}
 use borrow.Author.Rules.{rules}
 use Rattle.names.proofs.same_name.Goals as goal
 

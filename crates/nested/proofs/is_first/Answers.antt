@@ -1,11 +1,5 @@
 use native.Mathlib.Omega.{arith}
-use mathlib.Core.Path.{◌≡◌}
-use mathlib.Core.Bool.{false}
-use Prim.Native.Nat.{◌≤◌, ◌-◌}
-use lib.ListN.{take}
-use Rattle.rules.specs.Rules.{any}
-use Rattle.view.specs.Values.{items_at, item_no}
-use Rattle.nested.specs.Groups.{belongs}
+use Prim.Native.Nat.{◌-◌}
 use Rattle.nested.proofs.ViewLaws.{first_begin, first_turn, first_found, first_end}
 use Rattle.nested.proofs.is_first.Goals as goal
 

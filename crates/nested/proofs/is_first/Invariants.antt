@@ -1,4 +1,3 @@
-use native.Mathlib.Omega.{arith}
 use mathlib.Core.Path.{◌≡◌}
 use mathlib.Core.Bool.{false}
 use Prim.Native.Nat.{◌≤◌, ◌-◌}
@@ -6,7 +5,6 @@ use lib.ListN.{take}
 use Rattle.rules.specs.Rules.{any}
 use Rattle.view.specs.Values.{items_at, item_no}
 use Rattle.nested.specs.Groups.{belongs}
-use Rattle.nested.proofs.ViewLaws.{first_begin, first_turn, first_found, first_end}
 use Rattle.nested.proofs.is_first.Given as goal
 
 abbrev pub invariant-loop-k : goal.invariant-loop-k

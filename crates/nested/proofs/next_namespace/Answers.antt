@@ -1,9 +1,6 @@
 use native.Mathlib.Omega.{arith}
-use mathlib.Core.Path.{◌≡◌, refl}
-use Prim.Native.Nat.{◌≤◌, ◌-◌}
-use lib.ListN.{length}
-use Rattle.view.specs.Values.{items_at, item_no}
-use Rattle.nested.specs.Groups.{names_before}
+use mathlib.Core.Path.{refl}
+use Prim.Native.Nat.{◌-◌}
 use Rattle.nested.proofs.ViewLaws.{next_turn, next_found, next_end_lem}
 use Rattle.nested.proofs.next_namespace.Goals as goal
 

@@ -1,10 +1,8 @@
-use native.Mathlib.Omega.{arith}
-use mathlib.Core.Path.{◌≡◌, refl}
+use mathlib.Core.Path.{◌≡◌}
 use Prim.Native.Nat.{◌≤◌, ◌-◌}
 use lib.ListN.{length}
 use Rattle.view.specs.Values.{items_at, item_no}
 use Rattle.nested.specs.Groups.{names_before}
-use Rattle.nested.proofs.ViewLaws.{next_turn, next_found, next_end_lem}
 use Rattle.nested.proofs.next_namespace.Given as goal
 
 abbrev pub invariant-loop-i : goal.invariant-loop-i

@@ -1,10 +1,6 @@
 use native.Mathlib.Omega.{arith}
-use mathlib.Core.Path.{◌≡◌}
-use Prim.Native.Nat.{◌≤◌, ◌-◌}
-use lib.ListN.{drop}
+use Prim.Native.Nat.{◌-◌}
 use Rattle.lexical.proofs.BoolLaws.{not-true, not-false}
-use Rattle.view.specs.Values.{item_no}
-use Rattle.nested.specs.Groups.{shared}
 use Rattle.nested.proofs.ViewLaws.{first_short, second_short, spaces_begin, spaces_turn, spaces_differ, spaces_end}
 use mathlib.Core.Path.{ap}
 use mathlib.Core.Bool.{not}

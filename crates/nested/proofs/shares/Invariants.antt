@@ -1,13 +1,8 @@
-use native.Mathlib.Omega.{arith}
 use mathlib.Core.Path.{◌≡◌}
 use Prim.Native.Nat.{◌≤◌, ◌-◌}
 use lib.ListN.{drop}
-use Rattle.lexical.proofs.BoolLaws.{not-true, not-false}
 use Rattle.view.specs.Values.{item_no}
 use Rattle.nested.specs.Groups.{shared}
-use Rattle.nested.proofs.ViewLaws.{first_short, second_short, spaces_begin, spaces_turn, spaces_differ, spaces_end}
-use mathlib.Core.Path.{ap}
-use mathlib.Core.Bool.{not}
 use Rattle.nested.proofs.shares.Given as goal
 
 abbrev pub invariant-loop-d : goal.invariant-loop-d

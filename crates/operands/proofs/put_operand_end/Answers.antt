@@ -1,4 +1,3 @@
-use Rattle.std.proofs.Common.{rules}
 use Rattle.operands.proofs.OperandLaws.{end_by_owner, end_of_others}
 use Rattle.operands.proofs.put_operand_end.Goals as goal
 

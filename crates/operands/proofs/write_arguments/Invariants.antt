@@ -1,10 +1,7 @@
-use Rattle.std.proofs.Common.{◌-◌, ◌≤◌, arith, rules}
+use Rattle.std.proofs.Common.{◌-◌, ◌≤◌}
 use Rattle.bridge.specs.Write.{operand}
 use Rattle.sink.specs.Sink.{sink}
-use Rattle.sink.proofs.SinkLaws.{wrote_length}
-use Rattle.shape.proofs.CommaLaws.{Listed, listed_none}
-use Rattle.shape.proofs.ArgumentLaws.{listed_argument, listed_arguments}
-use Rattle.summary.proofs.LengthLaws.{kept, list_counted}
+use Rattle.shape.proofs.CommaLaws.{Listed}
 use Rattle.tables.specs.Tables.{items_of, function_of}
 use Rattle.operands.proofs.write_arguments.Given as goal
 

@@ -1,5 +1,4 @@
-use Rattle.std.proofs.Common.{arith, rules}
-use Rattle.sink.proofs.SinkLaws.{◌▷◌, wrote_length}
+use Rattle.sink.proofs.SinkLaws.{◌▷◌}
 use Rattle.shape.proofs.TypeLaws.{here_yields}
 use Rattle.shape.proofs.ArgumentLaws.{argument_at_lem}
 use Rattle.summary.proofs.HeldLaws.{held_is, local_none, local_written}

@@ -1,12 +1,8 @@
-use Rattle.std.proofs.Common.{◌-◌, ◌≤◌, arith, rules}
-use Rattle.bridge.specs.Write.{held_local}
-use Rattle.sink.specs.Sink.{sink}
-use Rattle.sink.proofs.SinkLaws.{wrote_length}
-use Rattle.shape.proofs.CommaLaws.{Gathered, gathered_none}
+use Rattle.std.proofs.Common.{◌-◌, arith}
+use Rattle.shape.proofs.CommaLaws.{gathered_none}
 use Rattle.count_type.proofs.CountLaws.{wrote_counted}
 use Rattle.shape.proofs.ArgumentLaws.{gathered_argument, gathered_arguments}
 use Rattle.summary.proofs.LengthLaws.{kept}
-use Rattle.tables.specs.Tables.{items_of, function_of}
 use Rattle.operands.proofs.write_held_locals.Goals as goal
 
 pub kept_length-n-requires : goal.kept_length-n-requires

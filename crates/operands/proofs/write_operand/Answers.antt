@@ -1,5 +1,3 @@
-use Rattle.std.proofs.Common.{arith, rules}
-use Rattle.sink.proofs.SinkLaws.{wrote_length}
 use Rattle.shape.proofs.ArgumentLaws.{argument_at_lem}
 use Rattle.summary.proofs.HeldLaws.{held_is, operand_written}
 use Rattle.operands.proofs.write_operand.Goals as goal

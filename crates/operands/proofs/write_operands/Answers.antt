@@ -1,5 +1,5 @@
-use Rattle.std.proofs.Common.{refl, rules}
-use Rattle.sink.proofs.SinkLaws.{◌▷◌, wrote_nil, wrote_length, first_text, second_text}
+use Rattle.std.proofs.Common.{refl}
+use Rattle.sink.proofs.SinkLaws.{◌▷◌, wrote_nil, first_text, second_text}
 use Rattle.operands.proofs.OperandLaws.{operands_written}
 use Rattle.operands.proofs.write_operands.Goals as goal
 

@@ -1,5 +1,4 @@
-use mathlib.Core.Path.{sym, ◌∙◌}
-use native.Mathlib.Omega.{arith}
+use mathlib.Core.Path.{sym}
 use lib.Seq.{length-take-le}
 use Rattle.holds.proofs.EdgeLaws.{items_passed}
 use Rattle.order.proofs.OrderLaws.{ordered, ordered_none}

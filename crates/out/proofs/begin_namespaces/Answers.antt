@@ -1,7 +1,6 @@
 use native.Mathlib.Omega.{arith}
 use Prim.Native.Nat.{◌-◌}
-use Rattle.out.specs.State.{namespace_at, content_of}
-use Rattle.out.proofs.StateLaws.{Beginning, beginning_none, beginning_known, beginning_listed, beginning_room, beginning_turn, beginning_done}
+use Rattle.out.proofs.StateLaws.{beginning_none, beginning_known, beginning_listed, beginning_room, beginning_turn, beginning_done}
 use Rattle.out.proofs.begin_namespaces.Goals as goal
 
 pub loop-d-init : goal.loop-d-init

@@ -1,6 +1,6 @@
 use native.Mathlib.Omega.{arith}
 use Rattle.out.specs.State.{content_of}
-use Rattle.out.proofs.StateLaws.{Ending, ending_none, ending_known, ending_listed, ending_room, ending_turn, ending_done}
+use Rattle.out.proofs.StateLaws.{ending_none, ending_known, ending_listed, ending_room, ending_turn, ending_done}
 use Rattle.out.proofs.end_namespaces.Goals as goal
 
 pub overflow_cast-at : goal.overflow_cast-at

@@ -1,6 +1,5 @@
-use native.Mathlib.Omega.{arith}
 use Rattle.out.specs.State.{content_of}
-use Rattle.out.proofs.StateLaws.{Ending, ending_none, ending_known, ending_listed, ending_room, ending_turn, ending_done}
+use Rattle.out.proofs.StateLaws.{Ending}
 use Rattle.out.proofs.end_namespaces.Given as goal
 
 abbrev pub invariant-loop-d : goal.invariant-loop-d

@@ -1,9 +1,7 @@
-use native.Mathlib.Omega.{arith}
 use Prim.Native.Nat.{◌-◌}
 use Rattle.tables.specs.Tables.{names_in}
 use Rattle.out.specs.State.{content_of}
-use Rattle.out.proofs.FlushLaws.{Turned, turned_none, turned_one, turned_all}
-use Rattle.out.proofs.PlaceLaws.{entry_read, entry_small}
+use Rattle.out.proofs.FlushLaws.{Turned}
 use Rattle.out.proofs.flush_all.Given as goal
 
 abbrev pub invariant-loop-i : goal.invariant-loop-i

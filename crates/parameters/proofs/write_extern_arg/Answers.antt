@@ -1,4 +1,3 @@
-use native.Mathlib.Omega.{arith}
 use Rattle.shape.proofs.TypeLaws.{here_yields}
 use Rattle.shape.proofs.ArgumentLaws.{argument_at_lem}
 use Rattle.shape.proofs.ExternLaws.{argument_written}

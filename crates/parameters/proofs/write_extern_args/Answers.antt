@@ -1,12 +1,8 @@
-use Prim.Native.Nat.{◌≤◌, ◌-◌}
+use Prim.Native.Nat.{◌-◌}
 use native.Mathlib.Omega.{arith}
-use Rattle.bridge.specs.Write.{extern_arg}
-use Rattle.sink.specs.Sink.{sink}
-use Rattle.sink.proofs.SinkLaws.{wrote_length}
-use Rattle.shape.proofs.CommaLaws.{Listed, listed_none}
+use Rattle.shape.proofs.CommaLaws.{listed_none}
 use Rattle.shape.proofs.ArgumentLaws.{listed_argument, listed_arguments}
 use Rattle.summary.proofs.LengthLaws.{kept, list_counted}
-use Rattle.tables.specs.Tables.{items_of, function_of}
 use Rattle.parameters.proofs.write_extern_args.Goals as goal
 
 pub kept_length-n-requires : goal.kept_length-n-requires

@@ -1,4 +1,3 @@
-use Rattle.sink.proofs.SinkLaws.{wrote_length}
 use Rattle.shape.proofs.FunctionLaws.{returned, indirect_returns}
 use Rattle.parameters.proofs.ParameterLaws.{slot_written, slot_left}
 use Rattle.parameters.proofs.write_slot.Goals as goal

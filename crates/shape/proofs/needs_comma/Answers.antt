@@ -1,4 +1,3 @@
-use mathlib.Core.Path.{refl}
 use Rattle.shape.proofs.needs_comma.Goals as goal
 
 pub returns-then-others : goal.returns-then-others

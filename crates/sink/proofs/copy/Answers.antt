@@ -1,6 +1,5 @@
 use native.Mathlib.Omega.{arith}
-use Prim.Native.Nat.{◌+◌, ◌≤◌, ◌-◌}
-use Rattle.sink.specs.Copying.{Copied}
+use Prim.Native.Nat.{◌-◌}
 use Rattle.sink.proofs.CopyLaws.{copied_none, copied_less, copied_all}
 use Rattle.sink.proofs.copy.Goals as goal
 

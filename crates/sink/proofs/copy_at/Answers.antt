@@ -1,7 +1,7 @@
 use native.Mathlib.Omega.{arith}
-use Prim.Native.Nat.{◌≤◌, ◌-◌}
+use Prim.Native.Nat.{◌-◌}
 use mathlib.Core.Path.{◌≡◌, refl}
-use Rattle.sink.proofs.StoreLaws.{Stored, stored_none, stored_length, stored_next}
+use Rattle.sink.proofs.StoreLaws.{stored_none, stored_length, stored_next}
 use borrow.Author.Rules.{rules}
 use Rattle.sink.proofs.copy_at.Goals as goal
 

@@ -1,8 +1,5 @@
-use native.Mathlib.Omega.{arith}
 use Prim.Native.Nat.{◌≤◌, ◌-◌}
-use mathlib.Core.Path.{◌≡◌, refl}
-use Rattle.sink.proofs.StoreLaws.{Stored, stored_none, stored_length, stored_next}
-use borrow.Author.Rules.{rules}
+use Rattle.sink.proofs.StoreLaws.{Stored}
 use Rattle.sink.proofs.copy_at.Given as goal
 
 abbrev pub invariant-loop-i : goal.invariant-loop-i

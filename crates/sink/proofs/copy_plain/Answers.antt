@@ -1,7 +1,6 @@
 use native.Mathlib.Omega.{arith}
 use mathlib.Core.Path.{refl}
-use Prim.Native.Nat.{◌≤◌, ◌-◌}
-use Rattle.sink.specs.Copying.{Copied}
+use Prim.Native.Nat.{◌-◌}
 use Rattle.sink.proofs.CopyLaws.{copied_none, copied_next, copied_all}
 use Rattle.sink.proofs.copy_plain.Goals as goal
 

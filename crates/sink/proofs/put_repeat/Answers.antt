@@ -1,7 +1,7 @@
 use native.Mathlib.Omega.{arith}
-use Prim.Native.Nat.{◌≤◌, ◌-◌}
-use lib.ListN.{replicate, length-replicate}
-use Rattle.sink.proofs.StoreLaws.{Stored, stored_none, stored_length, repeated_next, wrote_repeated, wrote_none}
+use Prim.Native.Nat.{◌-◌}
+use lib.ListN.{length-replicate}
+use Rattle.sink.proofs.StoreLaws.{stored_none, stored_length, repeated_next, wrote_repeated, wrote_none}
 use Rattle.sink.proofs.StoreLaws.{room, no_room}
 use borrow.Author.Rules.{rules}
 use Rattle.sink.proofs.put_repeat.Goals as goal

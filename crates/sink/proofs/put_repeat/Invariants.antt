@@ -1,9 +1,6 @@
-use native.Mathlib.Omega.{arith}
 use Prim.Native.Nat.{◌≤◌, ◌-◌}
-use lib.ListN.{replicate, length-replicate}
-use Rattle.sink.proofs.StoreLaws.{Stored, stored_none, stored_length, repeated_next, wrote_repeated, wrote_none}
-use Rattle.sink.proofs.StoreLaws.{room, no_room}
-use borrow.Author.Rules.{rules}
+use lib.ListN.{replicate}
+use Rattle.sink.proofs.StoreLaws.{Stored}
 use Rattle.sink.proofs.put_repeat.Given as goal
 
 abbrev pub invariant-loop-i : goal.invariant-loop-i

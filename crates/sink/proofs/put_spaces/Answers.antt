@@ -1,4 +1,3 @@
-use Rattle.sink.proofs.SinkLaws.{wrote_length}
 use Rattle.sink.proofs.put_spaces.Goals as goal
 
 pub returns : goal.returns

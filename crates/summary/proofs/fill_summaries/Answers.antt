@@ -1,6 +1,5 @@
-use Rattle.std.proofs.Common.{◌≡◌, ◌-◌, ◌≤◌, length, refl, arith, rules}
+use Rattle.std.proofs.Common.{◌-◌, refl, arith}
 use Rattle.tables.proofs.TableLaws.{items_count_lem}
-use Rattle.summary.specs.Summaries.{Keeping}
 use Rattle.summary.proofs.SummaryLaws.{keeping_begins, keeping_ends}
 use Rattle.summary.proofs.fill_summaries.Goals as goal
 

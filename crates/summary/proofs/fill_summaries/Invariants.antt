@@ -1,7 +1,5 @@
-use Rattle.std.proofs.Common.{◌≡◌, ◌-◌, ◌≤◌, length, refl, arith, rules}
-use Rattle.tables.proofs.TableLaws.{items_count_lem}
+use Rattle.std.proofs.Common.{◌≡◌, ◌-◌, ◌≤◌, length}
 use Rattle.summary.specs.Summaries.{Keeping}
-use Rattle.summary.proofs.SummaryLaws.{keeping_begins, keeping_ends}
 use Rattle.summary.proofs.fill_summaries.Given as goal
 
 abbrev pub invariant-loop-i : goal.invariant-loop-i

@@ -1,4 +1,4 @@
-use Rattle.std.proofs.Common.{arith, length-set, rules}
+use Rattle.std.proofs.Common.{arith, length-set}
 use Rattle.summary.proofs.SummaryLaws.{summary_filled, comment_behind}
 use Rattle.summary.proofs.fill_summary.Goals as goal
 

@@ -1,4 +1,4 @@
-use Rattle.std.proofs.Common.{◌∙◌, arith, length-drop, length-set, length-take, rules}
+use Rattle.std.proofs.Common.{arith, length-drop, length-take}
 use Rattle.summary.proofs.SummaryLaws.{both_long, keeping_turn}
 use Rattle.summary.proofs.keep.Goals as goal
 

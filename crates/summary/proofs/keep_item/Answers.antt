@@ -1,4 +1,4 @@
-use Rattle.std.proofs.Common.{arith, rules}
+use Rattle.std.proofs.Common.{arith}
 use Rattle.summary.proofs.SummaryLaws.{keeping_none}
 use Rattle.summary.proofs.keep_item.Goals as goal
 

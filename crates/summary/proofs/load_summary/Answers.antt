@@ -1,4 +1,4 @@
-use Rattle.std.proofs.Common.{sym, arith, length-take-le, rules}
+use Rattle.std.proofs.Common.{sym, arith, length-take-le}
 use Rattle.summary.proofs.SummaryLaws.{kept_room, front_long, loaded_long, summary_loaded, comment_loaded}
 use Rattle.summary.proofs.load_summary.Goals as goal
 

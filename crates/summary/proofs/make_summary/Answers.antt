@@ -1,4 +1,3 @@
-use Rattle.std.proofs.Common.{arith}
 use Rattle.summary.proofs.make_summary.Goals as goal
 
 pub fill_summary-requires : goal.fill_summary-requires

@@ -1,8 +1,5 @@
-use native.Mathlib.Omega.{arith}
-use mathlib.Core.Path.{refl}
 use Prim.Native.Nat.{◌≤◌, ◌-◌}
 use Rattle.sink.specs.Copying.{Copied}
-use Rattle.sink.proofs.CopyLaws.{copied_none, copied_next, copied_all}
 use Rattle.tables.proofs.copy_words.Given as goal
 
 abbrev pub invariant-loop-i : goal.invariant-loop-i

@@ -1,15 +1,8 @@
-use native.Mathlib.Omega.{arith}
-use mathlib.Core.Path.{◌≡◌, refl, sym, ap, ◌∙◌}
+use mathlib.Core.Path.{◌≡◌}
 use Prim.Native.Nat.{◌≤◌, ◌-◌}
-use lib.ListN.{length, length-set}
-use lib.Seq.{length-take-le}
-use Rattle.cursor.proofs.WidthLaws.{width_le}
-use Rattle.format.specs.Bits.{width_of}
+use lib.ListN.{length}
 use Rattle.view.proofs.ArgumentLaws as laws
 use Rattle.tables.specs.Tables.{names_in, items_in}
-use Rattle.tables.proofs.TableLaws.{names_part, items_part, items_count_lem}
-use Rattle.tables.proofs.PoolLaws.{names_count_lem}
-use Rattle.tables.proofs.MetLaws.{known_type, known_next}
 use Rattle.tables.proofs.fill_arguments.Given as goal
 
 abbrev pub invariant-loop-i : goal.invariant-loop-i

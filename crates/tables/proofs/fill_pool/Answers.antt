@@ -1,8 +1,6 @@
 use native.Mathlib.Omega.{arith}
-use Prim.Native.Nat.{◌≤◌, ◌-◌}
-use mathlib.Core.Path.{◌≡◌, refl, ◌∙◌, sym}
-use lib.ListN.{length}
-use Rattle.tables.specs.Tables.{Filled}
+use Prim.Native.Nat.{◌-◌}
+use mathlib.Core.Path.{refl, ◌∙◌}
 use Rattle.tables.proofs.PoolLaws.{filled_none, name_left, place_inside, turn_long, filled_turn}
 use borrow.Author.Rules.{rules}
 use Rattle.tables.proofs.fill_pool.Goals as goal

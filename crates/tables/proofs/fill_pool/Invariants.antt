@@ -1,10 +1,7 @@
-use native.Mathlib.Omega.{arith}
 use Prim.Native.Nat.{◌≤◌, ◌-◌}
-use mathlib.Core.Path.{◌≡◌, refl, ◌∙◌, sym}
+use mathlib.Core.Path.{◌≡◌}
 use lib.ListN.{length}
 use Rattle.tables.specs.Tables.{Filled}
-use Rattle.tables.proofs.PoolLaws.{filled_none, name_left, place_inside, turn_long, filled_turn}
-use borrow.Author.Rules.{rules}
 use Rattle.tables.proofs.fill_pool.Given as goal
 
 abbrev pub invariant-loop-i : goal.invariant-loop-i

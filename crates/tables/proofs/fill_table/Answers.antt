@@ -1,8 +1,8 @@
 use native.Mathlib.Omega.{arith}
-use mathlib.Core.Path.{sym, ◌∙◌}
+use mathlib.Core.Path.{sym}
 use lib.ListN.{length-set}
 use lib.Seq.{length-take-le}
-use Rattle.tables.proofs.FillLaws.{front_long, back_room, both_long, listed, words_stay}
+use Rattle.tables.proofs.FillLaws.{back_room, both_long, listed, words_stay}
 use Rattle.tables.proofs.fill_table.Goals as goal
 
 pub slice_bounds-copy_words-end-2 : goal.slice_bounds-copy_words-end-2

@@ -1,9 +1,7 @@
 use native.Mathlib.Omega.{arith}
-use mathlib.Core.Path.{◌≡◌, refl, sym, ◌∙◌}
-use Prim.Native.Nat.{◌≤◌, ◌-◌}
-use lib.ListN.{length, drop}
-use Rattle.rules.specs.Rules.{any, reserved_namespace}
-use Rattle.view.specs.Values.{items_at}
+use mathlib.Core.Path.{refl, sym, ◌∙◌}
+use Prim.Native.Nat.{◌-◌}
+use Rattle.rules.specs.Rules.{reserved_namespace}
 use Rattle.clash.proofs.ListLaws.{items_turn, items_hit, items_end}
 use Rattle.taken.proofs.any_reserved.Goals as goal
 

@@ -1,10 +1,8 @@
-use native.Mathlib.Omega.{arith}
-use mathlib.Core.Path.{◌≡◌, refl, sym, ◌∙◌}
+use mathlib.Core.Path.{◌≡◌}
 use Prim.Native.Nat.{◌≤◌, ◌-◌}
 use lib.ListN.{length, drop}
 use Rattle.rules.specs.Rules.{any, reserved_namespace}
 use Rattle.view.specs.Values.{items_at}
-use Rattle.clash.proofs.ListLaws.{items_turn, items_hit, items_end}
 use Rattle.taken.proofs.any_reserved.Given as goal
 
 abbrev pub invariant-loop-i : goal.invariant-loop-i

@@ -1,8 +1,7 @@
 use native.Mathlib.Omega.{arith}
-use mathlib.Core.Path.{◌≡◌, refl, ◌∙◌}
-use Prim.Native.Nat.{◌*◌, ◌-◌, ◌≤◌}
-use lib.ListN.{length, length-set}
-use Rattle.text.specs.Text.{Holds}
+use mathlib.Core.Path.{refl, ◌∙◌}
+use Prim.Native.Nat.{◌*◌, ◌-◌}
+use lib.ListN.{length-set}
 use Rattle.text.proofs.CharLaws.{char_in, hold_none, hold_next, hold_less}
 use Rattle.text.proofs.put_few.Goals as goal
 

@@ -1,11 +1,9 @@
 -- `visit` and `visit_held` meet their contracts. The number that falls: the levels, and a bit for which of the two runs.
 use native.Mathlib.Omega.{arith}
 use mathlib.Core.Path.{◌≡◌, refl}
-use Prim.Native.Nat.{ℕ, ◌+◌, ◌-◌, ◌*◌, ◌<◌, ◌≤◌}
-use lib.ListN.{length, get_or, take, drop}
-use Rattle.toposort.specs.Sort.{visit_all, visit as visit·spec}
-use Rattle.toposort.specs.Adjacency.{graph_of}
-use Rattle.toposort.proofs.TableLaws.{visited_as, all_as, no_mark, room_marked, place_free, Going, going_as, going_next, all_ring, all_done}
+use Prim.Native.Nat.{◌-◌}
+use lib.ListN.{get_or}
+use Rattle.toposort.proofs.TableLaws.{visited_as, all_as, no_mark, room_marked, place_free, going_as, going_next, all_ring, all_done}
 use Rattle.toposort.proofs.TableLaws.{visited_already, visited_ring, visited_deep, visited_below, visited_done}
 use Rattle.toposort.proofs.TableLaws.{part_next, part_end, table_part, table_inside}
 use Rattle.toposort.proofs.+visit_visit_held.Goals as goal

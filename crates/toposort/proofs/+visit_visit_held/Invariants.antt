@@ -1,12 +1,8 @@
-use native.Mathlib.Omega.{arith}
-use mathlib.Core.Path.{◌≡◌, refl}
-use Prim.Native.Nat.{ℕ, ◌+◌, ◌-◌, ◌*◌, ◌<◌, ◌≤◌}
-use lib.ListN.{length, get_or, take, drop}
+use Prim.Native.Nat.{◌+◌, ◌-◌, ◌*◌, ◌≤◌}
+use lib.ListN.{length, take, drop}
 use Rattle.toposort.specs.Sort.{visit_all, visit as visit·spec}
 use Rattle.toposort.specs.Adjacency.{graph_of}
-use Rattle.toposort.proofs.TableLaws.{visited_as, all_as, no_mark, room_marked, place_free, Going, going_as, going_next, all_ring, all_done}
-use Rattle.toposort.proofs.TableLaws.{visited_already, visited_ring, visited_deep, visited_below, visited_done}
-use Rattle.toposort.proofs.TableLaws.{part_next, part_end, table_part, table_inside}
+use Rattle.toposort.proofs.TableLaws.{Going}
 use Rattle.toposort.proofs.+visit_visit_held.Given as goal
 
 abbrev pub decreases-visit : goal.decreases-visit

@@ -1,9 +1,8 @@
 -- `sort` meets its contract. The invariant: what is left of js goes on to the whole sort.
 use Prim.Native.Nat.{◌-◌}
-use lib.ListN.{length, drop, drop_of_length-le}
+use lib.ListN.{drop_of_length-le}
 use Rattle.toposort.specs.Sort.{sort}
-use Rattle.toposort.specs.Adjacency.{item_numbers, graph_of}
-use Rattle.toposort.proofs.TableLaws.{visited_as, Going, going_as, going_next, sorted_ring, sorted_done, sort_start, list_next}
+use Rattle.toposort.proofs.TableLaws.{visited_as, going_as, going_next, sorted_ring, sorted_done, sort_start, list_next}
 use Rattle.toposort.proofs.sort.Goals as goal
 
 pub loop-k-init : goal.loop-k-init

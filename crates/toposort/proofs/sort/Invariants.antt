@@ -1,8 +1,8 @@
 use Prim.Native.Nat.{◌-◌}
-use lib.ListN.{length, drop, drop_of_length-le}
+use lib.ListN.{length, drop}
 use Rattle.toposort.specs.Sort.{sort}
 use Rattle.toposort.specs.Adjacency.{item_numbers, graph_of}
-use Rattle.toposort.proofs.TableLaws.{visited_as, Going, going_as, going_next, sorted_ring, sorted_done, sort_start, list_next}
+use Rattle.toposort.proofs.TableLaws.{Going}
 use Rattle.toposort.proofs.sort.Given as goal
 
 abbrev pub invariant-loop-k : goal.invariant-loop-k

@@ -1,16 +1,13 @@
-use Prim.Native.Nat.{ℕ, ◌+◌, ◌-◌, ◌*◌, ◌<◌, ◌≤◌}
+use Prim.Native.Nat.{◌+◌, ◌-◌}
 use native.Mathlib.Omega.{arith}
-use mathlib.Core.Path.{◌≡◌, refl, ◌∙◌}
-use lib.ListN.{length}
-use borrow.Author.Tests.{eq-eqb, ne_eqb}
+use mathlib.Core.Path.{refl, ◌∙◌}
 use Rattle.format.specs.Decoding.{type_at}
-use Rattle.format.specs.Limits.{most_bits}
 use Rattle.cursor.proofs.FieldLaws.{bit_checks}
 use Rattle.cursor.proofs.WidthLaws.{width_le}
-use Rattle.cursor.proofs.CheckLaws.{stepped, stopped}
+use Rattle.cursor.proofs.CheckLaws.{stepped}
 use Rattle.cursor.proofs.CodeLaws.{at_in, fault_in, cut_in, bad_in, bits_cut, bits_whole}
 use Rattle.marks.specs.Marking.{mark_ty}
-use Rattle.marks.proofs.GatherLaws.{moved, halted, stays, stays_checks, refused, folded, fold_none, fold_turn, fold_stop, fold_done}
+use Rattle.marks.proofs.GatherLaws.{moved, halted, stays, stays_checks, refused, fold_none, fold_turn, fold_stop, fold_done}
 use Rattle.types.proofs.TypeLaws.{type_cut, type_deep}
 use Rattle.types.proofs.MarkLaws.{atom_marks, named_marks, template_marks, pointer_marks, str_marks}
 use Rattle.types.proofs.MarkLaws.{array_marks, result_marks, result_none, result_cut}

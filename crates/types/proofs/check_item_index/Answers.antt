@@ -1,4 +1,3 @@
-use native.Mathlib.Omega.{arith}
 use Rattle.cursor.proofs.CheckLaws.{stopped}
 use Rattle.cursor.proofs.WidthLaws.{width_le}
 use Rattle.marks.proofs.GatherLaws.{refused}

@@ -1,4 +1,3 @@
-use mathlib.Core.Path.{◌∙◌, sym, ap}
 use Rattle.cursor.proofs.CodeLaws.{bad_in, deep_in}
 use Rattle.types.proofs.too_deep.Goals as goal
 

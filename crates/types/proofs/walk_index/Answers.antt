@@ -1,4 +1,3 @@
-use mathlib.Core.Path.{refl}
 use native.Mathlib.Omega.{arith}
 use Rattle.cursor.proofs.CodeLaws.{bits_cut, bits_whole}
 use Rattle.cursor.proofs.WidthLaws.{width_le}

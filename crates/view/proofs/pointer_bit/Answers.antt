@@ -1,6 +1,4 @@
-use mathlib.Core.Path.{sym, ◌∙◌}
 use native.Mathlib.Omega.{arith}
-use lib.ListN.{length}
 use Rattle.lexical.proofs.BoolLaws.{known}
 use Rattle.view.proofs.TypeLaws.{bit_there, pointer_at_lem, pointer_none}
 use Rattle.view.proofs.pointer_bit.Goals as goal

@@ -1,13 +1,10 @@
-use native.Mathlib.Omega.{arith}
 use mathlib.Core.Path.{◌≡◌}
 use Prim.Native.Nat.{◌-◌, ◌*◌}
 use lib.ListN.{length}
 use Rattle.format.specs.Bits.{bits_at}
 use Rattle.format.specs.Decoding.{kind_of}
-use Rattle.cursor.proofs.WidthLaws.{width_le}
-use Rattle.types.proofs.KindLaws.{kind_room}
 use Rattle.view.specs.Views.{prefix_of}
-use Rattle.view.proofs.SkipLaws.{Ending, ending_whole, ending_inner, ending_atom, ending_name, ending_str}
+use Rattle.view.proofs.SkipLaws.{Ending}
 use Rattle.view.proofs.skip_type.Given as goal
 
 abbrev pub invariant-loop-p : goal.invariant-loop-p

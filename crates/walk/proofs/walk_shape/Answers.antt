@@ -1,10 +1,8 @@
 use native.Mathlib.Omega.{arith}
 use native.Mathlib.Nat.{mod-lt}
 use mathlib.Core.Path.{◌≡◌, refl, sym, ◌∙◌}
-use Prim.Native.Nat.{◌-◌, ◌≤◌, ◌%◌, ◌/◌, ◌^◌}
+use Prim.Native.Nat.{◌-◌}
 use lib.Pow.{pow_pos}
-use Rattle.lexical.specs.Bytes.{chars_in}
-use Rattle.words.specs.Walking.{walk_shape}
 use Rattle.walk.proofs.WindowLaws.{whole_rest, shifted, shifted_pos, shape_turn, shape_end}
 use Rattle.walk.specs.Windows.{settled}
 use mathlib.Core.Bool.{true}

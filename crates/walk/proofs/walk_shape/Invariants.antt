@@ -1,12 +1,7 @@
-use native.Mathlib.Omega.{arith}
-use native.Mathlib.Nat.{mod-lt}
-use mathlib.Core.Path.{◌≡◌, refl, sym, ◌∙◌}
-use borrow.Author.Tests.{not-false}
+use mathlib.Core.Path.{◌≡◌}
 use Prim.Native.Nat.{◌-◌, ◌≤◌, ◌%◌, ◌/◌, ◌^◌}
-use lib.Pow.{pow_pos}
 use Rattle.lexical.specs.Bytes.{chars_in}
 use Rattle.words.specs.Walking.{walk_shape}
-use Rattle.walk.proofs.WindowLaws.{whole_rest, shifted, shifted_pos, shape_turn, shape_end, settled_left}
 use Rattle.walk.proofs.walk_shape.Given as goal
 
 abbrev pub invariant-loop-low : goal.invariant-loop-low

@@ -1,14 +1,11 @@
-use native.Mathlib.Omega.{arith}
 use mathlib.Core.Path.{◌≡◌}
-use borrow.Author.Tests.{ltb-true, ltb-false}
 use Prim.Native.Nat.{◌≤◌, ◌%◌, ◌/◌, ◌^◌}
 use Rattle.lexical.specs.Bytes.{chars_in}
 use Rattle.words.specs.declared.Shape.TheVariants.{Empty}
 use Rattle.words.specs.Walking.{Fits}
 use Rattle.words.specs.Words.{words_in}
-use Rattle.words.proofs.TableLaws.{table_count, length_short}
 use Rattle.walk.specs.Windows.{walk_word}
-use Rattle.walk.proofs.WindowLaws.{Alike, word_begin, word_step, step_fits, word_over, word_done}
+use Rattle.walk.proofs.WindowLaws.{Alike}
 use Rattle.walk.proofs.walk_word.Given as goal
 
 abbrev pub invariant-loop-down : goal.invariant-loop-down

@@ -1,9 +1,7 @@
-use native.Mathlib.Omega.{arith}
-use mathlib.Core.Path.{◌≡◌, refl, sym, ◌∙◌}
+use mathlib.Core.Path.{◌≡◌}
 use Prim.Native.Nat.{◌-◌, ◌≤◌}
 use lib.ListN.{length, drop}
 use Rattle.lexical.specs.Bytes.{same}
-use Rattle.words.proofs.ByteLoops.{same_length_lem, same_turn, same_no, same_end}
 use Rattle.words.proofs.equal.Given as goal
 
 abbrev pub invariant-loop-i : goal.invariant-loop-i

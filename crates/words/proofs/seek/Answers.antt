@@ -1,6 +1,6 @@
 use native.Mathlib.Omega.{arith}
-use Prim.Native.Nat.{◌-◌, ◌≤◌}
-use Rattle.words.proofs.TableLaws.{Passed, Front, seek_begin, seek_found, seek_past, seek_next, seek_apart, seek_shares, seek_end}
+use Prim.Native.Nat.{◌-◌}
+use Rattle.words.proofs.TableLaws.{seek_begin, seek_found, seek_past, seek_next, seek_apart, seek_shares, seek_end}
 use Rattle.words.proofs.seek.Goals as goal
 
 pub loop-w-init : goal.loop-w-init

@@ -1,6 +1,5 @@
-use native.Mathlib.Omega.{arith}
 use Prim.Native.Nat.{◌-◌, ◌≤◌}
-use Rattle.words.proofs.TableLaws.{Passed, Front, seek_begin, seek_found, seek_past, seek_next, seek_apart, seek_shares, seek_end}
+use Rattle.words.proofs.TableLaws.{Passed, Front}
 use Rattle.words.proofs.seek.Given as goal
 
 abbrev pub invariant-loop-w : goal.invariant-loop-w

@@ -1,4 +1,3 @@
-use native.Mathlib.Omega.{arith}
 use Rattle.words.proofs.TableLaws.{shared_is}
 use Rattle.words.proofs.shared_by.Goals as goal
 

@@ -1,4 +1,3 @@
-use native.Mathlib.Omega.{arith}
 use Rattle.words.proofs.TableLaws.{length_at}
 use Rattle.words.proofs.word_length.Goals as goal
 

@@ -1,4 +1,3 @@
-use Rattle.std.proofs.Common.{rules}
 use Rattle.sink.proofs.SinkLaws.{wrote_as}
 use Rattle.write_atom.proofs.TextLaws.{begin_is}
 use Rattle.write_atom.proofs.put_pointer_begin.Goals as goal

@@ -1,4 +1,3 @@
-use Rattle.std.proofs.Common.{rules}
 use Rattle.write_atom.proofs.put_template.Goals as goal
 
 pub returns-in-RustBox : goal.returns-in-RustBox

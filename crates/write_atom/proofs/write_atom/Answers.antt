@@ -1,4 +1,3 @@
-use Rattle.std.proofs.Common.{rules}
 use Rattle.format.specs.Decoding.{atom_of}
 use Rattle.sink.proofs.SinkLaws.{wrote_as}
 use Rattle.write_atom.proofs.TextLaws.{atom_past, apart, apart_none}

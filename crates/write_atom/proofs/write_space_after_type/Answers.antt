@@ -1,4 +1,3 @@
-use Rattle.std.proofs.Common.{rules}
 use Rattle.write_atom.proofs.write_space_after_type.Goals as goal
 
 pub returns : goal.returns

@@ -1,4 +1,4 @@
-use Rattle.std.proofs.Common.{refl, arith, rules}
+use Rattle.std.proofs.Common.{refl, arith}
 use Rattle.write_chain.proofs.InnerLaws.{base_fits, code_fits}
 use Rattle.write_chain.proofs.code_of.Goals as goal
 

@@ -1,4 +1,4 @@
-use Rattle.std.proofs.Common.{refl, rules}
+use Rattle.std.proofs.Common.{refl}
 use Rattle.write_chain.proofs.end_length.Goals as goal
 
 pub returns-then-spaced : goal.returns-then-spaced

@@ -1,14 +1,8 @@
-use Rattle.std.proofs.Common.{◌≡◌, length, arith, rules}
-use Rattle.sink.specs.Sink.{sink}
-use Rattle.format.specs.Bits.{bits_at}
+use Rattle.std.proofs.Common.{arith}
 use Rattle.format.specs.Decoding.{kind_of}
-use Rattle.view.specs.Views.{prefix_of}
-use Rattle.write_type.specs.TypeAt.{ty_at}
-use Rattle.tables.specs.Tables.{items_in, items_of}
-use Rattle.write_chain.specs.Chains.{write_type_as, Entering}
 use Rattle.write_chain.proofs.InnerLaws.{end_few, pointer_prefix, reads_template, reads_pointer}
 use Rattle.write_chain.proofs.InnerLaws.{type_room, level_left, inner_room}
-use Rattle.write_chain.proofs.ChainLaws.{entering_whole, entering_turn, remains_length}
+use Rattle.write_chain.proofs.ChainLaws.{entering_whole, entering_turn}
 use Rattle.write_chain.proofs.enter.Goals as goal
 
 pub extract-k-requires : goal.extract-k-requires

@@ -1,7 +1,4 @@
-use Rattle.std.proofs.Common.{refl, arith, rules}
-use Rattle.sink.specs.Sink.{sink}
-use Rattle.sink.proofs.SinkLaws.{wrote_length}
-use Rattle.write_chain.specs.Chains.{ends_of, Remains}
+use Rattle.std.proofs.Common.{refl, arith}
 use Rattle.write_chain.proofs.ChainLaws.{remains_all, leaving_next, leaving_done}
 use Rattle.write_chain.proofs.leave.Goals as goal
 

@@ -1,8 +1,5 @@
-use Rattle.std.proofs.Common.{refl, arith, rules}
 use Rattle.sink.specs.Sink.{sink}
-use Rattle.sink.proofs.SinkLaws.{wrote_length}
 use Rattle.write_chain.specs.Chains.{ends_of, Remains}
-use Rattle.write_chain.proofs.ChainLaws.{remains_all, leaving_next, leaving_done}
 use Rattle.write_chain.proofs.leave.Given as goal
 
 abbrev pub invariant-loop-stack : goal.invariant-loop-stack

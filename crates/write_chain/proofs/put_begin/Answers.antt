@@ -1,4 +1,3 @@
-use Rattle.std.proofs.Common.{rules}
 use Rattle.sink.proofs.SinkLaws.{wrote_as, wrote_nil}
 use Rattle.format.specs.Decoding.{kind_of}
 use Rattle.view.proofs.SkipLaws.{prefix_none}

@@ -1,4 +1,3 @@
-use Rattle.std.proofs.Common.{rules}
 use Rattle.sink.proofs.SinkLaws.{wrote_as, wrote_nil}
 use Rattle.write_chain.specs.Chains.{end_of}
 use Rattle.write_chain.proofs.InnerLaws.{end_rest}

@@ -1,4 +1,3 @@
-use Rattle.std.proofs.Common.{rules}
 use Rattle.sink.proofs.SinkLaws.{◌▷◌}
 use Rattle.write_chain.proofs.write_chain.Goals as goal
 

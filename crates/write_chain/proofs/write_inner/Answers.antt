@@ -1,4 +1,4 @@
-use Rattle.std.proofs.Common.{arith, rules}
+use Rattle.std.proofs.Common.{arith}
 use Rattle.cursor.proofs.WidthLaws.{width_le}
 use Rattle.sink.proofs.SinkLaws.{wrote_as}
 use Rattle.tables.proofs.TableLaws.{width_is}

@@ -1,7 +1,5 @@
-use Rattle.std.proofs.Common.{ℕ, ◌+◌, ◌-◌, ◌*◌, ◌<◌, length, ⊎_elim, arith, rules}
+use Rattle.std.proofs.Common.{◌-◌, arith}
 use Rattle.cursor.proofs.WidthLaws.{width_le}
-use Rattle.sink.specs.Sink.{sink}
-use Rattle.sink.proofs.SinkLaws.{wrote_length}
 use Rattle.format.specs.Types.{none}
 use Rattle.format.specs.Decoding.{optional, type_at}
 use Rattle.bridge.specs.WriteType.{write_ret}
@@ -12,8 +10,8 @@ use Rattle.write_type.proofs.SpellLaws.{template_there, spells_template}
 use Rattle.write_type.proofs.SpellLaws.{array_there, spells_array, pointer_there, spells_pointer}
 use Rattle.write_type.proofs.SpellLaws.{gives_there, spells_gives, spells_void, spells_met}
 use Rattle.write_type.proofs.SpellLaws.{types_there, spells_fn}
-use Rattle.write_type.proofs.ListLaws.{Going, going_none, going_there, going_turn, going_done}
-use Rattle.tables.specs.Tables.{items_in, items_of}
+use Rattle.write_type.proofs.ListLaws.{going_none, going_there, going_turn, going_done}
+use Rattle.tables.specs.Tables.{items_of}
 use Rattle.tables.proofs.TableLaws.{width_is}
 use Rattle.write_type.proofs.+write_type_write_type_space.Goals as goal
 use Rattle.write_type.proofs.+write_type_write_type_space.Goals.{write_type-then-b-eq1, write_type-else-b-eq1}

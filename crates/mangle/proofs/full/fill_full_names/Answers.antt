@@ -1,8 +1,6 @@
 use native.Mathlib.Omega.{arith}
-use Prim.Native.Nat.{◌≤◌, ◌-◌}
-use mathlib.Core.Path.{◌≡◌, refl}
-use lib.ListN.{length}
-use Rattle.tables.specs.Tables.{Filled}
+use Prim.Native.Nat.{◌-◌}
+use mathlib.Core.Path.{refl}
 use Rattle.mangle.proofs.FullLaws.{filled_same, item_left, filled_next}
 use borrow.Author.Rules.{rules}
 use Rattle.mangle.proofs.full.fill_full_names.Goals as goal

@@ -1,10 +1,7 @@
-use native.Mathlib.Omega.{arith}
 use Prim.Native.Nat.{◌≤◌, ◌-◌}
-use mathlib.Core.Path.{◌≡◌, refl}
+use mathlib.Core.Path.{◌≡◌}
 use lib.ListN.{length}
 use Rattle.tables.specs.Tables.{Filled}
-use Rattle.mangle.proofs.FullLaws.{filled_same, item_left, filled_next}
-use borrow.Author.Rules.{rules}
 use Rattle.mangle.proofs.full.fill_full_names.Given as goal
 
 abbrev pub invariant-loop-i : goal.invariant-loop-i

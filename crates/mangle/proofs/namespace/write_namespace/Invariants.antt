@@ -1,11 +1,8 @@
-use native.Mathlib.Omega.{arith}
 use Prim.Native.Nat.{◌≤◌, ◌-◌}
 use lib.ListN.{take}
 use Rattle.syntax.specs.Items.{item_at}
 use Rattle.sink.specs.Sink.{sink, Wrote}
-use Rattle.sink.proofs.SinkLaws.{wrote_length}
 use Rattle.mangle.specs.Segments.{each_between}
-use Rattle.mangle.proofs.NameLaws.{spaces_none, spaces_turn, spaces_all}
 use Rattle.tables.specs.Tables.{items_of}
 use Rattle.mangle.proofs.namespace.write_namespace.Given as goal
 

@@ -1,4 +1,4 @@
-use Rattle.std.proofs.Common.{arith, rules}
+use Rattle.std.proofs.Common.{arith}
 use Rattle.summary.proofs.count.behind_local.Goals as goal
 
 pub returns-then-held : goal.returns-then-held

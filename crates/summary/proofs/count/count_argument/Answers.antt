@@ -1,4 +1,4 @@
-use Rattle.std.proofs.Common.{refl, arith, rules}
+use Rattle.std.proofs.Common.{refl}
 use Rattle.shape.proofs.TypeLaws.{here_yields}
 use Rattle.shape.proofs.ArgumentLaws.{argument_at_lem}
 use Rattle.count_type.proofs.CountLaws.{wrote_counted}

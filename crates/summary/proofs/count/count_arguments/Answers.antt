@@ -1,10 +1,6 @@
-use Rattle.std.proofs.Common.{◌-◌, ◌≤◌, false, [], ◌++◌, arith, rules}
-use Rattle.bridge.specs.WriteType.{write_type_space}
-use Rattle.bridge.specs.Write.{extern_arg, held_local, operand}
-use Rattle.sink.specs.Sink.{sink}
-use Rattle.shape.proofs.CommaLaws.{Listed, Gathered, listed_none, gathered_none}
+use Rattle.std.proofs.Common.{◌-◌, arith}
+use Rattle.shape.proofs.CommaLaws.{listed_none, gathered_none}
 use Rattle.shape.proofs.ArgumentLaws.{listed_argument, listed_arguments, gathered_argument, gathered_arguments}
-use Rattle.tables.specs.Tables.{items_of, function_of}
 use Rattle.summary.proofs.LengthLaws.{passed, placed, placed_behind, passed_none, passed_all}
 use Rattle.summary.proofs.count.count_arguments.Goals as goal
 

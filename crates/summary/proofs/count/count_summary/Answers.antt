@@ -1,4 +1,4 @@
-use Rattle.std.proofs.Common.{arith, length-set, rules}
+use Rattle.std.proofs.Common.{arith, length-set}
 use Rattle.summary.proofs.LengthLaws.{later, counted_word}
 use Rattle.summary.proofs.SummaryLaws.{summary_stored}
 use Rattle.summary.proofs.count.count_summary.Goals as goal

@@ -1,4 +1,4 @@
-use Rattle.std.proofs.Common.{arith, rules}
+use Rattle.std.proofs.Common.{arith}
 use Rattle.types.proofs.KindLaws.{kind_room}
 use Rattle.count_type.proofs.CountLaws.{wrote_counted}
 use Rattle.shape.proofs.ExternLaws.{arg_plain, arg_inner, arg_owner}

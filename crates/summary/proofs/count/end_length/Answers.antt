@@ -1,4 +1,4 @@
-use Rattle.std.proofs.Common.{refl, rules}
+use Rattle.std.proofs.Common.{refl}
 use Rattle.summary.proofs.HeldLaws.{end_by_owner, end_of_others}
 use Rattle.summary.proofs.count.end_length.Goals as goal
 

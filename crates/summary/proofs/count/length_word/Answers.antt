@@ -1,4 +1,4 @@
-use Rattle.std.proofs.Common.{arith, rules}
+use Rattle.std.proofs.Common.{arith}
 use Rattle.summary.proofs.LengthLaws.{word_none, word_some}
 use Rattle.summary.proofs.count.length_word.Goals as goal
 

@@ -1,4 +1,4 @@
-use Rattle.std.proofs.Common.{length, ap, arith, rules}
+use Rattle.std.proofs.Common.{ap, arith}
 use Rattle.sink.proofs.SinkLaws.{wrote_as, wrote_place}
 use Rattle.view.specs.Values.{name_at}
 use Rattle.tables.proofs.PoolLaws.{place_is}

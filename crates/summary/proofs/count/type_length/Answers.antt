@@ -1,4 +1,4 @@
-use Rattle.std.proofs.Common.{arith, rules}
+use Rattle.std.proofs.Common.{arith}
 use Rattle.write_type.proofs.TypeLaws.{outermost_yields}
 use Rattle.shape.proofs.TypeLaws.{type_at}
 use Rattle.count_type.proofs.CountLaws.{part_counts}
