@@ -4,7 +4,10 @@ use Rattle.sections.proofs.StateLaws.{representing_stood, stood_asked, stood_lis
 use Rattle.sections.proofs.write_layout.Goals as goal
 
 pub prepare-requires : goal.prepare-requires
-prepare-requires c = (c.requires.0, stood_listed (stood_asked (representing_stood c.requires.2) c.next_section.ensures))
+prepare-requires c =
+    (c.requires.0, stood_listed (stood_asked (representing_stood c.requires.2) c.next_section.ensures))
 
 pub returns : goal.returns
-returns c = runs_then (runs_asked c.next_section.ensures) (runs_written (some_layout_definition _ _ _) c.prepare.ensures (from_place c.prepare.new.c c.write_layout_definition-at.ensures) c.placed.ensures)
+returns c =
+    runs_then (runs_asked c.next_section.ensures) (runs_written (some_layout_definition _ _ _) c.prepare.ensures
+        (from_place c.prepare.new.c c.write_layout_definition-at.ensures) c.placed.ensures)

@@ -3,13 +3,17 @@ use Rattle.sections.proofs.StateLaws.{representing_after, representing_stood, st
 use Rattle.sections.proofs.write_opaque_type_layout.Goals as goal
 
 pub set_namespace-requires : goal.set_namespace-requires
-set_namespace-requires c = (c.requires.0.tabled, c.requires.1, stood_standing (representing_stood c.requires.3), c.requires.2)
+set_namespace-requires c =
+    (c.requires.0.tabled, c.requires.1, stood_standing (representing_stood c.requires.3), c.requires.2)
 
 pub write_layout-requires : goal.write_layout-requires
-write_layout-requires c = (c.requires.0, c.requires.2, representing_after c.requires.3 (runs_set c.set_namespace.ensures))
+write_layout-requires c =
+    (c.requires.0, c.requires.2, representing_after c.requires.3 (runs_set c.set_namespace.ensures))
 
 pub write_layout-requires-2 : goal.write_layout-requires-2
-write_layout-requires-2 c = (c.requires.0, c.requires.2, representing_after (representing_after c.requires.3 (runs_set c.set_namespace.ensures)) c.write_layout.ensures)
+write_layout-requires-2 c =
+    (c.requires.0, c.requires.2, representing_after (representing_after c.requires.3
+        (runs_set c.set_namespace.ensures)) c.write_layout.ensures)
 
 pub returns : goal.returns
 unfolding write_opaque_type_layout
