@@ -1,5 +1,6 @@
 // `write_rust_function_decl_impl` of bridge/write.rs, and the layout functions of an opaque type.
 #![tactic(auto)]
+
 ghost use Rattle.std.specs.Prelude.{◌≡◌};
 ghost use Rattle.syntax.specs.Items.{item_at};
 ghost use Rattle.bridge.specs.Write.{indirect_return, shape as shape_of, direct_return, extern_return};

@@ -1,5 +1,6 @@
 // The text into the lent buffer: once where it is short, else measured first; or 13.
 #![tactic(auto)]
+
 ghost use Rattle.std.specs.Prelude.{◌≡◌};
 ghost use Rattle.bridge.specs.Write.{text};
 ghost use Rattle.names.specs.Digests.{digests_at};

@@ -2,6 +2,7 @@
 // item. Every function is lent the sheet, the table and the pool, the digests of the names, and the buffer; a
 // function's writer also the summaries that are kept, and room for one.
 #![tactic(auto)]
+
 ghost use Rattle.std.specs.Prelude.{◌≡◌, false, ◌≤◌, length};
 ghost use Rattle.format.specs.declared.ItemKind.TheVariants.{RustFunction};
 ghost use Rattle.syntax.specs.Items.{item_at};

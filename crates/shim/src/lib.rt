@@ -1,5 +1,6 @@
 // Shims: the functions that C++ calls, each of which calls a Rust function.
 #![tactic(auto)]
+
 ghost use Rattle.std.specs.Prelude.{◌≡◌, [], not, ◌&&◌};
 ghost use Rattle.lexical.specs.Decimal.{pick_text};
 ghost use Rattle.syntax.specs.Items.{item_at};

@@ -1,6 +1,7 @@
 // The text of a sheet: the port of write.rs' two passes. Every function is lent the sheet, the table and the
 // pool, the digests of the names, room for the views of a function's arguments, and the buffer.
 #![tactic(auto)]
+
 ghost use Rattle.std.specs.Prelude.{◌≡◌, ◌≤◌, ◌<◌, length};
 ghost use Rattle.sink.specs.Sink.{sink, Wrote};
 ghost use Rattle.syntax.specs.Items.{item_at};

@@ -34,16 +34,20 @@ pub returns-then-next-gt-LAST : goal.returns-then-next-gt-LAST
 unfolding type
 returns-then-next-gt-LAST c =
     passes_stop _ _ _ _ c.width-w.ensures (omega (arith, c.end_of.ensures)) c.extract-name.ensures (omega arith)
-        c.walk_type-next.ensures c.if-next-gt-LAST.true
+    c.walk_type-next.ensures c.if-next-gt-LAST.true
 
 pub judge_argument-requires : goal.judge_argument-requires
 unfolding type
-judge_argument-requires c =
-    (c.requires.0, c.requires.1, omega arith, type_yields _ _ _ (yields (moved c.walk_type-next.ensures
-        (at_in (omega arith))).1))
+judge_argument-requires c = (
+  c.requires.0,
+  c.requires.1,
+  omega arith,
+  type_yields _ _ _ (yields (moved c.walk_type-next.ensures
+      (at_in (omega arith))).1),
+)
 
 pub returns : goal.returns
 unfolding type
 returns c =
     passes_done _ _ _ _ c.width-w.ensures (omega (arith, c.end_of.ensures)) c.extract-name.ensures (omega arith)
-        c.walk_type-next.ensures (omega arith) c.judge_argument.ensures
+    c.walk_type-next.ensures (omega arith) c.judge_argument.ensures

@@ -15,18 +15,28 @@ check_argument-a-requires c = (c.requires.0, c.requires.1, c.loop-i.invariant.1)
 pub returns-then-behind-gt-LAST : goal.returns-then-behind-gt-LAST
 returns-then-behind-gt-LAST c =
     noting_stop _ _ _ _ _ _ _ _ c.loop-i.invariant.5 c.loop-i-test.true c.check_argument-a.ensures
-        c.if-behind-gt-LAST.true
+    c.if-behind-gt-LAST.true
 
 pub bounds-digests-j : goal.bounds-digests-j
 bounds-digests-j c =
-    omega (arith, ap length c.requires.1, digests_length c.args.s.now c.args.names.now,
-        c.check_argument-a.ensures.there (omega arith))
+    omega (
+      arith,
+      ap length c.requires.1,
+      digests_length c.args.s.now c.args.names.now,
+      c.check_argument-a.ensures.there (omega arith),
+    )
 
 pub loop-i-preserved : goal.loop-i-preserved
-loop-i-preserved c =
-    (omega arith, omega arith, simp length-set (omega arith), simp length-set (omega arith), omega arith, noting_turn
-        _ _ _ _ _ _ _ _ c.loop-i.invariant.5 c.loop-i-test.true c.check_argument-a.ensures c.requires.1 (omega arith)
-        (omega arith) (omega arith))
+loop-i-preserved c = (
+  omega arith,
+  omega arith,
+  simp length-set (omega arith),
+  simp length-set (omega arith),
+  omega arith,
+  noting_turn
+      _ _ _ _ _ _ _ _ c.loop-i.invariant.5 c.loop-i-test.true c.check_argument-a.ensures c.requires.1 (omega arith)
+      (omega arith) (omega arith),
+)
 
 pub returns : goal.returns
 returns c =

@@ -23,11 +23,11 @@ judge_error-requires c =
 pub returns-then-not-error : goal.returns-then-not-error
 returns-then-not-error c =
     judged _ _ _ _ refl (kind_here _ _ _ c.requires.3 c.extract-k.ensures refl) c.is_vector-vector.ensures
-        c.mark_if.ensures c.name_when-receiver.ensures c.mark_if-2.ensures c.name_when-error.ensures (not-true _
-        (ap not c.if-not-error.true))
+    c.mark_if.ensures c.name_when-receiver.ensures c.mark_if-2.ensures c.name_when-error.ensures (not-true _
+    (ap not c.if-not-error.true))
 
 pub returns : goal.returns
 returns c =
     judged_error _ _ _ _ refl (kind_here _ _ _ c.requires.3 c.extract-k.ensures refl) c.is_vector-vector.ensures
-        c.mark_if.ensures c.name_when-receiver.ensures c.mark_if-2.ensures c.name_when-error.ensures refl (not-false _
-        (ap not c.if-not-error.false)) c.judge_error.ensures
+    c.mark_if.ensures c.name_when-receiver.ensures c.mark_if-2.ensures c.name_when-error.ensures refl (not-false _
+    (ap not c.if-not-error.false)) c.judge_error.ensures

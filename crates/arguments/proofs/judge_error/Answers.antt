@@ -17,19 +17,22 @@ returns-in-Atom c =
     judge_atom _ _ _ c.requires.1 (sym c.in-Atom.is ∙ c.requires.2) _ c.extract-a.ensures c.mark_if.ensures
 
 pub extract-i-requires : goal.extract-i-requires
-extract-i-requires c =
-    (c.requires.0, width_le _ c.width.ensures, named_room _ _ _ c.requires.1 (sym c.in-Named.is ∙ c.requires.2)
-        c.width.ensures)
+extract-i-requires c = (
+  c.requires.0,
+  width_le _ c.width.ensures,
+  named_room _ _ _ c.requires.1 (sym c.in-Named.is ∙ c.requires.2)
+      c.width.ensures,
+)
 
 pub returns-in-Named : goal.returns-in-Named
 returns-in-Named c =
     judge_named _ _ _ c.requires.1 (sym c.in-Named.is ∙ c.requires.2) c.width.ensures _ c.extract-i.ensures
-        c.mark_if-in-Named.ensures
+    c.mark_if-in-Named.ensures
 
 pub returns-in-Template : goal.returns-in-Template
 returns-in-Template c =
     judge_template _ _ (sym c.in-Template.is ∙ c.requires.2) c.is_indirect_template-indirect.ensures
-        c.mark_if-in-Template.ensures
+    c.mark_if-in-Template.ensures
 
 pub returns-in-Array : goal.returns-in-Array
 returns-in-Array c = judge_array _ _ (sym c.in-Array.is ∙ c.requires.2) c.set_mark.ensures

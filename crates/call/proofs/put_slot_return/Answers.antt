@@ -8,7 +8,7 @@ shape-v-requires c = (c.requires.0, c.requires.1 c.if-indirect.true)
 pub returns-then-indirect : goal.returns-then-indirect
 returns-then-indirect c =
     first_text _ c.if-indirect.true (slot_return_written c.shape-v.ensures c.is_ref-reference.ensures
-        c.put_bytes-a.ensures c.put_slot_value-b.ensures c.put_bytes.ensures)
+    c.put_bytes-a.ensures c.put_slot_value-b.ensures c.put_bytes.ensures)
 
 pub returns : goal.returns
 returns c = second_text _ c.if-indirect.false (wrote_nil _)

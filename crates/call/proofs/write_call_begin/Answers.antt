@@ -21,7 +21,7 @@ returns-in-RustBox c =
 pub returns-in-UniquePtr : goal.returns-in-UniquePtr
 returns-in-UniquePtr c =
     begin_written c.shape-v.ensures _ _ c.in-UniquePtr.is (c.write_outermost-typed-in-UniquePtr.ensures ▷
-        c.put_bytes-in-UniquePtr.ensures)
+    c.put_bytes-in-UniquePtr.ensures)
 
 pub returns-in-Ref : goal.returns-in-Ref
 returns-in-Ref c = begin_written c.shape-v.ensures _ _ c.in-Ref.is c.put_bytes-in-Ref.ensures
@@ -32,7 +32,7 @@ returns-in-Str c = begin_written c.shape-v.ensures _ _ c.in-Str.is c.put_bytes-i
 pub returns-in-SliceRef : goal.returns-in-SliceRef
 returns-in-SliceRef c =
     begin_written c.shape-v.ensures _ _ c.in-SliceRef.is (c.put_bytes-begun.ensures ▷
-        c.write_outermost-typed-in-SliceRef.ensures ▷ c.put_bytes-in-SliceRef.ensures)
+    c.write_outermost-typed-in-SliceRef.ensures ▷ c.put_bytes-in-SliceRef.ensures)
 
 pub returns-in-Other : goal.returns-in-Other
 returns-in-Other c = begin_written c.shape-v.ensures _ _ c.in-Other.is (wrote_nil _)

@@ -14,11 +14,19 @@ returns-then-repeated c =
 pub returns-then-unfit : goal.returns-then-unfit
 unfolding ruled_parts
 returns-then-unfit c =
-    rw (sym c.wrong_part-wrong.ensures ∙ c.if-wrong.false, sym c.taken-repeated.ensures ∙ c.if-repeated.false, sym
-        c.unfit_argument-unfit.ensures ∙ c.if-unfit.true)
+    rw (
+      sym c.wrong_part-wrong.ensures ∙ c.if-wrong.false,
+      sym c.taken-repeated.ensures ∙ c.if-repeated.false,
+      sym
+          c.unfit_argument-unfit.ensures ∙ c.if-unfit.true,
+    )
 
 pub returns : goal.returns
 unfolding ruled_parts
 returns c =
-    rw (sym c.wrong_part-wrong.ensures ∙ c.if-wrong.false, sym c.taken-repeated.ensures ∙ c.if-repeated.false, sym
-        c.unfit_argument-unfit.ensures ∙ c.if-unfit.false)
+    rw (
+      sym c.wrong_part-wrong.ensures ∙ c.if-wrong.false,
+      sym c.taken-repeated.ensures ∙ c.if-repeated.false,
+      sym
+          c.unfit_argument-unfit.ensures ∙ c.if-unfit.false,
+    )

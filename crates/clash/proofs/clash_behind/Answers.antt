@@ -25,9 +25,11 @@ pub overflow_add-j-in-loop-j : goal.overflow_add-j-in-loop-j
 overflow_add-j-in-loop-j c = omega (arith, c.requires.0.whole.few)
 
 pub loop-j-preserved : goal.loop-j-preserved
-loop-j-preserved c =
-    (omega arith, c.loop-j.invariant.1 ∙ items_turn _ _ _ (omega arith) (clashes _ _) c.clash-found.ensures
-        c.if-found.false)
+loop-j-preserved c = (
+  omega arith,
+  c.loop-j.invariant.1 ∙ items_turn _ _ _ (omega arith) (clashes _ _) c.clash-found.ensures
+      c.if-found.false,
+)
 
 pub returns : goal.returns
 returns c = sym (c.loop-j.invariant.1 ∙ items_end _ _ _ {i = c.loop-j.j} (omega arith) (clashes _ _))

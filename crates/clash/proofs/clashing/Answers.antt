@@ -20,15 +20,17 @@ clash_behind-found-requires c = (c.requires.0, c.requires.1, c.item-v.ensures.1)
 pub returns-then-found : goal.returns-then-found
 returns-then-found c =
     sym (c.loop-i.invariant.1 ∙ pairs_hit _ _ _ (omega arith) (clashes _) (rw c.item-v.ensures.0 at
-        c.clash_behind-found.ensures) c.if-found.true)
+    c.clash_behind-found.ensures) c.if-found.true)
 
 pub overflow_add-i : goal.overflow_add-i
 overflow_add-i c = omega (arith, c.requires.0.whole.few)
 
 pub loop-i-preserved : goal.loop-i-preserved
-loop-i-preserved c =
-    (omega arith, c.loop-i.invariant.1 ∙ pairs_turn _ _ _ (omega arith) (clashes _) (rw c.item-v.ensures.0 at
-        c.clash_behind-found.ensures) c.if-found.false)
+loop-i-preserved c = (
+  omega arith,
+  c.loop-i.invariant.1 ∙ pairs_turn _ _ _ (omega arith) (clashes _) (rw c.item-v.ensures.0 at
+      c.clash_behind-found.ensures) c.if-found.false,
+)
 
 pub returns : goal.returns
 returns c = sym (c.loop-i.invariant.1 ∙ pairs_end _ _ _ {i = c.loop-i.i} (omega arith) (clashes _))

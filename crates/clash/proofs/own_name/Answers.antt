@@ -9,7 +9,7 @@ field-rust-requires c = (c.requires.0.named.limited, width_le _ c.width.ensures)
 pub returns-then-callable : goal.returns-then-callable
 returns-then-callable c =
     own_function c.item-v.ensures.1 c.item-v.ensures.0 (sym c.is_function-callable.ensures ∙ c.if-callable.true)
-        c.width.ensures c.field-rust.ensures
+    c.width.ensures c.field-rust.ensures
 
 pub returns : goal.returns
 returns c = own_type c.item-v.ensures.1 c.item-v.ensures.0 (sym c.is_function-callable.ensures ∙ c.if-callable.false)

@@ -26,19 +26,21 @@ same_name-equal-requires c =
 pub returns-then-not-equal : goal.returns-then-not-equal
 returns-then-not-equal c =
     sym (c.loop-d.invariant.1 ∙ spaces_differ c.requires.0.whole c.requires.1 c.requires.2 c.if-v-w.false
-        c.loop-d-test.true c.namespace-a.ensures.1 c.namespace-b.ensures.1 c.same_name-equal.ensures (not-true _
-        (ap not c.if-not-equal.true)))
+    c.loop-d-test.true c.namespace-a.ensures.1 c.namespace-b.ensures.1 c.same_name-equal.ensures (not-true _
+    (ap not c.if-not-equal.true)))
 
 pub overflow_add-d : goal.overflow_add-d
 overflow_add-d c = omega (arith, c.requires.1.view.shallow)
 
 pub loop-d-preserved : goal.loop-d-preserved
-loop-d-preserved c =
-    (omega arith, c.loop-d.invariant.1 ∙ spaces_turn c.requires.0.whole c.requires.1 c.requires.2 c.if-v-w.false
-        c.loop-d-test.true c.namespace-a.ensures.1 c.namespace-b.ensures.1 c.same_name-equal.ensures (not-false _
-        (ap not c.if-not-equal.false)))
+loop-d-preserved c = (
+  omega arith,
+  c.loop-d.invariant.1 ∙ spaces_turn c.requires.0.whole c.requires.1 c.requires.2 c.if-v-w.false
+      c.loop-d-test.true c.namespace-a.ensures.1 c.namespace-b.ensures.1 c.same_name-equal.ensures (not-false _
+      (ap not c.if-not-equal.false)),
+)
 
 pub returns : goal.returns
 returns c =
     sym (c.loop-d.invariant.1 ∙ spaces_end c.requires.0.whole c.requires.1 c.requires.2 c.if-v-w.false
-        c.loop-d-test.false)
+    c.loop-d-test.false)

@@ -20,4 +20,4 @@ same_name-requires c =
 pub returns : goal.returns
 returns c =
     owners_both c.requires.1 c.requires.2 c.if-f-eq0.false c.if-g-eq0.false c.item-v.ensures.1 c.item-v.ensures.0
-        c.item-w.ensures.1 c.item-w.ensures.0 c.same_name.ensures
+    c.item-w.ensures.1 c.item-w.ensures.0 c.same_name.ensures

@@ -8,7 +8,7 @@ use Rattle.clash.proofs.same_symbol.Goals as goal
 pub returns-then-not-near : goal.returns-then-not-near
 returns-then-not-near c =
     symbol_apart c.requires.0.whole c.requires.1 c.requires.2 c.same_namespace-near.ensures c.requires.3 c.requires.4
-        (not-true _ (ap not c.if-not-near.true))
+    (not-true _ (ap not c.if-not-near.true))
 
 pub function-f-requires : goal.function-f-requires
 function-f-requires c = (c.requires.0.whole, c.requires.1, function_kind _ c.requires.3)
@@ -17,19 +17,22 @@ pub function-g-requires : goal.function-g-requires
 function-g-requires c = (c.requires.0.whole, c.requires.2, function_kind _ c.requires.4)
 
 pub same_name-alike-requires : goal.same_name-alike-requires
-same_name-alike-requires c =
-    (c.requires.0.whole.named, c.requires.0.digested, c.function-f.ensures.1.view.named,
-        c.function-g.ensures.1.view.named)
+same_name-alike-requires c = (
+  c.requires.0.whole.named,
+  c.requires.0.digested,
+  c.function-f.ensures.1.view.named,
+  c.function-g.ensures.1.view.named,
+)
 
 pub returns-then-not-alike : goal.returns-then-not-alike
 returns-then-not-alike c =
     symbol_unlike c.requires.0.whole c.requires.1 c.requires.2 c.same_namespace-near.ensures c.requires.3 c.requires.4
-        c.function-f.ensures.0 c.function-g.ensures.0 c.function-f.ensures.1 c.function-g.ensures.1
-        c.same_name-alike.ensures (not-false _ (ap not c.if-not-near.false)) (not-true _ (ap not c.if-not-alike.true))
+    c.function-f.ensures.0 c.function-g.ensures.0 c.function-f.ensures.1 c.function-g.ensures.1
+    c.same_name-alike.ensures (not-false _ (ap not c.if-not-near.false)) (not-true _ (ap not c.if-not-alike.true))
 
 pub returns : goal.returns
 returns c =
     symbol_alike c.requires.0.whole c.requires.1 c.requires.2 c.same_namespace-near.ensures c.requires.3 c.requires.4
-        c.function-f.ensures.0 c.function-g.ensures.0 c.function-f.ensures.1 c.function-g.ensures.1
-        c.same_name-alike.ensures (not-false _ (ap not c.if-not-near.false)) (not-false _
-        (ap not c.if-not-alike.false)) c.same_owner.ensures
+    c.function-f.ensures.0 c.function-g.ensures.0 c.function-f.ensures.1 c.function-g.ensures.1
+    c.same_name-alike.ensures (not-false _ (ap not c.if-not-near.false)) (not-false _
+    (ap not c.if-not-alike.false)) c.same_owner.ensures

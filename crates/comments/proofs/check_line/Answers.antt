@@ -13,8 +13,12 @@ overflow_mul-end c = omega (arith, field_lt 7 _ _ (value c.read-f.ensures c.in-V
 
 pub overflow_add-end : goal.overflow_add-end
 overflow_add-end c =
-    omega (arith, field_lt 7 _ _ (value c.read-f.ensures c.in-Value.is), field_end 7 _ _ (value c.read-f.ensures
-        c.in-Value.is))
+    omega (
+      arith,
+      field_lt 7 _ _ (value c.read-f.ensures c.in-Value.is),
+      field_end 7 _ _ (value c.read-f.ensures
+          c.in-Value.is),
+    )
 
 pub returns-then-end_of-end : goal.returns-then-end_of-end
 returns-then-end_of-end c = line_short _ _ (value c.read-f.ensures c.in-Value.is) (omega arith)
@@ -22,7 +26,7 @@ returns-then-end_of-end c = line_short _ _ (value c.read-f.ensures c.in-Value.is
 pub returns-then-good : goal.returns-then-good
 returns-then-good c =
     line_whole _ _ (value c.read-f.ensures c.in-Value.is) true (omega arith) (known c.is_line-good.ensures
-        c.if-good.true)
+    c.if-good.true)
 
 pub returns-in-Cut : goal.returns-in-Cut
 unfolding line
@@ -31,4 +35,4 @@ returns-in-Cut c = rw (cut _ _ _ c.read-f.ensures c.in-Cut.is) record { step = r
 pub returns-else-good : goal.returns-else-good
 returns-else-good c =
     line_whole _ _ (value c.read-f.ensures c.in-Value.is) false (omega arith) (known c.is_line-good.ensures
-        c.if-good.false)
+    c.if-good.false)

@@ -15,11 +15,18 @@ returns-then-not-all c = rw (known c.all_line_chars-all.ensures (not-true _ (ap 
 pub returns-then-n-eq0 : goal.returns-then-n-eq0
 unfolding line_ok
 returns-then-n-eq0 c =
-    rw (known c.all_line_chars-all.ensures (not-false _ (ap not c.if-not-all.false)), last_none _ (chars_length _ _ _
-        ∙ c.if-n-eq0.true))
+    rw (
+      known c.all_line_chars-all.ensures (not-false _ (ap not c.if-not-all.false)),
+      last_none _ (chars_length _ _ _
+          ∙ c.if-n-eq0.true),
+    )
 
 pub returns : goal.returns
 unfolding line_ok
 returns c =
-    rw (known c.all_line_chars-all.ensures (not-false _ (ap not c.if-not-all.false)), chars_last _ _ _
-        c.if-n-eq0.false, c.extract-last.ensures)
+    rw (
+      known c.all_line_chars-all.ensures (not-false _ (ap not c.if-not-all.false)),
+      chars_last _ _ _
+          c.if-n-eq0.false,
+      c.extract-last.ensures,
+    )

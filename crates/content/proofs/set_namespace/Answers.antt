@@ -9,8 +9,12 @@ slice_bounds-set_namespace-end c = sym (length-take-le _ _ (omega (arith, c.requ
 
 pub set_namespace-requires : goal.set_namespace-requires
 set_namespace-requires c =
-    rw (names_part c.args.t.now, items_part c.args.t.now) (c.requires.0.whole, c.requires.1, c.requires.2,
-        c.requires.3)
+    rw (names_part c.args.t.now, items_part c.args.t.now) (
+      c.requires.0.whole,
+      c.requires.1,
+      c.requires.2,
+      c.requires.3,
+    )
 
 pub returns : goal.returns
 returns c = rw (names_part c.args.t.now, items_part c.args.t.now) at c.set_namespace.ensures

@@ -11,4 +11,4 @@ nonzero_rem-result c = shl_pos _ c.requires.1
 pub returns : goal.returns
 returns c =
     extract_is _ _ _ _ _ c.requires.1 c.word-w.ensures (omega (arith, c.word_start-b.ensures))
-        (omega (arith, c.word_start-b.ensures))
+    (omega (arith, c.word_start-b.ensures))

@@ -16,29 +16,29 @@ write_pointer-requires-in-Ref c = (c.requires.0, has_inner_lem c.shape-v.ensures
 pub returns-in-RustBox : goal.returns-in-RustBox
 returns-in-RustBox c =
     direct_return_lem c.args.s.now (names_in c.args.t.now) (items_in c.args.t.now) c.args.c.at c.shape-v.ensures
-        c.in-RustBox.is c.write_pointer.ensures
+    c.in-RustBox.is c.write_pointer.ensures
 
 pub returns-in-UniquePtr : goal.returns-in-UniquePtr
 returns-in-UniquePtr c =
     direct_return_lem c.args.s.now (names_in c.args.t.now) (items_in c.args.t.now) c.args.c.at c.shape-v.ensures
-        c.in-UniquePtr.is c.write_pointer-in-UniquePtr.ensures
+    c.in-UniquePtr.is c.write_pointer-in-UniquePtr.ensures
 
 pub returns-in-Ref : goal.returns-in-Ref
 returns-in-Ref c =
     direct_return_lem c.args.s.now (names_in c.args.t.now) (items_in c.args.t.now) c.args.c.at c.shape-v.ensures
-        c.in-Ref.is c.write_pointer-in-Ref.ensures
+    c.in-Ref.is c.write_pointer-in-Ref.ensures
 
 pub returns-in-Str : goal.returns-in-Str
 returns-in-Str c =
     direct_return_lem c.args.s.now (names_in c.args.t.now) (items_in c.args.t.now) c.args.c.at c.shape-v.ensures
-        c.in-Str.is c.put_bytes.ensures
+    c.in-Str.is c.put_bytes.ensures
 
 pub returns-in-SliceRef : goal.returns-in-SliceRef
 returns-in-SliceRef c =
     direct_return_lem c.args.s.now (names_in c.args.t.now) (items_in c.args.t.now) c.args.c.at c.shape-v.ensures
-        c.in-SliceRef.is c.put_bytes-in-SliceRef.ensures
+    c.in-SliceRef.is c.put_bytes-in-SliceRef.ensures
 
 pub returns-in-Other : goal.returns-in-Other
 returns-in-Other c =
     direct_return_lem c.args.s.now (names_in c.args.t.now) (items_in c.args.t.now) c.args.c.at c.shape-v.ensures
-        c.in-Other.is c.write_outermost_space.ensures
+    c.in-Other.is c.write_outermost_space.ensures

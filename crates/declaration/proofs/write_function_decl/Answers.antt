@@ -5,5 +5,5 @@ use Rattle.declaration.proofs.write_function_decl.Goals as goal
 pub returns : goal.returns
 returns c =
     declared c.args.s.now (names_in c.args.t.now) (items_in c.args.t.now) c.requires.3
-        c.write_extern_return-returned.ensures c.write_extern_fn-named.ensures c.put_bytes-opened.ensures
-        c.write_parameters-listed.ensures c.put_bytes.ensures
+    c.write_extern_return-returned.ensures c.write_extern_fn-named.ensures c.put_bytes-opened.ensures
+    c.write_parameters-listed.ensures c.put_bytes.ensures

@@ -9,5 +9,5 @@ pub returns : goal.returns
 unfolding layout_definition
 returns c =
     c.put_bytes-typed.ensures ▷ c.write_cxx_name-of.ensures ▷ c.put_bytes-inside.ensures ▷ c.put_bytes-named.ensures ▷
-        c.put_bytes-begun.ensures ▷ c.put_bytes-returned.ensures ▷ c.write_operator-called.ensures ▷
-        c.put_bytes-ended.ensures ▷ c.put_bytes.ensures
+    c.put_bytes-begun.ensures ▷ c.put_bytes-returned.ensures ▷ c.write_operator-called.ensures ▷
+    c.put_bytes-ended.ensures ▷ c.put_bytes.ensures

@@ -12,8 +12,12 @@ returns-then-z-ne0 c = λ x. rw (value c.read-f.ensures c.in-Value.is, not_zero 
 pub returns-then-bytes-s : goal.returns-then-bytes-s
 unfolding tail
 returns-then-bytes-s c =
-    λ x. rw (value c.read-f.ensures c.in-Value.is, eq-eqb _ _ c.if-z-ne0.false, at_end_lem _ _ (field_next _ _ _
-        (value c.read-f.ensures c.in-Value.is)) c.if-bytes-s.true) record { step = refl }
+    λ x. rw (
+      value c.read-f.ensures c.in-Value.is,
+      eq-eqb _ _ c.if-z-ne0.false,
+      at_end_lem _ _ (field_next _ _ _
+          (value c.read-f.ensures c.in-Value.is)) c.if-bytes-s.true,
+    ) record { step = refl }
 
 pub returns-in-Cut : goal.returns-in-Cut
 unfolding tail
@@ -22,5 +26,9 @@ returns-in-Cut c = λ x. rw (cut _ _ _ c.read-f.ensures c.in-Cut.is) record { st
 pub returns-else-bytes-s : goal.returns-else-bytes-s
 unfolding tail
 returns-else-bytes-s c =
-    λ x. rw (value c.read-f.ensures c.in-Value.is, eq-eqb _ _ c.if-z-ne0.false, past_end _ _ (field_next _ _ _
-        (value c.read-f.ensures c.in-Value.is)) c.if-bytes-s.false) record { step = refl }
+    λ x. rw (
+      value c.read-f.ensures c.in-Value.is,
+      eq-eqb _ _ c.if-z-ne0.false,
+      past_end _ _ (field_next _ _ _
+          (value c.read-f.ensures c.in-Value.is)) c.if-bytes-s.false,
+    ) record { step = refl }

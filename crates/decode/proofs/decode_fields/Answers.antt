@@ -21,19 +21,37 @@ returns-in-Cut c = record { says = rw (cut _ _ _ c.read-f.ensures c.in-Cut.is) }
 pub returns-in-Cut-g : goal.returns-in-Cut-g
 unfolding edition behind_edition sheet
 returns-in-Cut-g c =
-    record { says = rw (value c.read-f.ensures c.in-Value.is, edition_known _ c.if-edition-eq0.false
-        c.if-edition-gt-LAST_EDITION.false, bit_cut _ _ c.read-g.ensures c.in-Cut-g.is) }
+    record {
+      says = rw (
+        value c.read-f.ensures c.in-Value.is,
+        edition_known _ c.if-edition-eq0.false
+            c.if-edition-gt-LAST_EDITION.false,
+        bit_cut _ _ c.read-g.ensures c.in-Cut-g.is,
+      );
+    }
 
 pub returns-in-Cut-k : goal.returns-in-Cut-k
 unfolding edition behind_edition sheet
 returns-in-Cut-k c =
-    record { says = rw (value c.read-f.ensures c.in-Value.is, edition_known _ c.if-edition-eq0.false
-        c.if-edition-gt-LAST_EDITION.false, bit_value _ _ c.read-g.ensures c.in-Value-g.is, bit_cut _ _
-        c.read-k.ensures c.in-Cut-k.is) }
+    record {
+      says = rw (
+        value c.read-f.ensures c.in-Value.is,
+        edition_known _ c.if-edition-eq0.false
+            c.if-edition-gt-LAST_EDITION.false,
+        bit_value _ _ c.read-g.ensures c.in-Value-g.is,
+        bit_cut _ _
+            c.read-k.ensures c.in-Cut-k.is,
+      );
+    }
 
 pub returns-in-Value-k : goal.returns-in-Value-k
 unfolding edition behind_edition sheet behind_names behind_bits
 returns-in-Value-k c =
-    rw (value c.read-f.ensures c.in-Value.is, edition_known _ c.if-edition-eq0.false
-        c.if-edition-gt-LAST_EDITION.false, bit_value _ _ c.read-g.ensures c.in-Value-g.is, bit_value _ _
-        c.read-k.ensures c.in-Value-k.is) c.decode_tables.ensures
+    rw (
+      value c.read-f.ensures c.in-Value.is,
+      edition_known _ c.if-edition-eq0.false
+          c.if-edition-gt-LAST_EDITION.false,
+      bit_value _ _ c.read-g.ensures c.in-Value-g.is,
+      bit_value _ _
+          c.read-k.ensures c.in-Value-k.is,
+    ) c.decode_tables.ensures

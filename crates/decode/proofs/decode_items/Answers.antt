@@ -18,9 +18,9 @@ returns-in-Fault c =
 pub returns-in-Fault-b : goal.returns-in-Fault-b
 returns-in-Fault-b c =
     tail_fault _ _ _ _ _ (value c.read-f.ensures c.in-Value.is) c.check_items-a.ensures c.in-At.is
-        c.check_tail-b.ensures c.in-Fault-b.is
+    c.check_tail-b.ensures c.in-Fault-b.is
 
 pub returns-in-At-b : goal.returns-in-At-b
 returns-in-At-b c =
     items_whole _ _ _ _ _ (value c.read-f.ensures c.in-Value.is) c.check_items-a.ensures c.in-At.is
-        c.check_tail-b.ensures (names_length _ _) c.in-At-b.is
+    c.check_tail-b.ensures (names_length _ _) c.in-At-b.is

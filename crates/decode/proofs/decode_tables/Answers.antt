@@ -26,8 +26,12 @@ slice_bounds-decode_items-end-in-At-3 c =
 pub decode_items-requires : goal.decode_items-requires
 decode_items-requires c =
     let l = names_ready c.args.edition _ _ _ _ (value c.read-f.ensures c.in-Value.is) c.check_names-a.ensures
-        c.in-At.is c.requires.0 (omega (arith, field_lt 10 _ _ (value c.read-f.ensures c.in-Value.is), c.requires,
-        c.names-1)) in
+    c.in-At.is c.requires.0 (omega (
+      arith,
+      field_lt 10 _ _ (value c.read-f.ensures c.in-Value.is),
+      c.requires,
+      c.names-1,
+    )) in
     (l.0, l.1, omega (arith, c.requires))
 
 pub returns-in-Cut : goal.returns-in-Cut
@@ -40,5 +44,5 @@ returns-in-Fault c =
 pub returns-in-At : goal.returns-in-At
 returns-in-At c =
     tables_rest _ _ _ _ _ (value c.read-f.ensures c.in-Value.is) c.check_names-a.ensures c.in-At.is
-        (omega (arith, field_lt 10 _ _ (value c.read-f.ensures c.in-Value.is), c.requires, c.names-1))
-        c.decode_items.ensures
+    (omega (arith, field_lt 10 _ _ (value c.read-f.ensures c.in-Value.is), c.requires, c.names-1))
+    c.decode_items.ensures

@@ -8,4 +8,4 @@ write_lines-here-requires c = (omega arith, lines_yield _ _ c.requires.1 c.field
 pub returns : goal.returns
 returns c =
     doc_written _ _ c.requires.1 c.field-count.ensures _ c.write_lines-here.ensures c.is_alone-alone.ensures
-        c.put_when.ensures
+    c.put_when.ensures

@@ -15,30 +15,57 @@ pub overflow_add-deeper : goal.overflow_add-deeper
 overflow_add-deeper t c = omega (arith, items_count_lem c.requires.0.tabled)
 
 pub next_namespace-i-requires : goal.next_namespace-i-requires
-next_namespace-i-requires t c =
-    (c.requires.0.tabled, c.requires.1, c.requires.2, omega (arith, items_count_lem c.requires.0.tabled,
-        c.requires.2.there))
+next_namespace-i-requires t c = (
+  c.requires.0.tabled,
+  c.requires.1,
+  c.requires.2,
+  omega (
+    arith,
+    items_count_lem c.requires.0.tabled,
+    c.requires.2.there,
+  ),
+)
 
 pub loop-i-init : goal.loop-i-init
-loop-i-init t c =
-    (c.next_namespace-i.ensures.most, c.next_namespace-i.ensures.found, spaces_begin _ _ _ c.requires.4
-        c.next_namespace-i.ensures)
+loop-i-init t c = (
+  c.next_namespace-i.ensures.most,
+  c.next_namespace-i.ensures.found,
+  spaces_begin _ _ _ c.requires.4
+      c.next_namespace-i.ensures,
+)
 
 pub item-v-requires : goal.item-v-requires
 item-v-requires t c = (c.requires.0.tabled, omega (arith, items_count_lem c.requires.0.tabled))
 
 pub open_namespace-head-requires : goal.open_namespace-head-requires
-open_namespace-head-requires t c =
-    (c.requires.0, c.item-v.ensures.1, view_deep _ _ c.item-v.ensures.1 c.item-v.ensures.0
-        (omega (arith, items_count_lem c.requires.0.tabled)) (c.loop-i.invariant.1
-        (rw count (omega (arith, items_count_lem c.requires.0.tabled)))))
+open_namespace-head-requires t c = (
+  c.requires.0,
+  c.item-v.ensures.1,
+  view_deep _ _ c.item-v.ensures.1 c.item-v.ensures.0
+      (omega (arith, items_count_lem c.requires.0.tabled)) (c.loop-i.invariant.1
+      (rw count (omega (arith, items_count_lem c.requires.0.tabled)))),
+)
 
 pub write_entries-tail-requires : goal.write_entries-tail-requires
-write_entries-tail-requires t c =
-    (omega (arith, items_count_lem c.requires.0.tabled, c.requires.0, c.requires.3, c.if-depth.false), (c.requires.0,
-        c.requires.1, c.item-v.ensures.1, omega (arith, items_count_lem c.requires.0.tabled, c.requires.3,
-        c.if-depth.false), view_first _ _ c.item-v.ensures.1 c.item-v.ensures.0 (omega (arith, items_count_lem
-        c.requires.0.tabled)) (c.loop-i.invariant.1 (rw count (omega (arith, items_count_lem c.requires.0.tabled))))))
+write_entries-tail-requires t c = (
+  omega (arith, items_count_lem c.requires.0.tabled, c.requires.0, c.requires.3, c.if-depth.false),
+  (
+    c.requires.0,
+    c.requires.1,
+    c.item-v.ensures.1,
+    omega (
+      arith,
+      items_count_lem c.requires.0.tabled,
+      c.requires.3,
+      c.if-depth.false,
+    ),
+    view_first _ _ c.item-v.ensures.1 c.item-v.ensures.0 (omega (
+      arith,
+      items_count_lem
+          c.requires.0.tabled,
+    )) (c.loop-i.invariant.1 (rw count (omega (arith, items_count_lem c.requires.0.tabled)))),
+  ),
+)
 
 pub close_namespace-here-requires : goal.close_namespace-here-requires
 close_namespace-here-requires t c = omega (arith, items_count_lem c.requires.0.tabled, c.requires.3)
@@ -54,14 +81,20 @@ pub loop-i-smaller : goal.loop-i-smaller
 loop-i-smaller t c = omega (arith, items_count_lem c.requires.0.tabled, c.next_namespace-i-in-loop-i.ensures.least)
 
 pub loop-i-preserved : goal.loop-i-preserved
-loop-i-preserved t c =
-    (c.next_namespace-i-in-loop-i.ensures.most, c.next_namespace-i-in-loop-i.ensures.found, spaces_turn _ _ _
-        c.item-v.ensures.0 (rw count (omega (arith, items_count_lem c.requires.0.tabled))) (c.loop-i.invariant.1
-        (rw count (omega (arith, items_count_lem c.requires.0.tabled)))) c.loop-i.invariant.2
-        c.open_namespace-head.ensures c.write_entries-tail.ensures c.close_namespace-here.ensures
-        c.next_namespace-i-in-loop-i.ensures)
+loop-i-preserved t c = (
+  c.next_namespace-i-in-loop-i.ensures.most,
+  c.next_namespace-i-in-loop-i.ensures.found,
+  spaces_turn _ _ _
+      c.item-v.ensures.0 (rw count (omega (arith, items_count_lem c.requires.0.tabled))) (c.loop-i.invariant.1
+      (rw count (omega (arith, items_count_lem c.requires.0.tabled)))) c.loop-i.invariant.2
+      c.open_namespace-head.ensures c.write_entries-tail.ensures c.close_namespace-here.ensures
+      c.next_namespace-i-in-loop-i.ensures,
+)
 
 pub returns : goal.returns
 returns t c =
-    entries_end _ _ _ (omega (arith, items_count_lem c.requires.0.tabled)) (rw count (omega (arith, items_count_lem
-        c.requires.0.tabled))) c.write_direct-direct.ensures c.loop-i.invariant.2
+    entries_end _ _ _ (omega (arith, items_count_lem c.requires.0.tabled)) (rw count (omega (
+      arith,
+      items_count_lem
+          c.requires.0.tabled,
+    ))) c.write_direct-direct.ensures c.loop-i.invariant.2

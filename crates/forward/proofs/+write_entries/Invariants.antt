@@ -15,8 +15,8 @@ decreases-write_entries l = most_namespaces - l.depth
 abbrev pub invariant-loop-i : goal.invariant-loop-i
 invariant-loop-i l =
     (l.i ≤ length (items_of l.s l.t)) × (l.i < length (items_of l.s l.t) → opens (items_of l.s l.t) (item_of l.s l.t
-        l.leader.number) l.depth l.i ≡ true) × Wrote (sink l.initial.out l.initial.here) (namespaces_before
-        (items_of l.s l.t) (item_of l.s l.t l.leader.number) l.depth l.i) (sink l.out l.here)
+    l.leader.number) l.depth l.i ≡ true) × Wrote (sink l.initial.out l.initial.here) (namespaces_before
+    (items_of l.s l.t) (item_of l.s l.t l.leader.number) l.depth l.i) (sink l.out l.here)
 
 abbrev pub decreases-loop-i : goal.decreases-loop-i
 decreases-loop-i l = length (items_in l.t) - l.i

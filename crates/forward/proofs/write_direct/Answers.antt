@@ -20,9 +20,14 @@ pub loop-i-smaller : goal.loop-i-smaller
 loop-i-smaller c = omega (arith, items_count_lem c.requires.0.tabled)
 
 pub loop-i-preserved : goal.loop-i-preserved
-loop-i-preserved c =
-    (omega (arith, items_count_lem c.requires.0.tabled), direct_turn _ _ _ (rw count (omega (arith, items_count_lem
-        c.requires.0.tabled))) c.loop-i.invariant.1 c.write_entry-here.ensures)
+loop-i-preserved c = (
+  omega (arith, items_count_lem c.requires.0.tabled),
+  direct_turn _ _ _ (rw count (omega (
+    arith,
+    items_count_lem
+        c.requires.0.tabled,
+  ))) c.loop-i.invariant.1 c.write_entry-here.ensures,
+)
 
 pub returns : goal.returns
 returns c = direct_end _ _ _ (rw count (omega (arith, items_count_lem c.requires.0.tabled))) c.loop-i.invariant.1

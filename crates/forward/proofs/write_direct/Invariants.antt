@@ -8,7 +8,7 @@ use Rattle.forward.proofs.write_direct.Given as goal
 abbrev pub invariant-loop-i : goal.invariant-loop-i
 invariant-loop-i l =
     (l.i ≤ length (items_in l.t)) × Wrote (sink l.initial.out l.initial.here) (direct_before (items_of l.s l.t)
-        (item_of l.s l.t l.leader.number) l.depth l.i) (sink l.out l.here)
+    (item_of l.s l.t l.leader.number) l.depth l.i) (sink l.out l.here)
 
 abbrev pub decreases-loop-i : goal.decreases-loop-i
 decreases-loop-i l = length (items_in l.t) - l.i

@@ -12,4 +12,4 @@ returns-then-not-direct c =
 pub returns : goal.returns
 returns c =
     rw (sym c.is_direct-direct.ensures ∙ not-false _ (ap not c.if-not-direct.false)) (rw (← c.item-v.ensures.0)
-        (c.indent-here.ensures ▷ c.write_line.ensures))
+    (c.indent-here.ensures ▷ c.write_line.ensures))

@@ -18,4 +18,4 @@ put_name_of-requires-2 c = (c.requires.0, c.requires.1.view.named)
 pub returns : goal.returns
 returns c =
     local_name_written _ c.requires.1 (self_one c.requires.2 _ c.if-f-eq0.false (c.write_cxx_name-owned.ensures ▷
-        c.put_bytes-behind.ensures)) c.put_name_of-2.ensures
+    c.put_bytes-behind.ensures)) c.put_name_of-2.ensures

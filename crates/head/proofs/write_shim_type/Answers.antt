@@ -13,9 +13,9 @@ write_outermost_space-requires c = (c.requires.0, (returned c.requires.2 c.if-f.
 pub returns-then-f : goal.returns-then-f
 returns-then-f c =
     second_text _ (sym c.is_main-main.ensures ∙ c.if-main.false) (return_gives c.requires.2 c.if-f.true
-        c.write_outermost_space.ensures)
+    c.write_outermost_space.ensures)
 
 pub returns : goal.returns
 returns c =
     second_text _ (sym c.is_main-main.ensures ∙ c.if-main.false) (return_none c.requires.2 c.if-f.false
-        c.put_bytes-2.ensures)
+    c.put_bytes-2.ensures)

@@ -19,9 +19,11 @@ pub overflow_add-i : goal.overflow_add-i
 overflow_add-i c = omega (arith, c.requires.0.few)
 
 pub loop-i-preserved : goal.loop-i-preserved
-loop-i-preserved c =
-    (omega arith, flag_next c.loop-i.invariant.1 (omega (arith, c.requires.0.few)) c.struct_at-found.ensures
-        c.flag.ensures)
+loop-i-preserved c = (
+  omega arith,
+  flag_next c.loop-i.invariant.1 (omega (arith, c.requires.0.few)) c.struct_at-found.ensures
+      c.flag.ensures,
+)
 
 pub returns : goal.returns
 returns c = flag_done (items_passed _ _ _ c.loop-i-test.false) c.loop-i.invariant.1

@@ -3,16 +3,19 @@ use Rattle.holds.proofs.FieldLaws.{yields_named, tells_by_name, tells_other}
 use Rattle.holds.proofs.held_at.Goals as goal
 
 pub named_at-requires : goal.named_at-requires
-named_at-requires c =
-    (c.requires.0, c.requires.1, yields_named _ _ _ c.requires.2 c.field-f.ensures c.kind_of-kind.ensures
-        (known c.is_named-by_name.ensures c.if-by_name.true))
+named_at-requires c = (
+  c.requires.0,
+  c.requires.1,
+  yields_named _ _ _ c.requires.2 c.field-f.ensures c.kind_of-kind.ensures
+      (known c.is_named-by_name.ensures c.if-by_name.true),
+)
 
 pub returns-then-by_name : goal.returns-then-by_name
 returns-then-by_name c =
     tells_by_name _ _ _ c.requires.2 c.field-f.ensures c.kind_of-kind.ensures (known c.is_named-by_name.ensures
-        c.if-by_name.true) c.named_at.ensures
+    c.if-by_name.true) c.named_at.ensures
 
 pub returns : goal.returns
 returns c =
     tells_other _ _ _ c.requires.2 c.field-f.ensures _ c.kind_of-kind.ensures (known c.is_named-by_name.ensures
-        c.if-by_name.false) c.past_type-next.ensures
+    c.if-by_name.false) c.past_type-next.ensures

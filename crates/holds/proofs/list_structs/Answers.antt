@@ -22,9 +22,11 @@ pub overflow_add-i : goal.overflow_add-i
 overflow_add-i c = omega (arith, c.requires.few)
 
 pub loop-i-preserved : goal.loop-i-preserved
-loop-i-preserved c =
-    (omega arith, list_next c.loop-i.invariant.1 (omega (arith, c.requires.few, c.loop-i.invariant.1.few))
-        (items_there _ _ _ c.loop-i-test.true) c.struct_at-found.ensures c.put-n.ensures)
+loop-i-preserved c = (
+  omega arith,
+  list_next c.loop-i.invariant.1 (omega (arith, c.requires.few, c.loop-i.invariant.1.few))
+      (items_there _ _ _ c.loop-i-test.true) c.struct_at-found.ensures c.put-n.ensures,
+)
 
 pub returns : goal.returns
 returns c = list_done (items_passed _ _ _ c.loop-i-test.false) c.loop-i.invariant.1

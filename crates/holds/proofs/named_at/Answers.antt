@@ -9,8 +9,13 @@ field-index-requires c = (c.requires.0.named.limited, width_le _ c.width-w.ensur
 
 pub bounds-structs-i : goal.bounds-structs-i
 bounds-structs-i c =
-    omega (arith, c.requires.0.few, c.requires.1.size, found_there _ _ _ c.requires.2 c.width-w.ensures
-        c.field-index.ensures)
+    omega (
+      arith,
+      c.requires.0.few,
+      c.requires.1.size,
+      found_there _ _ _ c.requires.2 c.width-w.ensures
+          c.field-index.ensures,
+    )
 
 pub overflow_cast-number : goal.overflow_cast-number
 overflow_cast-number c =
@@ -19,4 +24,4 @@ overflow_cast-number c =
 pub returns : goal.returns
 returns c =
     tells_named _ _ _ c.requires.2 c.width-w.ensures c.field-index.ensures _ (c.requires.1.each _ (items_there _ _ _
-        (found_there _ _ _ c.requires.2 c.width-w.ensures c.field-index.ensures)))
+    (found_there _ _ _ c.requires.2 c.width-w.ensures c.field-index.ensures)))

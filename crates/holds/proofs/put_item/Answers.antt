@@ -10,16 +10,30 @@ returns-then-items-i c =
     (puts_none _ _ (holds_none _ _ (items_passed _ _ _ c.if-items-i.true)), omega arith, omega arith)
 
 pub put_struct-requires : goal.put_struct-requires
-put_struct-requires c =
-    (c.requires.0, c.requires.1, c.item-v.ensures.1, struct_kind _ (known c.is_struct-found.ensures c.if-found.true),
-        omega (arith, c.requires.0.few, c.if-items-i.false))
+put_struct-requires c = (
+  c.requires.0,
+  c.requires.1,
+  c.item-v.ensures.1,
+  struct_kind _ (known c.is_struct-found.ensures c.if-found.true),
+  omega (arith, c.requires.0.few, c.if-items-i.false),
+)
 
 pub returns-then-found : goal.returns-then-found
 returns-then-found c =
-    let p = c.put_struct.ensures in (puts_item _ c.item-v.ensures.0 p.0, p.1, omega (arith, c.requires.0.few,
-        c.if-items-i.false))
+    let p = c.put_struct.ensures in (
+      puts_item _ c.item-v.ensures.0 p.0,
+      p.1,
+      omega (
+        arith,
+        c.requires.0.few,
+        c.if-items-i.false,
+      ),
+    )
 
 pub returns : goal.returns
-returns c =
-    (puts_item _ c.item-v.ensures.0 (puts_none _ _ (holds_other _ _ (sym (struct_told _ _ c.is_struct-found.ensures
-        c.item-v.ensures.1.view.kind) ∙ c.if-found.false))), omega arith, omega arith)
+returns c = (
+  puts_item _ c.item-v.ensures.0 (puts_none _ _ (holds_other _ _ (sym (struct_told _ _ c.is_struct-found.ensures
+      c.item-v.ensures.1.view.kind) ∙ c.if-found.false))),
+  omega arith,
+  omega arith,
+)

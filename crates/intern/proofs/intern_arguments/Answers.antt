@@ -15,9 +15,13 @@ pub bounds-entries-j : goal.bounds-entries-j
 bounds-entries-j c = omega (arith, c.requires.2.view.few)
 
 pub intern_type-end-requires : goal.intern_type-end-requires
-intern_type-end-requires c =
-    (c.loop-j.invariant.2.lent, c.loop-j.invariant.2.room, entry_typed c.loop-j.invariant.2 c.loop-j.invariant.1
-        (omega arith), entry_facts c.loop-j.invariant.2 c.loop-j.invariant.1 (omega arith))
+intern_type-end-requires c = (
+  c.loop-j.invariant.2.lent,
+  c.loop-j.invariant.2.room,
+  entry_typed c.loop-j.invariant.2 c.loop-j.invariant.1
+      (omega arith),
+  entry_facts c.loop-j.invariant.2 c.loop-j.invariant.1 (omega arith),
+)
 
 pub loop-j-preserved : goal.loop-j-preserved
 loop-j-preserved c = (omega arith, c.loop-j.invariant.1, filled_next c.loop-j.invariant.2 c.intern_type-end.ensures)

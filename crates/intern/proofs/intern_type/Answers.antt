@@ -6,8 +6,12 @@ keep_type-kept-requires c = c.requires
 
 pub spell_type-requires : goal.spell_type-requires
 spell_type-requires c =
-    rw c.new.ensures (c.keep_type-kept.ensures.lent, c.keep_type-kept.ensures.room, rw
-        c.keep_type-kept.ensures.same_items c.requires.2)
+    rw c.new.ensures (
+      c.keep_type-kept.ensures.lent,
+      c.keep_type-kept.ensures.room,
+      rw
+          c.keep_type-kept.ensures.same_items c.requires.2,
+    )
 
 pub returns-then-kept : goal.returns-then-kept
 returns-then-kept c = filled_next c.keep_type-kept.ensures c.spell_type.ensures

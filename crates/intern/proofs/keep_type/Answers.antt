@@ -49,18 +49,30 @@ overflow_mul-t-2 c =
 pub overflow_add-t-2 : goal.overflow_add-t-2
 overflow_add-t-2 c =
     let next = rw (c.new.ensures, ← items_count_lem c.requires.0.tabled) at c.skip_type-next.ensures in
-    omega (arith, next, type_long _ _ _ c.requires.2, c.requires.0.tabled.whole.named.limited, kind_room _ _ _
-        c.requires.2)
+    omega (
+      arith,
+      next,
+      type_long _ _ _ c.requires.2,
+      c.requires.0.tabled.whole.named.limited,
+      kind_room _ _ _
+          c.requires.2,
+    )
 
 pub overflow_add-t-3 : goal.overflow_add-t-3
 overflow_add-t-3 c =
     let next = rw (c.new.ensures, ← items_count_lem c.requires.0.tabled) at c.skip_type-next.ensures in
-    omega (arith, next, type_long _ _ _ c.requires.2, c.requires.0.tabled.whole.named.limited, kind_room _ _ _
-        c.requires.2)
+    omega (
+      arith,
+      next,
+      type_long _ _ _ c.requires.2,
+      c.requires.0.tabled.whole.named.limited,
+      kind_room _ _ _
+          c.requires.2,
+    )
 
 pub returns : goal.returns
 returns c =
     let next = rw (c.new.ensures, ← items_count_lem c.requires.0.tabled) at c.skip_type-next.ensures in
     filled_met (filled_same _ c.requires.0 c.requires.1) _ _ c.row_of-k.ensures c.if-t-k-ne0.false
     (met _ refl c.requires.2 next (omega arith) (omega (arith, next, type_long _ _ _ c.requires.2))
-        c.extract-bits.ensures c.requires.3)
+    c.extract-bits.ensures c.requires.3)

@@ -26,4 +26,4 @@ slice_bounds-put_text-end-2 c =
 pub returns : goal.returns
 returns c =
     spelled _ c.requires.0 c.write_outermost_space-count.ensures refl (omega arith) c.put_text.ensures (omega arith)
-        (omega arith) (omega arith) c.if-t-k-ne0.false
+    (omega arith) (omega arith) c.if-t-k-ne0.false

@@ -12,8 +12,12 @@ overflow_cast-k c = omega (arith, field_lt 4 _ _ (value c.read-f.ensures c.in-Va
 pub returns-then-good : goal.returns-then-good
 unfolding enum_body
 returns-then-good c =
-    rw ((stepped (bit_checks _ _ c.skip-a.ensures) c.in-At.is).1, value c.read-f.ensures c.in-Value.is, known
-        c.in_range-good.ensures c.if-good.true) (tail _ (bit_checks _ _ c.skip.ensures))
+    rw (
+      (stepped (bit_checks _ _ c.skip-a.ensures) c.in-At.is).1,
+      value c.read-f.ensures c.in-Value.is,
+      known
+          c.in_range-good.ensures c.if-good.true,
+    ) (tail _ (bit_checks _ _ c.skip.ensures))
 
 pub returns-in-Fault : goal.returns-in-Fault
 unfolding enum_body
@@ -23,10 +27,14 @@ pub returns-in-Cut : goal.returns-in-Cut
 unfolding enum_body
 returns-in-Cut c =
     rw ((stepped (bit_checks _ _ c.skip-a.ensures) c.in-At.is).1, cut _ _ _ c.read-f.ensures c.in-Cut.is) record
-        { step = refl }
+    { step = refl }
 
 pub returns-else-good : goal.returns-else-good
 unfolding enum_body
 returns-else-good c =
-    rw ((stepped (bit_checks _ _ c.skip-a.ensures) c.in-At.is).1, value c.read-f.ensures c.in-Value.is, known
-        c.in_range-good.ensures c.if-good.false) record { step = refl }
+    rw (
+      (stepped (bit_checks _ _ c.skip-a.ensures) c.in-At.is).1,
+      value c.read-f.ensures c.in-Value.is,
+      known
+          c.in_range-good.ensures c.if-good.false,
+    ) record { step = refl }

@@ -31,6 +31,10 @@ loop-i-preserved c =
     )
 
 pub returns : goal.returns
-returns c =
-    (fill_done (position_of (item _ _)) _ _ _ c.loop-i.invariant.3 (omega arith) (omega arith), record { gathered =
-        c.loop-i.invariant.4 ∙ fold_done mark_item (item _ _) _ _ _ _ _ c.loop-i-test.false })
+returns c = (
+  fill_done (position_of (item _ _)) _ _ _ c.loop-i.invariant.3 (omega arith) (omega arith),
+  record {
+    gathered =
+        c.loop-i.invariant.4 ∙ fold_done mark_item (item _ _) _ _ _ _ _ c.loop-i-test.false;
+  },
+)

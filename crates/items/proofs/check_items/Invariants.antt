@@ -12,10 +12,10 @@ use Rattle.items.proofs.check_items.Given as goal
 abbrev pub invariant-loop-i : goal.invariant-loop-i
 invariant-loop-i l =
     (l.i ≤ l.items) × (length l.offsets ≡ length l.initial.offsets) × (length l.marks ≡ length l.initial.marks) ×
-        Filling (position_of (item (names_at l.s l.names) l.items)) l.s l.items l.initial.next.at l.i l.offsets
-        l.next.at × (folded mark_item (item (names_at l.s l.names) l.items) l.s l.items l.initial.next.at
-        l.initial.marks ≡ folded mark_item (item (names_at l.s l.names) l.items) l.s (l.items - l.i) l.next.at
-        l.marks)
+    Filling (position_of (item (names_at l.s l.names) l.items)) l.s l.items l.initial.next.at l.i l.offsets
+    l.next.at × (folded mark_item (item (names_at l.s l.names) l.items) l.s l.items l.initial.next.at
+    l.initial.marks ≡ folded mark_item (item (names_at l.s l.names) l.items) l.s (l.items - l.i) l.next.at
+    l.marks)
 
 abbrev pub decreases-loop-i : goal.decreases-loop-i
 decreases-loop-i l = l.items - l.i

@@ -9,9 +9,9 @@ returns-in-Fault c = struct_cut _ _ _ (stopped (bit_checks _ _ c.skip-a.ensures)
 pub returns-in-Cut : goal.returns-in-Cut
 returns-in-Cut c =
     struct_short _ _ _ (stepped (bit_checks _ _ c.skip-a.ensures) c.in-At.is).1 (cut _ _ _ c.read-f.ensures
-        c.in-Cut.is)
+    c.in-Cut.is)
 
 pub returns-in-Value : goal.returns-in-Value
 returns-in-Value c =
     struct_marks _ _ _ (stepped (bit_checks _ _ c.skip-a.ensures) c.in-At.is).1 (value c.read-f.ensures c.in-Value.is)
-        c.check_types.ensures
+    c.check_types.ensures

@@ -8,7 +8,7 @@ overflow_add-k c = omega (arith, c.requires.0.few)
 pub returns-then-marks-k-eq1 : goal.returns-then-marks-k-eq1
 returns-then-marks-k-eq1 c =
     error_marked c.args.s.now c.args.names.now c.args.items.now c.args.marks.now c.args.i c.if-marks-k-eq1.true
-        c.pointer_bit.ensures
+    c.pointer_bit.ensures
 
 pub returns : goal.returns
 returns c =

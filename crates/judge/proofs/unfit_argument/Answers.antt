@@ -18,14 +18,16 @@ indirect_error-bad-requires c = (c.requires.0, c.loop-i-test.true)
 pub returns-then-bad : goal.returns-then-bad
 returns-then-bad c =
     sym (c.loop-i.invariant.1 ∙ some_yes (indirect_error c.args.s.now c.args.names.now c.args.items.now
-        c.args.marks.now) _ _ c.loop-i-test.true (sym c.indirect_error-bad.ensures ∙ c.if-bad.true))
+    c.args.marks.now) _ _ c.loop-i-test.true (sym c.indirect_error-bad.ensures ∙ c.if-bad.true))
 
 pub loop-i-preserved : goal.loop-i-preserved
-loop-i-preserved c =
-    (omega arith, c.loop-i.invariant.1 ∙ some_turn (indirect_error c.args.s.now c.args.names.now c.args.items.now
-        c.args.marks.now) _ _ c.loop-i-test.true (sym c.indirect_error-bad.ensures ∙ c.if-bad.false))
+loop-i-preserved c = (
+  omega arith,
+  c.loop-i.invariant.1 ∙ some_turn (indirect_error c.args.s.now c.args.names.now c.args.items.now
+      c.args.marks.now) _ _ c.loop-i-test.true (sym c.indirect_error-bad.ensures ∙ c.if-bad.false),
+)
 
 pub returns : goal.returns
 returns c =
     sym (c.loop-i.invariant.1 ∙ some_end (indirect_error c.args.s.now c.args.names.now c.args.items.now
-        c.args.marks.now) _ _ c.loop-i-test.false)
+    c.args.marks.now) _ _ c.loop-i-test.false)

@@ -15,14 +15,16 @@ named_function-wrong-requires c = (c.requires.0, c.loop-i-test.true)
 pub returns-then-wrong : goal.returns-then-wrong
 returns-then-wrong c =
     sym (c.loop-i.invariant.1 ∙ some_yes (named_function c.args.s.now c.args.names.now c.args.items.now
-        c.args.marks.now) _ _ c.loop-i-test.true (sym c.named_function-wrong.ensures ∙ c.if-wrong.true))
+    c.args.marks.now) _ _ c.loop-i-test.true (sym c.named_function-wrong.ensures ∙ c.if-wrong.true))
 
 pub loop-i-preserved : goal.loop-i-preserved
-loop-i-preserved c =
-    (omega arith, c.loop-i.invariant.1 ∙ some_turn (named_function c.args.s.now c.args.names.now c.args.items.now
-        c.args.marks.now) _ _ c.loop-i-test.true (sym c.named_function-wrong.ensures ∙ c.if-wrong.false))
+loop-i-preserved c = (
+  omega arith,
+  c.loop-i.invariant.1 ∙ some_turn (named_function c.args.s.now c.args.names.now c.args.items.now
+      c.args.marks.now) _ _ c.loop-i-test.true (sym c.named_function-wrong.ensures ∙ c.if-wrong.false),
+)
 
 pub returns : goal.returns
 returns c =
     sym (c.loop-i.invariant.1 ∙ some_end (named_function c.args.s.now c.args.names.now c.args.items.now
-        c.args.marks.now) _ _ c.loop-i-test.false)
+    c.args.marks.now) _ _ c.loop-i-test.false)

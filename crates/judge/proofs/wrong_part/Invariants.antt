@@ -10,7 +10,7 @@ use Rattle.judge.proofs.wrong_part.Given as goal
 abbrev pub invariant-loop-i : goal.invariant-loop-i
 invariant-loop-i l =
     (l.i ≤ length l.items) × (wrong_part (items_at l.s l.names l.items) ≡ some_from (named_function l.s l.names
-        l.items l.marks) l.i (length l.items - l.i))
+    l.items l.marks) l.i (length l.items - l.i))
 
 abbrev pub decreases-loop-i : goal.decreases-loop-i
 decreases-loop-i l = length l.items - l.i

@@ -12,10 +12,17 @@ pub overflow_add-n : goal.overflow_add-n
 overflow_add-n c = omega (arith, c.one_if-n.ensures, one_low (eqb c.args.k (get_or c.args.keys.now c.loop-j.j 0)))
 
 pub loop-j-preserved : goal.loop-j-preserved
-loop-j-preserved c =
-    (omega arith, omega (arith, c.one_if-n.ensures, one_low (eqb c.args.k (get_or c.args.keys.now c.loop-j.j 0))),
-        omega (arith, c.loop-j.invariant.2, c.one_if-n.ensures, count_turn c.args.k c.args.keys.now c.loop-j.j
-        c.loop-j-test.true))
+loop-j-preserved c = (
+  omega arith,
+  omega (arith, c.one_if-n.ensures, one_low (eqb c.args.k (get_or c.args.keys.now c.loop-j.j 0))),
+  omega (
+    arith,
+    c.loop-j.invariant.2,
+    c.one_if-n.ensures,
+    count_turn c.args.k c.args.keys.now c.loop-j.j
+        c.loop-j-test.true,
+  ),
+)
 
 pub returns : goal.returns
 returns c = omega (arith, c.loop-j.invariant.2, count_end c.args.k c.args.keys.now c.loop-j.j c.loop-j-test.false)

@@ -20,10 +20,12 @@ returns-then-seen_before c =
     keys_hit c.args.keys.now c.loop-i.seen c.loop-i.i c.loop-i-test.true c.seen_before.ensures c.if-seen_before.true
 
 pub loop-i-preserved : goal.loop-i-preserved
-loop-i-preserved c =
-    (omega arith, length-set c.loop-i.seen (get_or c.args.keys.now c.loop-i.i 0 % 256) 1 ∙ c.loop-i.invariant.1,
-        keys_turn c.args.keys.now c.loop-i.seen c.loop-i.i c.loop-i-test.true c.seen_before.ensures
-        c.loop-i.invariant.1 c.loop-i.invariant.2 c.if-seen_before.false)
+loop-i-preserved c = (
+  omega arith,
+  length-set c.loop-i.seen (get_or c.args.keys.now c.loop-i.i 0 % 256) 1 ∙ c.loop-i.invariant.1,
+  keys_turn c.args.keys.now c.loop-i.seen c.loop-i.i c.loop-i-test.true c.seen_before.ensures
+      c.loop-i.invariant.1 c.loop-i.invariant.2 c.if-seen_before.false,
+)
 
 pub returns : goal.returns
 returns c = apart_all c.args.keys.now c.loop-i.seen c.loop-i.i c.loop-i-test.false c.loop-i.invariant.2

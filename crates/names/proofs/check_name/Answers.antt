@@ -13,8 +13,12 @@ overflow_mul-behind c = omega (arith, field_lt 6 _ _ (value c.read-f.ensures c.i
 
 pub overflow_add-behind : goal.overflow_add-behind
 overflow_add-behind c =
-    omega (arith, field_lt 6 _ _ (value c.read-f.ensures c.in-Value.is), field_end 6 _ _ (value c.read-f.ensures
-        c.in-Value.is))
+    omega (
+      arith,
+      field_lt 6 _ _ (value c.read-f.ensures c.in-Value.is),
+      field_end 6 _ _ (value c.read-f.ensures
+          c.in-Value.is),
+    )
 
 pub returns-then-end_of-behind : goal.returns-then-end_of-behind
 returns-then-end_of-behind c =
@@ -35,4 +39,4 @@ returns-in-Good c =
 pub returns-in-Bad : goal.returns-in-Bad
 returns-in-Bad c =
     name_bad (sheet_name (table_of c.args.edition)) _ _ (value c.read-f.ensures c.in-Value.is) (omega arith)
-        (told_bad _ _ c.judge_name-r.ensures c.in-Bad.is)
+    (told_bad _ _ c.judge_name-r.ensures c.in-Bad.is)

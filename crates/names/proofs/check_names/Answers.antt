@@ -33,7 +33,7 @@ loop-i-preserved c =
           c.in-At.is).1),
       fill_turn (digest_of d) _ _ _ c.loop-i.invariant.4 c.loop-i-test.true (omega arith)
           (digest_got d (digested c.check_name-r.ensures c.in-At.is).1 (digested c.check_name-r.ensures
-              c.in-At.is).2),
+          c.in-At.is).2),
     )
 
 pub returns : goal.returns

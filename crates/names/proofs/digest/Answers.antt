@@ -14,9 +14,12 @@ pub overflow_add-x : goal.overflow_add-x
 overflow_add-x c = omega (arith, short_fits _ _ c.loop-i.invariant.1 7 (omega arith))
 
 pub loop-i-preserved : goal.loop-i-preserved
-loop-i-preserved c =
-    (omega arith, short_more _ _ c.loop-i.invariant.1 c.to_u64.ensures.1, c.loop-i.invariant.2 ∙ short_turn _ _ _
-        c.loop-i-test.true c.requires c.to_u64.ensures.0 refl)
+loop-i-preserved c = (
+  omega arith,
+  short_more _ _ c.loop-i.invariant.1 c.to_u64.ensures.1,
+  c.loop-i.invariant.2 ∙ short_turn _ _ _
+      c.loop-i-test.true c.requires c.to_u64.ensures.0 refl,
+)
 
 pub mix-requires : goal.mix-requires
 mix-requires c = (omega arith, omega (arith, short_fits _ _ c.loop-i.invariant.1 8 (omega arith)))

@@ -9,34 +9,51 @@ use Rattle.names.proofs.JudgeLaws.{state_start, state_turn, state_end, judged_go
 use Rattle.names.proofs.judge_name.Goals as goal
 
 pub loop-next-init : goal.loop-next-init
-loop-next-init c =
-    (omega arith, omega arith, omega arith, digest_start _ _ _ _, rw c.start-q.ensures (λ l. omega arith), rw
-        c.start-q.ensures (state_start (words_in c.args.t.now) _ _ _ _))
+loop-next-init c = (
+  omega arith,
+  omega arith,
+  omega arith,
+  digest_start _ _ _ _,
+  rw c.start-q.ensures (λ l. omega arith),
+  rw
+      c.start-q.ensures (state_start (words_in c.args.t.now) _ _ _ _),
+)
 
 pub mix-h-requires : goal.mix-h-requires
 mix-h-requires c = (c.loop-next.invariant.2, omega (arith, bits_short _ _ _ c.extract_wide-x.ensures (omega arith)))
 
 pub walk-q-requires : goal.walk-q-requires
-walk-q-requires c =
-    (c.requires.0, c.loop-next.invariant.4, omega (arith, c.window_bits-bits.ensures), omega
-        (arith, c.window_bits-bits.ensures, c.loop-next.invariant.1), rw c.extract_wide-x.ensures (bits_lt _ _ _))
+walk-q-requires c = (
+  c.requires.0,
+  c.loop-next.invariant.4,
+  omega (arith, c.window_bits-bits.ensures),
+  omega
+      (arith, c.window_bits-bits.ensures, c.loop-next.invariant.1),
+  rw c.extract_wide-x.ensures (bits_lt _ _ _),
+)
 
 pub loop-next-preserved : goal.loop-next-preserved
-loop-next-preserved c =
-    (omega arith, omega arith, c.mix-h.ensures.1, c.loop-next.invariant.3 ∙ digest_turn _ _ c.loop-next-test.true
-        c.loop-next.invariant.1 c.window_bits-bits.ensures c.extract_wide-x.ensures c.mix-h.ensures.0, rw
-        c.walk-q.ensures (fits_walk (words_in c.args.t.now) _ _ c.loop-next.invariant.4), c.loop-next.invariant.5 ∙
-        state_turn (words_in c.args.t.now) _ _ c.loop-next-test.true c.loop-next.invariant.1
-        c.window_bits-bits.ensures c.extract_wide-x.ensures c.walk-q.ensures)
+loop-next-preserved c = (
+  omega arith,
+  omega arith,
+  c.mix-h.ensures.1,
+  c.loop-next.invariant.3 ∙ digest_turn _ _ c.loop-next-test.true
+      c.loop-next.invariant.1 c.window_bits-bits.ensures c.extract_wide-x.ensures c.mix-h.ensures.0,
+  rw
+      c.walk-q.ensures (fits_walk (words_in c.args.t.now) _ _ c.loop-next.invariant.4),
+  c.loop-next.invariant.5 ∙
+      state_turn (words_in c.args.t.now) _ _ c.loop-next-test.true c.loop-next.invariant.1
+      c.window_bits-bits.ensures c.extract_wide-x.ensures c.walk-q.ensures,
+)
 
 pub returns-then-good : goal.returns-then-good
 returns-then-good c =
     judged_good c.requires.0 _ _ (c.loop-next.invariant.5 ∙ state_end (words_in c.args.t.now) _ _
-        c.loop-next-test.false) (c.loop-next.invariant.3 ∙ digest_end _ _ c.loop-next-test.false)
-        c.verdict-good.ensures c.if-good.true
+    c.loop-next-test.false) (c.loop-next.invariant.3 ∙ digest_end _ _ c.loop-next-test.false)
+    c.verdict-good.ensures c.if-good.true
 
 pub returns : goal.returns
 returns c =
     judged_bad c.requires.0 _ _ (c.loop-next.invariant.5 ∙ state_end (words_in c.args.t.now) _ _
-        c.loop-next-test.false) (c.loop-next.invariant.3 ∙ digest_end _ _ c.loop-next-test.false)
-        c.verdict-good.ensures c.if-good.false
+    c.loop-next-test.false) (c.loop-next.invariant.3 ∙ digest_end _ _ c.loop-next-test.false)
+    c.verdict-good.ensures c.if-good.false

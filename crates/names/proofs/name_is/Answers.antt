@@ -10,4 +10,4 @@ bounds-digests-k c = omega (arith, ap length c.requires.1, digests_length c.args
 pub returns-then-digests-k : goal.returns-then-digests-k
 returns-then-digests-k c =
     sym (unlike c.args.s.now c.args.names.now c.args.text.now c.requires.1 c.requires.2 c.digest-h.ensures
-        c.if-digests-k.true)
+    c.if-digests-k.true)

@@ -14,4 +14,4 @@ returns-then-not-needed c =
 pub returns : goal.returns
 returns c =
     direct_shares _ _ _ _ _ _ c.needs_forward_declaration-needed.ensures (not-false _ (ap not c.if-not-needed.false))
-        c.item-v.ensures.1 c.item-v.ensures.0 c.shares.ensures c.depth_at-own.ensures c.if-own-depth.false
+    c.item-v.ensures.1 c.item-v.ensures.0 c.shares.ensures c.depth_at-own.ensures c.if-own-depth.false

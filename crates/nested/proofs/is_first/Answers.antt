@@ -16,9 +16,11 @@ pub overflow_add-k : goal.overflow_add-k
 overflow_add-k c = omega (arith, c.requires.2.there, c.requires.0.few)
 
 pub loop-k-preserved : goal.loop-k-preserved
-loop-k-preserved c =
-    (omega arith, first_turn _ _ _ c.requires.2 _ (omega arith) c.is_member-found.ensures c.if-found.false
-        c.loop-k.invariant.1)
+loop-k-preserved c = (
+  omega arith,
+  first_turn _ _ _ c.requires.2 _ (omega arith) c.is_member-found.ensures c.if-found.false
+      c.loop-k.invariant.1,
+)
 
 pub returns : goal.returns
 returns c = first_end _ _ _ c.requires.2 _ c.loop-k.k (omega arith) (omega arith) c.loop-k.invariant.1

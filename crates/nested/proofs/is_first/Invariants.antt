@@ -10,7 +10,7 @@ use Rattle.nested.proofs.is_first.Given as goal
 abbrev pub invariant-loop-k : goal.invariant-loop-k
 invariant-loop-k l =
     (l.k ≤ l.v.number) × (any (belongs (item_no l.s l.names l.items l.v.number) l.depth) (take l.k (items_at l.s
-        l.names l.items)) ≡ false)
+    l.names l.items)) ≡ false)
 
 abbrev pub decreases-loop-k : goal.decreases-loop-k
 decreases-loop-k l = l.v.number - l.k

@@ -11,4 +11,4 @@ returns-then-not-needed c =
 pub returns : goal.returns
 returns c =
     member_shares _ _ _ _ _ _ c.needs_forward_declaration-needed.ensures (not-false _ (ap not c.if-not-needed.false))
-        c.item-v.ensures.1 c.item-v.ensures.0 c.shares.ensures
+    c.item-v.ensures.1 c.item-v.ensures.0 c.shares.ensures

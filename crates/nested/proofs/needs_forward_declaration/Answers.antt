@@ -3,9 +3,12 @@ use Rattle.nested.proofs.ViewLaws.{needs_kind, needs_enum, enum_kind}
 use Rattle.nested.proofs.needs_forward_declaration.Goals as goal
 
 pub enum_of-e-requires : goal.enum_of-e-requires
-enum_of-e-requires c =
-    (c.requires.0, c.item-v.ensures.1, enum_kind c.item-v.ensures.1 c.item-v.ensures.0 c.kind_at-kind.ensures
-        c.in-Enum.is)
+enum_of-e-requires c = (
+  c.requires.0,
+  c.item-v.ensures.1,
+  enum_kind c.item-v.ensures.1 c.item-v.ensures.0 c.kind_at-kind.ensures
+      c.in-Enum.is,
+)
 
 pub returns-in-Struct : goal.returns-in-Struct
 returns-in-Struct c = needs_kind _ _ _ _ c.kind_at-kind.ensures c.in-Struct.is refl

@@ -21,9 +21,12 @@ pub overflow_add-i : goal.overflow_add-i
 overflow_add-i c = omega (arith, c.requires.0.few)
 
 pub loop-i-preserved : goal.loop-i-preserved
-loop-i-preserved c =
-    (omega arith, omega arith, next_turn _ _ _ _ _ _ (omega arith) c.opens-found.ensures c.loop-i.invariant.2
-        c.if-found.false)
+loop-i-preserved c = (
+  omega arith,
+  omega arith,
+  next_turn _ _ _ _ _ _ (omega arith) c.opens-found.ensures c.loop-i.invariant.2
+      c.if-found.false,
+)
 
 pub returns : goal.returns
 returns c = next_end_lem _ _ _ _ _ _ c.loop-i.i refl (omega arith) (omega arith) (omega arith) c.loop-i.invariant.2

@@ -8,8 +8,8 @@ use Rattle.nested.proofs.next_namespace.Given as goal
 abbrev pub invariant-loop-i : goal.invariant-loop-i
 invariant-loop-i l =
     (l.from ≤ l.i) × (l.i ≤ length l.items) × (names_before (items_at l.s l.names l.items) (item_no l.s l.names
-        l.items l.leader.number) l.depth l.i ≡ names_before (items_at l.s l.names l.items) (item_no l.s l.names
-        l.items l.leader.number) l.depth l.from)
+    l.items l.leader.number) l.depth l.i ≡ names_before (items_at l.s l.names l.items) (item_no l.s l.names
+    l.items l.leader.number) l.depth l.from)
 
 abbrev pub decreases-loop-i : goal.decreases-loop-i
 decreases-loop-i l = length l.items - l.i

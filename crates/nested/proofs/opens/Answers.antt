@@ -15,8 +15,8 @@ returns-then-not-needed c =
 pub returns-then-not-inside : goal.returns-then-not-inside
 returns-then-not-inside c =
     opens_outside _ _ _ _ _ _ c.needs_forward_declaration-needed.ensures (not-false _ (ap not c.if-not-needed.false))
-        c.item-v.ensures.1 c.item-v.ensures.0 c.shares-inside.ensures c.depth_at-own.ensures c.if-own-depth.false
-        (not-true _ (ap not c.if-not-inside.true))
+    c.item-v.ensures.1 c.item-v.ensures.0 c.shares-inside.ensures c.depth_at-own.ensures c.if-own-depth.false
+    (not-true _ (ap not c.if-not-inside.true))
 
 pub overflow_add-deeper : goal.overflow_add-deeper
 overflow_add-deeper c =
@@ -25,5 +25,5 @@ overflow_add-deeper c =
 pub returns : goal.returns
 returns c =
     opens_inside _ _ _ _ _ _ c.needs_forward_declaration-needed.ensures (not-false _ (ap not c.if-not-needed.false))
-        c.item-v.ensures.1 c.item-v.ensures.0 c.shares-inside.ensures c.depth_at-own.ensures c.if-own-depth.false
-        (not-false _ (ap not c.if-not-inside.false)) c.is_first.ensures
+    c.item-v.ensures.1 c.item-v.ensures.0 c.shares-inside.ensures c.depth_at-own.ensures c.if-own-depth.false
+    (not-false _ (ap not c.if-not-inside.false)) c.is_first.ensures

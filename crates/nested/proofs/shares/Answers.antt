@@ -27,16 +27,18 @@ alike-equal-requires c = (c.requires.0.named, c.requires.1, c.namespace-a.ensure
 pub returns-then-not-equal : goal.returns-then-not-equal
 returns-then-not-equal c =
     spaces_differ c.requires.2 c.requires.3 _ (omega arith) (omega arith) (omega arith) c.namespace-a.ensures.1
-        c.namespace-b.ensures.1 c.alike-equal.ensures c.loop-d.invariant.1 (not-true _ (ap not c.if-not-equal.true))
+    c.namespace-b.ensures.1 c.alike-equal.ensures c.loop-d.invariant.1 (not-true _ (ap not c.if-not-equal.true))
 
 pub overflow_add-d : goal.overflow_add-d
 overflow_add-d c = omega (arith, c.requires.2.view.shallow)
 
 pub loop-d-preserved : goal.loop-d-preserved
-loop-d-preserved c =
-    (omega arith, spaces_turn c.requires.2 c.requires.3 _ (omega arith) (omega arith) (omega arith)
-        c.namespace-a.ensures.1 c.namespace-b.ensures.1 c.alike-equal.ensures c.loop-d.invariant.1 (not-false _
-        (ap not c.if-not-equal.false)))
+loop-d-preserved c = (
+  omega arith,
+  spaces_turn c.requires.2 c.requires.3 _ (omega arith) (omega arith) (omega arith)
+      c.namespace-a.ensures.1 c.namespace-b.ensures.1 c.alike-equal.ensures c.loop-d.invariant.1 (not-false _
+      (ap not c.if-not-equal.false)),
+)
 
 pub returns : goal.returns
 returns c = spaces_end c.requires.2 c.requires.3 _ (omega arith) c.loop-d.invariant.1

@@ -8,8 +8,8 @@ use Rattle.nested.proofs.shares.Given as goal
 abbrev pub invariant-loop-d : goal.invariant-loop-d
 invariant-loop-d l =
     (l.d ≤ l.depth) × (shared l.depth (item_no l.s l.names l.items l.v.number).namespace (item_no l.s l.names l.items
-        l.w.number).namespace ≡ shared (l.depth - l.d) (drop l.d (item_no l.s l.names l.items l.v.number).namespace)
-        (drop l.d (item_no l.s l.names l.items l.w.number).namespace))
+    l.w.number).namespace ≡ shared (l.depth - l.d) (drop l.d (item_no l.s l.names l.items l.v.number).namespace)
+    (drop l.d (item_no l.s l.names l.items l.w.number).namespace))
 
 abbrev pub decreases-loop-d : goal.decreases-loop-d
 decreases-loop-d l = l.depth - l.d

@@ -10,7 +10,7 @@ kept_length-n-requires c = omega (arith, c.requires.1.room)
 pub returns-then-n-gt0 : goal.returns-then-n-gt0
 returns-then-n-gt0 c =
     list_counted _ _ c.if-out-at.true (omega arith) c.put_when-next.ensures (kept c.kept_length-n.ensures
-        c.requires.1.operands) c.if-n-gt0.true c.advance.ensures
+    c.requires.1.operands) c.if-n-gt0.true c.advance.ensures
 
 pub loop-j-init : goal.loop-j-init
 loop-j-init c = (omega arith, listed_none _ _ _ _)
@@ -19,9 +19,11 @@ pub write_operand-here-requires : goal.write_operand-here-requires
 write_operand-here-requires c = (c.requires.0, c.requires.1.arguments, omega arith, omega (arith, c.requires.1.room))
 
 pub loop-j-preserved : goal.loop-j-preserved
-loop-j-preserved c =
-    (omega arith, listed_argument _ c.requires.1.arguments (omega arith) c.loop-j.invariant.1
-        c.put_when-behind.ensures c.write_operand-here.ensures)
+loop-j-preserved c = (
+  omega arith,
+  listed_argument _ c.requires.1.arguments (omega arith) c.loop-j.invariant.1
+      c.put_when-behind.ensures c.write_operand-here.ensures,
+)
 
 pub returns : goal.returns
 returns c = listed_arguments _ c.requires.1.arguments (omega arith) c.loop-j.invariant.1

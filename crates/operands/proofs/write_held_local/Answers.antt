@@ -24,7 +24,7 @@ returns-then-held c =
     let a = argument_at_lem c.requires.1 c.requires.2 c.argument-a.ensures in
     local_written _ a.0 (held_is a.1 c.is_held-held.ensures) c.if-held.true (c.put_bytes-begun.ensures ▷
     c.write_outermost-typed.ensures ▷ c.put_bytes-closed.ensures ▷ c.put_name_of-named.ensures ▷
-        c.put_bytes-moved.ensures ▷
+    c.put_bytes-moved.ensures ▷
     c.put_name_of-held_name.ensures ▷ c.put_bytes.ensures)
 
 pub returns : goal.returns

@@ -11,7 +11,7 @@ kept_length-n-requires c = omega (arith, c.requires.1.room)
 pub returns-then-n-gt0 : goal.returns-then-n-gt0
 returns-then-n-gt0 c =
     wrote_counted c.if-out-at.true (kept c.kept_length-n.ensures c.requires.1.held) c.if-n-gt0.true (omega arith)
-        c.advance.ensures
+    c.advance.ensures
 
 pub loop-j-init : goal.loop-j-init
 loop-j-init c = (omega arith, gathered_none _ _ _)
@@ -21,9 +21,11 @@ write_held_local-here-requires c =
     (c.requires.0, c.requires.1.arguments, omega arith, omega (arith, c.requires.1.room))
 
 pub loop-j-preserved : goal.loop-j-preserved
-loop-j-preserved c =
-    (omega arith, gathered_argument _ c.requires.1.arguments (omega arith) c.loop-j.invariant.1
-        c.write_held_local-here.ensures)
+loop-j-preserved c = (
+  omega arith,
+  gathered_argument _ c.requires.1.arguments (omega arith) c.loop-j.invariant.1
+      c.write_held_local-here.ensures,
+)
 
 pub returns : goal.returns
 returns c = gathered_arguments _ c.requires.1.arguments (omega arith) c.loop-j.invariant.1

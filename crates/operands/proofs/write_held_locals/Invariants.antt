@@ -8,7 +8,7 @@ use Rattle.operands.proofs.write_held_locals.Given as goal
 abbrev pub invariant-loop-j : goal.invariant-loop-j
 invariant-loop-j l =
     (l.j ≤ l.f.arguments) × Gathered (held_local (items_of l.s l.t)) (function_of l.s l.t l.f.number).arguments l.j
-        (sink l.initial.out l.initial.here) (sink l.out l.here)
+    (sink l.initial.out l.initial.here) (sink l.out l.here)
 
 abbrev pub decreases-loop-j : goal.decreases-loop-j
 decreases-loop-j l = l.f.arguments - l.j

@@ -9,11 +9,11 @@ write_arguments-listed-requires c = (c.requires.0, c.requires.2)
 pub returns-then-indirect : goal.returns-then-indirect
 returns-then-indirect c =
     operands_written c.requires.1 c.requires.2.arguments c.requires.3 c.is_method-method.ensures
-        c.put_when-received.ensures c.write_arguments-listed.ensures c.needs_comma-comma.ensures (first_text _
-        c.if-indirect.true (c.put_when-behind.ensures ▷ c.put_bytes.ensures))
+    c.put_when-received.ensures c.write_arguments-listed.ensures c.needs_comma-comma.ensures (first_text _
+    c.if-indirect.true (c.put_when-behind.ensures ▷ c.put_bytes.ensures))
 
 pub returns : goal.returns
 returns c =
     operands_written c.requires.1 c.requires.2.arguments c.requires.3 c.is_method-method.ensures
-        c.put_when-received.ensures c.write_arguments-listed.ensures refl (second_text _ c.if-indirect.false
-        (wrote_nil _))
+    c.put_when-received.ensures c.write_arguments-listed.ensures refl (second_text _ c.if-indirect.false
+    (wrote_nil _))

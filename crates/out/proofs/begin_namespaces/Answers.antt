@@ -10,11 +10,16 @@ pub name_index-name-requires : goal.name_index-name-requires
 name_index-name-requires c = (c.requires.0, c.requires.3.near, omega (arith, c.requires.3.shallow))
 
 pub push_block_boundary-requires : goal.push_block_boundary-requires
-push_block_boundary-requires c =
-    (c.requires.0, c.requires.1, beginning_listed _ _ c.requires.3 _ c.loop-d-test.true c.loop-d.invariant
-        c.name_index-name.ensures c.requires.2, beginning_known _ _ c.requires.3 _ c.loop-d-test.true
-        c.loop-d.invariant c.name_index-name.ensures, beginning_room _ _ c.requires.3 _ c.loop-d-test.true
-        c.loop-d.invariant c.name_index-name.ensures c.requires.2)
+push_block_boundary-requires c = (
+  c.requires.0,
+  c.requires.1,
+  beginning_listed _ _ c.requires.3 _ c.loop-d-test.true c.loop-d.invariant
+      c.name_index-name.ensures c.requires.2,
+  beginning_known _ _ c.requires.3 _ c.loop-d-test.true
+      c.loop-d.invariant c.name_index-name.ensures,
+  beginning_room _ _ c.requires.3 _ c.loop-d-test.true
+      c.loop-d.invariant c.name_index-name.ensures c.requires.2,
+)
 
 pub overflow_add-d : goal.overflow_add-d
 overflow_add-d c = omega (arith, c.requires.3.shallow)
@@ -22,7 +27,7 @@ overflow_add-d c = omega (arith, c.requires.3.shallow)
 pub loop-d-preserved : goal.loop-d-preserved
 loop-d-preserved c =
     beginning_turn _ _ c.requires.3 _ c.loop-d-test.true c.loop-d.invariant c.name_index-name.ensures
-        c.push_block_boundary.ensures
+    c.push_block_boundary.ensures
 
 pub returns : goal.returns
 returns c = beginning_done _ _ _ c.requires.3 c.loop-d-test.false c.loop-d.invariant

@@ -6,9 +6,13 @@ same_block-requires c =
     (c.requires.0, c.requires.1, known_begin _ c.in-Begin.is c.requires.2, known_end _ c.in-End-last.is c.requires.3)
 
 pub same_block-requires-in-Begin-last-2 : goal.same_block-requires-in-Begin-last-2
-same_block-requires-in-Begin-last-2 c =
-    (c.requires.0, c.requires.1, known_end _ c.in-End.is c.requires.2, known_begin _ c.in-Begin-last-2.is
-        c.requires.3)
+same_block-requires-in-Begin-last-2 c = (
+  c.requires.0,
+  c.requires.1,
+  known_end _ c.in-End.is c.requires.2,
+  known_begin _ c.in-Begin-last-2.is
+      c.requires.3,
+)
 
 pub returns-in-Begin-last : goal.returns-in-Begin-last
 returns-in-Begin-last c = begin_begin _ _ c.in-Begin.is c.in-Begin-last.is

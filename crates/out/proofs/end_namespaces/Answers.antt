@@ -18,22 +18,31 @@ loop-d-init c = ending_none _ _ _
 pub name_index-name-requires : goal.name_index-name-requires
 unfolding content_of
 name_index-name-requires c =
-    rw c.new-spaces.ensures (c.requires.0, c.requires.2.there.stands.spaces.near, omega
-        (arith, c.loop-d.invariant.few, c.requires.2.there.stands.spaces.shallow))
+    rw c.new-spaces.ensures (
+      c.requires.0,
+      c.requires.2.there.stands.spaces.near,
+      omega
+          (arith, c.loop-d.invariant.few, c.requires.2.there.stands.spaces.shallow),
+    )
 
 pub push_block_boundary-requires : goal.push_block_boundary-requires
 unfolding content_of
-push_block_boundary-requires c =
-    (c.requires.0, c.requires.1, ending_listed _ _ _ c.loop-d-test.true c.loop-d.invariant (rw c.new-spaces.ensures at
-        c.name_index-name.ensures) c.requires.2, ending_known _ _ _ c.loop-d-test.true c.loop-d.invariant
-        (rw c.new-spaces.ensures at c.name_index-name.ensures) c.requires.2, ending_room _ _ _ c.loop-d-test.true
-        c.loop-d.invariant (rw c.new-spaces.ensures at c.name_index-name.ensures) c.requires.2)
+push_block_boundary-requires c = (
+  c.requires.0,
+  c.requires.1,
+  ending_listed _ _ _ c.loop-d-test.true c.loop-d.invariant (rw c.new-spaces.ensures at
+      c.name_index-name.ensures) c.requires.2,
+  ending_known _ _ _ c.loop-d-test.true c.loop-d.invariant
+      (rw c.new-spaces.ensures at c.name_index-name.ensures) c.requires.2,
+  ending_room _ _ _ c.loop-d-test.true
+      c.loop-d.invariant (rw c.new-spaces.ensures at c.name_index-name.ensures) c.requires.2,
+)
 
 pub loop-d-preserved : goal.loop-d-preserved
 unfolding content_of
 loop-d-preserved c =
     ending_turn _ _ _ c.loop-d-test.true c.loop-d.invariant (rw c.new-spaces.ensures at c.name_index-name.ensures)
-        c.push_block_boundary.ensures
+    c.push_block_boundary.ensures
 
 pub returns : goal.returns
 returns c = ending_done _ _ _ c.loop-d-test.false c.loop-d.invariant

@@ -24,8 +24,10 @@ bounds-c-place c = omega (arith, c.requires.1.few)
 pub overflow_cast-code : goal.overflow_cast-code
 unfolding content_of
 overflow_cast-code c =
-    record { fits = entry_small _ c.args.c.now _ c.requires.0.tabled.whole.named.few (c.requires.1.known _
-        c.loop-i-test.true) }
+    record {
+      fits = entry_small _ c.args.c.now _ c.requires.0.tabled.whole.named.few (c.requires.1.known _
+          c.loop-i-test.true);
+    }
 
 pub flush_boundary-at-requires : goal.flush_boundary-at-requires
 unfolding content_of
@@ -40,7 +42,7 @@ pub loop-i-preserved : goal.loop-i-preserved
 unfolding content_of
 loop-i-preserved c =
     turned_one _ _ _ c.loop-i-test.true c.loop-i.invariant (entry_read c.args.c.now _ c.unpack-boundary.ensures)
-        c.flush_boundary-at.ensures c.is_end-section.ensures
+    c.flush_boundary-at.ensures c.is_end-section.ensures
 
 pub returns : goal.returns
 unfolding content_of

@@ -33,26 +33,32 @@ overflow_cast-code c =
 
 pub cancels-reverse-requires : goal.cancels-reverse-requires
 unfolding content_of
-cancels-reverse-requires c =
-    (c.requires.0, c.requires.1, c.requires.3, rw (entry_read c.args.c.now _ c.unpack-last.ensures)
-        (c.requires.2.known _ (omega arith)))
+cancels-reverse-requires c = (
+  c.requires.0,
+  c.requires.1,
+  c.requires.3,
+  rw (entry_read c.args.c.now _ c.unpack-last.ensures)
+      (c.requires.2.known _ (omega arith)),
+)
 
 pub returns-then-reverse : goal.returns-then-reverse
 unfolding content_of
 returns-then-reverse c =
     pushes_reverse _ _ _ _ c.requires.2 c.requires.3 c.if-n-eq0.false (entry_read c.args.c.now _
-        c.unpack-last.ensures) (sym c.cancels-reverse.ensures ∙ c.if-reverse.true) (place_fewer c.args.c.now
-        (listed_places c.args.c.now c.requires.2))
+    c.unpack-last.ensures) (sym c.cancels-reverse.ensures ∙ c.if-reverse.true) (place_fewer c.args.c.now
+    (listed_places c.args.c.now c.requires.2))
 
 pub append-requires-2 : goal.append-requires-2
 unfolding content_of
-append-requires-2 c =
-    (room_other c.args.s.now _ _ c.args.boundary c.requires.2 c.requires.3 c.if-n-eq0.false (entry_read c.args.c.now _
-        c.unpack-last.ensures) (sym c.cancels-reverse.ensures ∙ c.if-reverse.false) c.requires.4, known_small
-        c.requires.0 c.args.boundary c.requires.3)
+append-requires-2 c = (
+  room_other c.args.s.now _ _ c.args.boundary c.requires.2 c.requires.3 c.if-n-eq0.false (entry_read c.args.c.now _
+      c.unpack-last.ensures) (sym c.cancels-reverse.ensures ∙ c.if-reverse.false) c.requires.4,
+  known_small
+      c.requires.0 c.args.boundary c.requires.3,
+)
 
 pub returns : goal.returns
 unfolding content_of
 returns c =
     pushes_other _ _ _ _ c.requires.2 c.requires.3 c.if-n-eq0.false (entry_read c.args.c.now _ c.unpack-last.ensures)
-        (sym c.cancels-reverse.ensures ∙ c.if-reverse.false) c.requires.4 c.append-2.ensures
+    (sym c.cancels-reverse.ensures ∙ c.if-reverse.false) c.requires.4 c.append-2.ensures

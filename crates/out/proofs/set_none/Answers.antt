@@ -10,8 +10,13 @@ slice_bounds-set_spaces-end c = sym (length-take-le _ _ (omega (arith, c.require
 
 pub set_spaces-requires : goal.set_spaces-requires
 set_spaces-requires c =
-    rw (names_part c.args.t.now) (c.requires.0.whole.named, c.requires.1, c.requires.2, rw c.new-spaces.ensures
-        (no_spaces _ _).1)
+    rw (names_part c.args.t.now) (
+      c.requires.0.whole.named,
+      c.requires.1,
+      c.requires.2,
+      rw c.new-spaces.ensures
+          (no_spaces _ _).1,
+    )
 
 pub returns : goal.returns
 returns c = sets_none _ _ (rw c.new-spaces.ensures at (rw (names_part c.args.t.now) at c.set_spaces.ensures))

@@ -14,5 +14,5 @@ begin_namespaces-requires c =
 pub returns : goal.returns
 returns c =
     rw (place_spaces _ (listed_places _ (standing_turned c.begin_namespaces.ensures (standing_turned
-        c.end_namespaces.ensures c.requires.2)).there.stands.listed) _ _) (sets _ _ c.requires.3
-        c.end_namespaces.ensures c.begin_namespaces.ensures)
+    c.end_namespaces.ensures c.requires.2)).there.stands.listed) _ _) (sets _ _ c.requires.3
+    c.end_namespaces.ensures c.begin_namespaces.ensures)

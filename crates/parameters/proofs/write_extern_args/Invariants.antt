@@ -8,7 +8,7 @@ use Rattle.parameters.proofs.write_extern_args.Given as goal
 abbrev pub invariant-loop-j : goal.invariant-loop-j
 invariant-loop-j l =
     (l.j ≤ l.f.arguments) × Listed (extern_arg (items_of l.s l.t)) l.before (function_of l.s l.t l.f.number).arguments
-        l.j l.comma (sink l.initial.out l.at) (sink l.out l.here)
+    l.j l.comma (sink l.initial.out l.at) (sink l.out l.here)
 
 abbrev pub decreases-loop-j : goal.decreases-loop-j
 decreases-loop-j l = l.f.arguments - l.j

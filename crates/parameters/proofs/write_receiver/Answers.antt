@@ -9,7 +9,7 @@ write_full_name-named-requires c =
 pub returns-then-method : goal.returns-then-method
 returns-then-method c =
     wrote_as (c.write_full_name-named.ensures ▷ c.put_when-qualified.ensures ▷ c.put_bytes.ensures) (receiver_some
-        c.requires.1 c.is_method-method.ensures c.if-method.true)
+    c.requires.1 c.is_method-method.ensures c.if-method.true)
 
 pub returns : goal.returns
 returns c = wrote_as (wrote_nil _) (receiver_none c.requires.1 c.is_method-method.ensures c.if-method.false)

@@ -13,8 +13,8 @@ type_kind-kind-requires c =
 pub returns-then-indirect : goal.returns-then-indirect
 returns-then-indirect c =
     slot_written c.requires.1 c.requires.2 _ c.if-indirect.true c.put_when-next.ensures
-        c.write_slot_type-typed.ensures c.type_kind-kind.ensures c.write_space_after_type-spaced.ensures
-        c.put_bytes.ensures
+    c.write_slot_type-typed.ensures c.type_kind-kind.ensures c.write_space_after_type-spaced.ensures
+    c.put_bytes.ensures
 
 pub returns : goal.returns
 returns c = slot_left c.requires.1 c.requires.2 _ _ c.if-indirect.false

@@ -17,10 +17,10 @@ unpack-requires c = (omega arith, chars_inside _ _ _ (omega arith) c.requires.1,
 pub returns-then-room : goal.returns-then-room
 returns-then-room c =
     wrote_part (chars_held _ _ _ (chars_inside _ _ _ (omega arith) c.requires.1) c.unpack.ensures (omega arith))
-        (chars_count _ _ _ (chars_inside _ _ _ (omega arith) c.requires.1)) (room c.has_room-room.ensures
-        c.if-room.true) (omega arith)
+    (chars_count _ _ _ (chars_inside _ _ _ (omega arith) c.requires.1)) (room c.has_room-room.ensures
+    c.if-room.true) (omega arith)
 
 pub returns : goal.returns
 returns c =
     wrote_none (chars_count _ _ _ (chars_inside _ _ _ (omega arith) c.requires.1)) (no_room c.has_room-room.ensures
-        c.if-room.false) (omega arith) c.advance.ensures
+    c.if-room.false) (omega arith) c.advance.ensures

@@ -10,4 +10,4 @@ prepare-requires c =
 pub returns : goal.returns
 returns c =
     runs_then (runs_asked c.next_section.ensures) (runs_written (some_layout_definition _ _ _) c.prepare.ensures
-        (from_place c.prepare.new.c c.write_layout_definition-at.ensures) c.placed.ensures)
+    (from_place c.prepare.new.c c.write_layout_definition-at.ensures) c.placed.ensures)

@@ -11,9 +11,12 @@ write_layout-requires c =
     (c.requires.0, c.requires.2, representing_after c.requires.3 (runs_set c.set_namespace.ensures))
 
 pub write_layout-requires-2 : goal.write_layout-requires-2
-write_layout-requires-2 c =
-    (c.requires.0, c.requires.2, representing_after (representing_after c.requires.3
-        (runs_set c.set_namespace.ensures)) c.write_layout.ensures)
+write_layout-requires-2 c = (
+  c.requires.0,
+  c.requires.2,
+  representing_after (representing_after c.requires.3
+      (runs_set c.set_namespace.ensures)) c.write_layout.ensures,
+)
 
 pub returns : goal.returns
 unfolding write_opaque_type_layout

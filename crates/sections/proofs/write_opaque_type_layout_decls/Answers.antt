@@ -11,14 +11,19 @@ set_namespace-requires c =
     (c.requires.0.tabled, c.requires.1, stood_standing (representing_stood c.requires.3), c.requires.2)
 
 pub begin_extern_c-requires : goal.begin_extern_c-requires
-begin_extern_c-requires c =
-    (c.requires.0.tabled, c.requires.1, stood_standing (stood_set (representing_stood c.requires.3)
-        c.set_namespace.ensures))
+begin_extern_c-requires c = (
+  c.requires.0.tabled,
+  c.requires.1,
+  stood_standing (stood_set (representing_stood c.requires.3)
+      c.set_namespace.ensures),
+)
 
 pub prepare-requires : goal.prepare-requires
-prepare-requires c =
-    (c.requires.0, stood_listed (stood_turned (stood_set (representing_stood c.requires.3) c.set_namespace.ensures)
-        c.begin_extern_c.ensures))
+prepare-requires c = (
+  c.requires.0,
+  stood_listed (stood_turned (stood_set (representing_stood c.requires.3) c.set_namespace.ensures)
+      c.begin_extern_c.ensures),
+)
 
 pub write_layout_decl-next-requires : goal.write_layout_decl-next-requires
 write_layout_decl-next-requires c = (c.requires.0, c.requires.2)
@@ -27,15 +32,18 @@ pub write_layout_decl-at-requires : goal.write_layout_decl-at-requires
 write_layout_decl-at-requires c = (c.requires.0, c.requires.2)
 
 pub end_extern_c-requires : goal.end_extern_c-requires
-end_extern_c-requires c =
-    (c.requires.0.tabled, c.requires.1, stood_standing (stood_placed (stood_ready (stood_turned
-        (stood_set (representing_stood c.requires.3) c.set_namespace.ensures) c.begin_extern_c.ensures)
-        c.prepare.ensures) (from_place c.prepare.new.c (c.write_layout_decl-next.ensures ▷
-        c.write_layout_decl-at.ensures)) c.placed.ensures))
+end_extern_c-requires c = (
+  c.requires.0.tabled,
+  c.requires.1,
+  stood_standing (stood_placed (stood_ready (stood_turned
+      (stood_set (representing_stood c.requires.3) c.set_namespace.ensures) c.begin_extern_c.ensures)
+      c.prepare.ensures) (from_place c.prepare.new.c (c.write_layout_decl-next.ensures ▷
+      c.write_layout_decl-at.ensures)) c.placed.ensures),
+)
 
 pub returns : goal.returns
 unfolding write_opaque_type_layout_decls
 returns c =
     runs_declared_two c.set_namespace.ensures c.begin_extern_c.ensures _ _ (some_layout_decl _ _) (some_layout_decl _
-        _) c.prepare.ensures (from_place c.prepare.new.c (c.write_layout_decl-next.ensures ▷
-        c.write_layout_decl-at.ensures)) c.placed.ensures c.end_extern_c.ensures
+    _) c.prepare.ensures (from_place c.prepare.new.c (c.write_layout_decl-next.ensures ▷
+    c.write_layout_decl-at.ensures)) c.placed.ensures c.end_extern_c.ensures

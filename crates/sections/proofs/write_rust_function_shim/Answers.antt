@@ -11,30 +11,41 @@ pub load_summary-comment-requires : goal.load_summary-comment-requires
 load_summary-comment-requires c = (c.requires.0.tabled, c.function-f.ensures.1, c.requires.4, c.requires.5)
 
 pub set_namespace-requires : goal.set_namespace-requires
-set_namespace-requires c =
-    (c.requires.0.tabled, c.requires.1, stood_standing (stood_asked (representing_stood c.requires.6)
-        c.next_section.ensures), c.requires.2)
+set_namespace-requires c = (
+  c.requires.0.tabled,
+  c.requires.1,
+  stood_standing (stood_asked (representing_stood c.requires.6)
+      c.next_section.ensures),
+  c.requires.2,
+)
 
 pub returns-then-hidden : goal.returns-then-hidden
 returns-then-hidden c =
     runs_as (hidden_shim _ _ (function_of _ _) c.function-f.result.form c.function-f.result.owner
-        c.function-f.ensures.0 c.function-f.ensures.1.view.form (sym c.is_hidden-hidden.ensures ∙ c.if-hidden.true))
-        (runs_then (runs_asked c.next_section.ensures) (runs_set c.set_namespace.ensures))
+    c.function-f.ensures.0 c.function-f.ensures.1.view.form (sym c.is_hidden-hidden.ensures ∙ c.if-hidden.true))
+    (runs_then (runs_asked c.next_section.ensures) (runs_set c.set_namespace.ensures))
 
 pub prepare-requires : goal.prepare-requires
-prepare-requires c =
-    (c.requires.0, stood_listed (stood_set (stood_asked (representing_stood c.requires.6) c.next_section.ensures)
-        c.set_namespace.ensures))
+prepare-requires c = (
+  c.requires.0,
+  stood_listed (stood_set (stood_asked (representing_stood c.requires.6) c.next_section.ensures)
+      c.set_namespace.ensures),
+)
 
 pub write_function_shim-at-requires : goal.write_function_shim-at-requires
-write_function_shim-at-requires c =
-    (c.requires.0, c.requires.2, c.function-f.ensures.1, c.function-f.ensures.0, c.load_summary-comment.ensures.0,
-        c.load_summary-comment.ensures.1)
+write_function_shim-at-requires c = (
+  c.requires.0,
+  c.requires.2,
+  c.function-f.ensures.1,
+  c.function-f.ensures.0,
+  c.load_summary-comment.ensures.0,
+  c.load_summary-comment.ensures.1,
+)
 
 pub returns : goal.returns
 returns c =
     runs_as (shown_shim _ _ (function_of _ _) c.function-f.result.form c.function-f.result.owner
-        c.function-f.ensures.0 c.function-f.ensures.1.view.form (sym c.is_hidden-hidden.ensures ∙ c.if-hidden.false))
-        (runs_then (runs_then (runs_asked c.next_section.ensures) (runs_set c.set_namespace.ensures)) (runs_written
-        (some_shim _ _ _) c.prepare.ensures (from_place c.prepare.new.c c.write_function_shim-at.ensures)
-        c.placed.ensures))
+    c.function-f.ensures.0 c.function-f.ensures.1.view.form (sym c.is_hidden-hidden.ensures ∙ c.if-hidden.false))
+    (runs_then (runs_then (runs_asked c.next_section.ensures) (runs_set c.set_namespace.ensures)) (runs_written
+    (some_shim _ _ _) c.prepare.ensures (from_place c.prepare.new.c c.write_function_shim-at.ensures)
+    c.placed.ensures))

@@ -10,7 +10,7 @@ count_type-n-requires c = (c.requires.0, outermost_yields _ _ _ c.requires.1)
 pub returns-then-n-gt0 : goal.returns-then-n-gt0
 returns-then-n-gt0 c =
     rw (type_at _ _ _) (wrote_counted c.if-out-at.true c.count_type-n.ensures c.if-n-gt0.true (omega arith)
-        c.advance.ensures)
+    c.advance.ensures)
 
 pub write_chain-requires : goal.write_chain-requires
 write_chain-requires c = (c.requires.0, outermost_yields _ _ _ c.requires.1)

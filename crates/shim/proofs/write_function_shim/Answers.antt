@@ -14,9 +14,9 @@ write_shim_body-requires c = (c.requires.0, c.requires.1, c.requires.2, c.requir
 pub returns-then-header : goal.returns-then-header
 returns-then-header c =
     shim_written _ _ _ c.write_shim_doc-a.ensures c.write_shim_decl-b.ensures (first_text _ c.if-header.true
-        c.put_bytes.ensures)
+    c.put_bytes.ensures)
 
 pub returns : goal.returns
 returns c =
     shim_written _ _ _ c.write_shim_doc-a.ensures c.write_shim_decl-b.ensures (second_text _ c.if-header.false
-        c.write_shim_body.ensures)
+    c.write_shim_body.ensures)

@@ -21,9 +21,11 @@ pub write_operands-listed-requires : goal.write_operands-listed-requires
 write_operands-listed-requires c = (c.requires.0, c.requires.2, c.requires.4, c.indirect_return-indirect.ensures)
 
 pub put_call_end-taken-requires : goal.put_call_end-taken-requires
-put_call_end-taken-requires c =
-    (c.requires.0.tabled.whole.named.limited, direct_yields c.requires.2 c.indirect_return-indirect.ensures
-        c.is_direct-direct.ensures)
+put_call_end-taken-requires c = (
+  c.requires.0.tabled.whole.named.limited,
+  direct_yields c.requires.2 c.indirect_return-indirect.ensures
+      c.is_direct-direct.ensures,
+)
 
 pub put_slot_return-given-requires : goal.put_slot_return-given-requires
 put_slot_return-given-requires c =
@@ -32,8 +34,8 @@ put_slot_return-given-requires c =
 pub returns : goal.returns
 returns c =
     body_written c.requires.2 c.indirect_return-indirect.ensures c.is_direct-direct.ensures _
-        c.put_bytes-begun.ensures c.write_held_locals-held.ensures c.put_bytes-indented.ensures
-        c.write_slot-slotted.ensures c.write_return-returned.ensures c.put_when-guarded.ensures
-        c.write_extern_fn-named.ensures c.put_bytes-opened.ensures c.write_operands-listed.ensures
-        c.put_bytes-closed.ensures c.put_call_end-taken.ensures c.put_bytes-called.ensures c.put_when-tested.ensures
-        c.put_slot_return-given.ensures c.put_bytes.ensures
+    c.put_bytes-begun.ensures c.write_held_locals-held.ensures c.put_bytes-indented.ensures
+    c.write_slot-slotted.ensures c.write_return-returned.ensures c.put_when-guarded.ensures
+    c.write_extern_fn-named.ensures c.put_bytes-opened.ensures c.write_operands-listed.ensures
+    c.put_bytes-closed.ensures c.put_call_end-taken.ensures c.put_bytes-called.ensures c.put_when-tested.ensures
+    c.put_slot_return-given.ensures c.put_bytes.ensures

@@ -26,9 +26,9 @@ overflow_add-result c = omega (arith, room c.has_room-room.ensures c.if-room.tru
 pub returns-then-room : goal.returns-then-room
 returns-then-room c =
     wrote_repeated c.args.count c.args.byte c.loop-i.invariant.1 (omega arith) (room c.has_room-room.ensures
-        c.if-room.true) (omega arith)
+    c.if-room.true) (omega arith)
 
 pub returns : goal.returns
 returns c =
     wrote_none (length-replicate _ _) (no_room c.has_room-room.ensures c.if-room.false) (omega arith)
-        c.advance.ensures
+    c.advance.ensures

@@ -25,7 +25,12 @@ bounds-words-n-5 c =
     simp length-set (omega (arith, c.requires.1.view.few, c.requires.2, c.fill_arguments-comment.auto))
 
 pub returns : goal.returns
-returns c =
-    (summary_filled _ _ c.fill_arguments-comment.ensures.0 (omega (arith, c.requires.1.view.few, c.requires.2,
-        c.fill_arguments-comment.auto)) (comment_behind _ c.requires.1 c.fill_arguments-comment.ensures.1),
-        comment_behind _ c.requires.1 c.fill_arguments-comment.ensures.1)
+returns c = (
+  summary_filled _ _ c.fill_arguments-comment.ensures.0 (omega (
+    arith,
+    c.requires.1.view.few,
+    c.requires.2,
+    c.fill_arguments-comment.auto,
+  )) (comment_behind _ c.requires.1 c.fill_arguments-comment.ensures.1),
+  comment_behind _ c.requires.1 c.fill_arguments-comment.ensures.1,
+)

@@ -12,8 +12,8 @@ make_summary-requires c =
 pub bounds-kept-i : goal.bounds-kept-i
 bounds-kept-i c =
     let l = both_long c.requires.3 c.function-f.ensures.1 c.function-f.ensures.0
-        (omega (arith, c.requires.0.tabled.whole.few, c.requires.1.there)) c.requires.4 c.make_summary.ensures
-        c.make_summary.auto.words in
+    (omega (arith, c.requires.0.tabled.whole.few, c.requires.1.there)) c.requires.4 c.make_summary.ensures
+    c.make_summary.auto.words in
     omega (arith, l, c.requires.0.tabled.whole.few, c.requires.1.there, c.requires.3.first, c.requires.3.near)
 
 pub overflow_cast-kept : goal.overflow_cast-kept
@@ -28,5 +28,5 @@ overflow_add-result-2 c = omega (arith, c.function-f.ensures.1.view.few, c.requi
 pub returns : goal.returns
 returns c =
     keeping_turn c.requires.3 c.function-f.ensures.1 c.function-f.ensures.0
-        (omega (arith, c.requires.0.tabled.whole.few, c.requires.1.there)) c.requires.4 c.make_summary.ensures
-        c.make_summary.auto.words
+    (omega (arith, c.requires.0.tabled.whole.few, c.requires.1.there)) c.requires.4 c.make_summary.ensures
+    c.make_summary.auto.words

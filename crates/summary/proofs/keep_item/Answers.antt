@@ -13,9 +13,14 @@ pub item-v-requires : goal.item-v-requires
 item-v-requires c = (c.requires.0.tabled, c.requires.1)
 
 pub keep-requires : goal.keep-requires
-keep-requires c =
-    (c.requires.0, c.item-v.ensures.1, c.in-RustFunction.is, rw c.item-v.ensures.0 c.requires.2, omega
-        (arith, c.if-kept-end-lt-MOST.false, c.requires.2.near))
+keep-requires c = (
+  c.requires.0,
+  c.item-v.ensures.1,
+  c.in-RustFunction.is,
+  rw c.item-v.ensures.0 c.requires.2,
+  omega
+      (arith, c.if-kept-end-lt-MOST.false, c.requires.2.near),
+)
 
 pub returns-in-RustFunction : goal.returns-in-RustFunction
 returns-in-RustFunction c = rw c.item-v.ensures.0 at c.keep.ensures

@@ -19,13 +19,19 @@ overflow_add-n c = omega (arith, c.requires.1.view.few)
 
 pub overflow_add-end : goal.overflow_add-end
 overflow_add-end c =
-    omega (arith, kept_room c.args.words.now c.requires.1 c.requires.2 c.kept_length-start.ensures
-        c.if-start-eq0.false c.requires.3)
+    omega (
+      arith,
+      kept_room c.args.words.now c.requires.1 c.requires.2 c.kept_length-start.ensures
+          c.if-start-eq0.false c.requires.3,
+    )
 
 pub offset_bounds-kept-start : goal.offset_bounds-kept-start
 offset_bounds-kept-start c =
-    omega (arith, kept_room c.args.words.now c.requires.1 c.requires.2 c.kept_length-start.ensures
-        c.if-start-eq0.false c.requires.3)
+    omega (
+      arith,
+      kept_room c.args.words.now c.requires.1 c.requires.2 c.kept_length-start.ensures
+          c.if-start-eq0.false c.requires.3,
+    )
 
 pub slice_bounds-copy_words-end-2 : goal.slice_bounds-copy_words-end-2
 slice_bounds-copy_words-end-2 c = omega (arith, c.requires.1.view.few, c.requires.3)
@@ -39,11 +45,18 @@ copy_words-requires c =
 
 pub bounds-words-n : goal.bounds-words-n
 bounds-words-n c =
-    omega (arith, loaded_long c.args.words.now c.requires.1 c.requires.2 c.kept_length-start.ensures
-        c.if-start-eq0.false c.requires.3 c.copy_words.ensures, c.requires.1.view.few, c.requires.3)
+    omega (
+      arith,
+      loaded_long c.args.words.now c.requires.1 c.requires.2 c.kept_length-start.ensures
+          c.if-start-eq0.false c.requires.3 c.copy_words.ensures,
+      c.requires.1.view.few,
+      c.requires.3,
+    )
 
 pub returns : goal.returns
-returns c =
-    (summary_loaded _ c.requires.1 c.requires.2 c.kept_length-start.ensures c.if-start-eq0.false c.requires.3
-        c.copy_words.ensures, comment_loaded _ c.requires.1 c.requires.2 c.kept_length-start.ensures
-        c.if-start-eq0.false c.requires.3 c.copy_words.ensures c.new.ensures)
+returns c = (
+  summary_loaded _ c.requires.1 c.requires.2 c.kept_length-start.ensures c.if-start-eq0.false c.requires.3
+      c.copy_words.ensures,
+  comment_loaded _ c.requires.1 c.requires.2 c.kept_length-start.ensures
+      c.if-start-eq0.false c.requires.3 c.copy_words.ensures c.new.ensures,
+)

@@ -99,11 +99,11 @@ loop-i-preserved c =
       laws.arguments_turn _ _ _ _ c.requires.1 c.loop-i.next.at c.loop-i.invariant.2
           c.loop-i-test.true wide c.field-name.ensures c.argument_entry.result (omega (arith, c.requires.1.view.few))
           entry.named (rw entry.of (laws.argument_type _ _ _ _ c.requires.1 c.loop-i.next.at c.loop-i.invariant.2
-              c.loop-i-test.true
+          c.loop-i-test.true
           wide c.field-name.ensures)) entry.facts (rw (← items_count_lem c.requires.0) at c.skip_type-next.ensures),
     )
 
 pub returns : goal.returns
 returns c =
     laws.arguments_done _ _ _ _ c.requires.1 c.loop-i.next c.loop-i.invariant.2 c.loop-i.invariant.0
-        c.loop-i-test.false
+    c.loop-i-test.false

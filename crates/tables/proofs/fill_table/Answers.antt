@@ -18,13 +18,13 @@ copy_words-requires-2 c =
 pub bounds-t-1023 : goal.bounds-t-1023
 bounds-t-1023 c =
     let long = both_long c.args.t.now c.copy_words.ensures c.copy_words-2.ensures c.requires.0 c.requires.1
-        c.requires.2 in
+    c.requires.2 in
     omega (arith, long)
 
 pub bounds-t-1279 : goal.bounds-t-1279
 bounds-t-1279 c =
     let long = both_long c.args.t.now c.copy_words.ensures c.copy_words-2.ensures c.requires.0 c.requires.1
-        c.requires.2 in
+    c.requires.2 in
     simp length-set (omega (arith, long))
 
 pub returns : goal.returns

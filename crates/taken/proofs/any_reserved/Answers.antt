@@ -17,15 +17,17 @@ reserved_at-found-requires c = (c.requires, omega arith)
 pub returns-then-found : goal.returns-then-found
 returns-then-found c =
     sym (c.loop-i.invariant.1 ∙ items_hit _ _ _ (omega arith) (λ x. reserved_namespace x.namespace)
-        c.reserved_at-found.ensures c.if-found.true)
+    c.reserved_at-found.ensures c.if-found.true)
 
 pub overflow_add-i : goal.overflow_add-i
 overflow_add-i c = omega (arith, c.requires.whole.few)
 
 pub loop-i-preserved : goal.loop-i-preserved
-loop-i-preserved c =
-    (omega arith, c.loop-i.invariant.1 ∙ items_turn _ _ _ (omega arith) (λ x. reserved_namespace x.namespace)
-        c.reserved_at-found.ensures c.if-found.false)
+loop-i-preserved c = (
+  omega arith,
+  c.loop-i.invariant.1 ∙ items_turn _ _ _ (omega arith) (λ x. reserved_namespace x.namespace)
+      c.reserved_at-found.ensures c.if-found.false,
+)
 
 pub returns : goal.returns
 returns c =

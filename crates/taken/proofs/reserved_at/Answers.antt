@@ -12,7 +12,7 @@ name_is-standard-requires c =
 pub returns-then-standard : goal.returns-then-standard
 returns-then-standard c =
     in_std c.item-v.ensures.1 c.item-v.ensures.0 c.if-v-eq0.false c.namespace-first.ensures.1
-        c.name_is-standard.ensures c.if-standard.true
+    c.name_is-standard.ensures c.if-standard.true
 
 pub name_is-requires : goal.name_is-requires
 name_is-requires c = (c.requires.0.whole.named, c.requires.0.digested, c.namespace-first.ensures.0, omega arith)
@@ -20,4 +20,4 @@ name_is-requires c = (c.requires.0.whole.named, c.requires.0.digested, c.namespa
 pub returns : goal.returns
 returns c =
     in_rust c.item-v.ensures.1 c.item-v.ensures.0 c.if-v-eq0.false c.namespace-first.ensures.1
-        c.name_is-standard.ensures c.if-standard.false c.name_is.ensures
+    c.name_is-standard.ensures c.if-standard.false c.name_is.ensures

@@ -14,4 +14,4 @@ repeated_name-requires c = (c.requires.0.whole, c.requires.1)
 pub returns : goal.returns
 returns c =
     taken_argument _ c.any_reserved-outside.ensures c.if-outside.false c.name_clash-clashes.ensures c.if-clashes.false
-        c.repeated_name.ensures
+    c.repeated_name.ensures

@@ -27,5 +27,5 @@ bounds-buf-k-8 c = simp length-set (omega arith)
 pub returns : goal.returns
 returns c =
     hold_eight _ _ _ c.extract_wide-x.ensures c.requires.limited.2 c.requires.holds c.char_in.ensures
-        c.char_in-2.ensures c.char_in-3.ensures c.char_in-4.ensures c.char_in-5.ensures c.char_in-6.ensures
-        c.char_in-7.ensures c.char_in-8.ensures
+    c.char_in-2.ensures c.char_in-3.ensures c.char_in-4.ensures c.char_in-5.ensures c.char_in-6.ensures
+    c.char_in-7.ensures c.char_in-8.ensures

@@ -9,9 +9,13 @@ pub loop-i-init : goal.loop-i-init
 loop-i-init c = (omega arith, omega arith, refl, hold_none _ _ _)
 
 pub loop-i-preserved : goal.loop-i-preserved
-loop-i-preserved c =
-    (omega arith, omega arith, simp length-set (omega arith), hold_next _ _ c.loop-i.invariant.3 (omega arith) refl
-        (c.char_in.ensures ∙ char_in _ _ (7 * c.loop-i.i) _ c.extract_wide-x.ensures (omega arith) refl) refl)
+loop-i-preserved c = (
+  omega arith,
+  omega arith,
+  simp length-set (omega arith),
+  hold_next _ _ c.loop-i.invariant.3 (omega arith) refl
+      (c.char_in.ensures ∙ char_in _ _ (7 * c.loop-i.i) _ c.extract_wide-x.ensures (omega arith) refl) refl,
+)
 
 pub returns : goal.returns
 returns c = hold_less _ _ _ c.loop-i.invariant.3 (omega arith)

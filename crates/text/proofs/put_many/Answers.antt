@@ -15,8 +15,11 @@ loop-i-preserved c = (omega arith, omega (arith, c.put_eight.auto), c.put_eight.
 
 pub put_eight-requires-2 : goal.put_eight-requires-2
 put_eight-requires-2 c =
-    record { limited = (omega arith, omega arith, omega arith); holds = hold_less _ _ _ c.loop-i.invariant.2
-        (omega arith) }
+    record {
+      limited = (omega arith, omega arith, omega arith);
+      holds = hold_less _ _ _ c.loop-i.invariant.2
+          (omega arith);
+    }
 
 pub returns : goal.returns
 returns c = hold_less _ _ _ c.put_eight-2.ensures (omega arith)

@@ -6,9 +6,16 @@ use Rattle.text.proofs.TextLaws.{text_cut, text_short, text_whole}
 use Rattle.text.proofs.read_text.Goals as goal
 
 pub chars-r-requires : goal.chars-r-requires
-chars-r-requires c =
-    (omega arith, field_end _ _ _ (value c.read-f.ensures c.in-Value.is), omega (arith, field_lt _ _ _
-        (value c.read-f.ensures c.in-Value.is), c.requires))
+chars-r-requires c = (
+  omega arith,
+  field_end _ _ _ (value c.read-f.ensures c.in-Value.is),
+  omega (
+    arith,
+    field_lt _ _ _
+        (value c.read-f.ensures c.in-Value.is),
+    c.requires,
+  ),
+)
 
 pub returns-in-Cut : goal.returns-in-Cut
 returns-in-Cut c = text_cut _ _ _ (cut _ _ _ c.read-f.ensures c.in-Cut.is)

@@ -14,7 +14,7 @@ decreases-visit_held l = 2 * l.levels + 1
 abbrev pub invariant-visit_held-loop-k : goal.invariant-visit_held-loop-k
 invariant-visit_held-loop-k l = (l.end ≤ length l.held) × Going (graph_of l.starts l.held) l.levels
     (visit_all (visit·spec (graph_of l.starts l.held) l.levels) (graph_of l.starts l.held l.i) l.initial.marks
-        (take l.at l.initial.order))
+    (take l.at l.initial.order))
     (take (l.end - l.k) (drop l.k l.held)) l.marks l.order l.e
 
 abbrev pub decreases-visit_held-loop-k : goal.decreases-visit_held-loop-k

@@ -8,7 +8,7 @@ use Rattle.toposort.proofs.sort.Given as goal
 abbrev pub invariant-loop-k : goal.invariant-loop-k
 invariant-loop-k l =
     Going (graph_of l.starts l.held) item_numbers (sort (graph_of l.starts l.held) item_numbers l.js) (drop l.k l.js)
-        l.marks l.order l.e
+    l.marks l.order l.e
 
 abbrev pub decreases-loop-k : goal.decreases-loop-k
 decreases-loop-k l = length l.js - l.k

@@ -70,11 +70,11 @@ returns-in-15 c = rw c.in-15.is refl
 pub returns-in_default : goal.returns-in_default
 returns-in_default c =
     let r = c.in_default.in_default-own.rest in kind_past _
-        (above 15 (above 14 (above 13
-        (above 12 (above 11 (above 10
-        (above 9 (above 8 (above 7
-        (above 6 (above 5 (above 4 (above 3 (above 2 (above 1 (above 0 (above_none _)
-        r.0.0.0.0.0.0.0.0.0.0.0.0.0.0.0.1) r.0.0.0.0.0.0.0.0.0.0.0.0.0.0.1) r.0.0.0.0.0.0.0.0.0.0.0.0.0.1)
-        r.0.0.0.0.0.0.0.0.0.0.0.0.1) r.0.0.0.0.0.0.0.0.0.0.0.1) r.0.0.0.0.0.0.0.0.0.0.1) r.0.0.0.0.0.0.0.0.0.1)
-        r.0.0.0.0.0.0.0.0.1) r.0.0.0.0.0.0.0.1) r.0.0.0.0.0.0.1) r.0.0.0.0.0.1) r.0.0.0.0.1) r.0.0.0.1) r.0.0.1)
-        r.0.1) r.1)
+    (above 15 (above 14 (above 13
+    (above 12 (above 11 (above 10
+    (above 9 (above 8 (above 7
+    (above 6 (above 5 (above 4 (above 3 (above 2 (above 1 (above 0 (above_none _)
+    r.0.0.0.0.0.0.0.0.0.0.0.0.0.0.0.1) r.0.0.0.0.0.0.0.0.0.0.0.0.0.0.1) r.0.0.0.0.0.0.0.0.0.0.0.0.0.1)
+    r.0.0.0.0.0.0.0.0.0.0.0.0.1) r.0.0.0.0.0.0.0.0.0.0.0.1) r.0.0.0.0.0.0.0.0.0.0.1) r.0.0.0.0.0.0.0.0.0.1)
+    r.0.0.0.0.0.0.0.0.1) r.0.0.0.0.0.0.0.1) r.0.0.0.0.0.0.1) r.0.0.0.0.0.1) r.0.0.0.0.1) r.0.0.0.1) r.0.0.1)
+    r.0.1) r.1)

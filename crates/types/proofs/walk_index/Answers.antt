@@ -20,4 +20,4 @@ returns-then-items-i c =
 pub returns : goal.returns
 returns c =
     index_marked _ _ _ c.width-w.ensures (bits_whole _ _ _ (omega arith) c.extract-i.ensures) (omega arith)
-        (omega arith) c.set_mark.ensures
+    (omega arith) c.set_mark.ensures

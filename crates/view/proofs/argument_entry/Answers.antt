@@ -21,19 +21,22 @@ pack-requires c = (c.requires.1, omega (arith, c.requires.0.named.limited, kind_
 pub returns-then-k-eq0 : goal.returns-then-k-eq0
 returns-then-k-eq0 c =
     entry_of c.pack.result c.pack.ensures (owner_atom _ _ _ c.requires.2 c.extract-k.ensures c.if-k-eq0.true)
-        (indirect_atom _ _ _ c.requires.2 c.extract-k.ensures c.if-k-eq0.true c.extract-a.ensures _) (string_atom _ _
-        _ c.requires.2 c.extract-k.ensures c.if-k-eq0.true c.extract-a.ensures)
+    (indirect_atom _ _ _ c.requires.2 c.extract-k.ensures c.if-k-eq0.true c.extract-a.ensures _) (string_atom _ _
+    _ c.requires.2 c.extract-k.ensures c.if-k-eq0.true c.extract-a.ensures)
 
 pub is_indirect_other-indirect-requires : goal.is_indirect_other-indirect-requires
 is_indirect_other-indirect-requires c = (c.requires.0, c.requires.2, c.extract-k.ensures, c.if-k-eq0.false)
 
 pub pack-requires-2 : goal.pack-requires-2
-pack-requires-2 c =
-    (c.requires.1, omega (arith, c.requires.0.named.limited, kind_room _ _ _ c.requires.2), owner_low
-        c.extract-k.result c.owner_of-owner.ensures)
+pack-requires-2 c = (
+  c.requires.1,
+  omega (arith, c.requires.0.named.limited, kind_room _ _ _ c.requires.2),
+  owner_low
+      c.extract-k.result c.owner_of-owner.ensures,
+)
 
 pub returns : goal.returns
 returns c =
     entry_of c.pack-2.result c.pack-2.ensures (owner_is _ _ _ c.requires.2 c.extract-k.ensures
-        c.owner_of-owner.ensures) c.is_indirect_other-indirect.ensures (string_other _ _ _ c.requires.2
-        c.extract-k.ensures c.if-k-eq0.false)
+    c.owner_of-owner.ensures) c.is_indirect_other-indirect.ensures (string_other _ _ _ c.requires.2
+    c.extract-k.ensures c.if-k-eq0.false)

@@ -17,20 +17,33 @@ overflow_mul-title c =
 
 pub overflow_add-title : goal.overflow_add-title
 overflow_add-title c =
-    omega (arith, c.requires.0.named.limited, title_room c.requires.0 c.requires.1 c.extract-head.ensures
-        c.width-w.ensures)
+    omega (
+      arith,
+      c.requires.0.named.limited,
+      title_room c.requires.0 c.requires.1 c.extract-head.ensures
+          c.width-w.ensures,
+    )
 
 pub extract-name-requires : goal.extract-name-requires
-extract-name-requires c =
-    (c.requires.0.named.limited, width_le _ c.width-w.ensures, title_room c.requires.0 c.requires.1
-        c.extract-head.ensures c.width-w.ensures)
+extract-name-requires c = (
+  c.requires.0.named.limited,
+  width_le _ c.width-w.ensures,
+  title_room c.requires.0 c.requires.1
+      c.extract-head.ensures c.width-w.ensures,
+)
 
 pub overflow_add-title-2 : goal.overflow_add-title-2
 overflow_add-title-2 c =
-    omega (arith, c.requires.0.named.limited, title_room c.requires.0 c.requires.1 c.extract-head.ensures
-        c.width-w.ensures)
+    omega (
+      arith,
+      c.requires.0.named.limited,
+      title_room c.requires.0 c.requires.1 c.extract-head.ensures
+          c.width-w.ensures,
+    )
 
 pub returns : goal.returns
-returns c =
-    (refl, rw (c.new-body.ensures, c.new-spaces.ensures) (item_there c.requires.0 c.requires.1 c.extract-head.ensures
-        c.width-w.ensures c.part_of-of.ensures c.extract-name.ensures))
+returns c = (
+  refl,
+  rw (c.new-body.ensures, c.new-spaces.ensures) (item_there c.requires.0 c.requires.1 c.extract-head.ensures
+      c.width-w.ensures c.part_of-of.ensures c.extract-name.ensures),
+)

@@ -8,11 +8,14 @@ returns-then-function c =
     pointer_none c.item-v.ensures.1 c.item-v.ensures.0 (known c.is_function-function.ensures c.if-function.true)
 
 pub extract-b-requires : goal.extract-b-requires
-extract-b-requires c =
-    (c.requires.0.named.limited, omega arith, bit_there c.item-v.ensures.1 c.item-v.ensures.0
-        (known c.is_function-function.ensures c.if-function.false))
+extract-b-requires c = (
+  c.requires.0.named.limited,
+  omega arith,
+  bit_there c.item-v.ensures.1 c.item-v.ensures.0
+      (known c.is_function-function.ensures c.if-function.false),
+)
 
 pub returns : goal.returns
 returns c =
     pointer_at_lem c.item-v.ensures.1 c.item-v.ensures.0 (known c.is_function-function.ensures c.if-function.false)
-        c.requires.0.named.limited c.extract-b.ensures
+    c.requires.0.named.limited c.extract-b.ensures

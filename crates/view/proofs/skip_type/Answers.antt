@@ -13,21 +13,30 @@ loop-p-init c = (ending_whole _ _ _ c.requires.1, c.extract-k.ensures, c.prefix_
 
 pub overflow_add-at : goal.overflow_add-at
 overflow_add-at c =
-    omega (arith, c.requires.0, (ending_inner _ _ _ _ c.loop-p.invariant.0 c.loop-p.invariant.1 c.loop-p.invariant.2
-        c.loop-p-test.true).room)
+    omega (
+      arith,
+      c.requires.0,
+      (ending_inner _ _ _ _ c.loop-p.invariant.0 c.loop-p.invariant.1 c.loop-p.invariant.2
+          c.loop-p-test.true).room,
+    )
 
 pub extract-k-requires-in-loop-p : goal.extract-k-requires-in-loop-p
-extract-k-requires-in-loop-p c =
-    (c.requires.0, omega arith, (ending_inner _ _ _ _ c.loop-p.invariant.0 c.loop-p.invariant.1 c.loop-p.invariant.2
-        c.loop-p-test.true).room)
+extract-k-requires-in-loop-p c = (
+  c.requires.0,
+  omega arith,
+  (ending_inner _ _ _ _ c.loop-p.invariant.0 c.loop-p.invariant.1 c.loop-p.invariant.2
+      c.loop-p-test.true).room,
+)
 
 pub loop-p-smaller : goal.loop-p-smaller
 loop-p-smaller c = omega (arith, c.loop-p.invariant.0.room)
 
 pub loop-p-preserved : goal.loop-p-preserved
-loop-p-preserved c =
-    (ending_inner _ _ _ _ c.loop-p.invariant.0 c.loop-p.invariant.1 c.loop-p.invariant.2 c.loop-p-test.true,
-        c.extract-k-in-loop-p.ensures, c.prefix_of-p-in-loop-p.ensures)
+loop-p-preserved c = (
+  ending_inner _ _ _ _ c.loop-p.invariant.0 c.loop-p.invariant.1 c.loop-p.invariant.2 c.loop-p-test.true,
+  c.extract-k-in-loop-p.ensures,
+  c.prefix_of-p-in-loop-p.ensures,
+)
 
 pub overflow_add-at-then-k-eq0 : goal.overflow_add-at-then-k-eq0
 overflow_add-at-then-k-eq0 c = omega (arith, c.requires.0, c.loop-p.invariant.0.room)
@@ -45,7 +54,7 @@ overflow_add-at-then-k-eq1-2 c = omega (arith, c.requires.0, c.loop-p.invariant.
 pub returns-then-k-eq1 : goal.returns-then-k-eq1
 returns-then-k-eq1 c =
     rw c.new-then-k-eq1.ensures (ending_name _ _ _ _ c.loop-p.invariant.0 c.loop-p.invariant.1 c.if-k-eq1.true
-        c.width.ensures)
+    c.width.ensures)
 
 pub overflow_add-at-then-k-eq9 : goal.overflow_add-at-then-k-eq9
 overflow_add-at-then-k-eq9 c = omega (arith, c.requires.0, c.loop-p.invariant.0.room)

@@ -36,13 +36,13 @@ pub returns-then-good-bits : goal.returns-then-good-bits
 unfolding lanes name_marks
 returns-then-good-bits c =
     window_broken _ _ c.requires.0 (none_here c.args.x c.args.bits c.requires.1 c.requires.2 c.requires.3
-        c.if-good-bits.true)
+    c.if-good-bits.true)
 
 pub returns-in-Reserved : goal.returns-in-Reserved
 unfolding lanes name_marks
 returns-in-Reserved c =
     rw c.in-Reserved.is (window_reserved _ (all_here c.args.x c.args.bits c.requires.1 c.requires.2 c.requires.3
-        c.if-good-bits.false))
+    c.if-good-bits.false))
 
 pub returns-in-Broken : goal.returns-in-Broken
 returns-in-Broken c = rw c.in-Broken.is (sym (broken_stays _))
@@ -51,9 +51,12 @@ pub overflow_add-u : goal.overflow_add-u
 unfolding lanes score_marks
 overflow_add-u c =
     let low : c.match-shape.score ≤ 64 =
-    elim c.match-shape.branch
-    [ in-Empty w ↦ omega arith | in-Leading w ↦ omega arith | in-Plain w ↦ omega arith | in-Underscore w ↦ omega arith
-        ] in
+    elim c.match-shape.branch [
+      | in-Empty w ↦ omega arith
+      | in-Leading w ↦ omega arith
+      | in-Plain w ↦ omega arith
+      | in-Underscore w ↦ omega arith
+    ] in
     record { fits = sum_room c.args.x c.args.bits c.requires.1 c.requires.2 c.requires.3 _ low }
 
 pub returns-then-u-ne0 : goal.returns-then-u-ne0
@@ -67,7 +70,7 @@ returns-then-u-ne0 c =
       | in-Underscore w ↦ score_under w.in-Underscore.is w.score-is
     ] in
     window_double c.args.x c.args.bits c.requires.1 c.requires.2 c.requires.3 s refl (all_here c.args.x c.args.bits
-        c.requires.1 c.requires.2 c.requires.3 c.if-good-bits.false) c.if-u-ne0.true
+    c.requires.1 c.requires.2 c.requires.3 c.if-good-bits.false) c.if-u-ne0.true
 
 pub returns-then-u-ne0-2 : goal.returns-then-u-ne0-2
 unfolding lanes name_marks score_marks
@@ -80,7 +83,7 @@ returns-then-u-ne0-2 c =
       | in-Underscore w ↦ score_under w.in-Underscore.is w.score-is
     ] in
     window_score c.args.x c.args.bits c.requires.1 c.requires.2 c.requires.3 s refl (all_here c.args.x c.args.bits
-        c.requires.1 c.requires.2 c.requires.3 c.if-good-bits.false) c.if-u-ne0.false c.if-u-ne0-2.true
+    c.requires.1 c.requires.2 c.requires.3 c.if-good-bits.false) c.if-u-ne0.false c.if-u-ne0-2.true
 
 pub returns : goal.returns
 unfolding lanes name_marks score_marks
@@ -93,4 +96,4 @@ returns c =
       | in-Underscore w ↦ score_under w.in-Underscore.is w.score-is
     ] in
     window_plain c.args.x c.args.bits c.requires.1 c.requires.2 c.requires.3 s refl (all_here c.args.x c.args.bits
-        c.requires.1 c.requires.2 c.requires.3 c.if-good-bits.false) c.if-u-ne0.false c.if-u-ne0-2.false
+    c.requires.1 c.requires.2 c.requires.3 c.if-good-bits.false) c.if-u-ne0.false c.if-u-ne0-2.false

@@ -11,8 +11,8 @@ use Rattle.walk.proofs.walk_word.Given as goal
 abbrev pub invariant-loop-down : goal.invariant-loop-down
 invariant-loop-down l =
     (l.down ≤ l.bits) × (l.down % 7 ≡ 0) × Fits (words_in l.t) (record { word = l.w; matched = l.m; shape = Empty }) ×
-        Alike (words_in l.t) (walk_word (words_in l.t) l.initial.w l.initial.m (chars_in (l.bits / 7) l.x))
-        (walk_word (words_in l.t) l.w l.m (chars_in (l.down / 7) (l.x % 2 ^ l.down)))
+    Alike (words_in l.t) (walk_word (words_in l.t) l.initial.w l.initial.m (chars_in (l.bits / 7) l.x))
+    (walk_word (words_in l.t) l.w l.m (chars_in (l.down / 7) (l.x % 2 ^ l.down)))
 
 abbrev pub decreases-loop-down : goal.decreases-loop-down
 decreases-loop-down l = l.down

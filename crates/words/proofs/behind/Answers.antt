@@ -11,10 +11,18 @@ returns-then-digit c =
 
 pub returns-then-c-eq95 : goal.returns-then-c-eq95
 returns-then-c-eq95 c =
-    rw (known c.is_letter-letter.ensures c.if-letter.false, known c.in_range-digit.ensures c.if-digit.false, eq-eqb _
-        _ c.if-c-eq95.true)
+    rw (
+      known c.is_letter-letter.ensures c.if-letter.false,
+      known c.in_range-digit.ensures c.if-digit.false,
+      eq-eqb _
+          _ c.if-c-eq95.true,
+    )
 
 pub returns : goal.returns
 returns c =
-    rw (known c.is_letter-letter.ensures c.if-letter.false, known c.in_range-digit.ensures c.if-digit.false, ne_eqb _
-        _ c.if-c-eq95.false)
+    rw (
+      known c.is_letter-letter.ensures c.if-letter.false,
+      known c.in_range-digit.ensures c.if-digit.false,
+      ne_eqb _
+          _ c.if-c-eq95.false,
+    )

@@ -17,8 +17,12 @@ bounds-t-to_usize c = omega (arith, c.to_usize.ensures.0)
 
 pub to_u8-requires : goal.to_u8-requires
 to_u8-requires c =
-    omega (arith, first_at c.requires _ _ c.to_usize.ensures.0 (omega arith) (omega arith), first_few c.requires
-        c.args.c)
+    omega (
+      arith,
+      first_at c.requires _ _ c.to_usize.ensures.0 (omega arith) (omega arith),
+      first_few c.requires
+          c.args.c,
+    )
 
 pub returns : goal.returns
 returns c = c.to_u8.ensures ∙ first_at c.requires _ _ c.to_usize.ensures.0 (omega arith) (omega arith)

@@ -13,7 +13,7 @@ returns-in-Empty c = rw c.in-Empty.is c.begin.ensures
 pub returns-else-capital : goal.returns-else-capital
 returns-else-capital c =
     rw c.in-Leading.is (c.behind.ensures ∙ sym (step_leading c.args.c (known c.in_range-capital.ensures
-        c.if-capital.false)))
+    c.if-capital.false)))
 
 pub returns-in-Plain : goal.returns-in-Plain
 returns-in-Plain c = rw c.in-Plain.is c.behind-in-Plain.ensures

@@ -7,12 +7,12 @@ pub returns-in-RustFunction : goal.returns-in-RustFunction
 unfolding function_at
 returns-in-RustFunction c =
     declared_at c.item-v.ensures.0 _ c.item-v.ensures.1.view.kind c.in-RustFunction.is
-        c.write_rust_function_decl.ensures
+    c.write_rust_function_decl.ensures
 
 pub returns-in-RustType : goal.returns-in-RustType
 returns-in-RustType c =
     declared_at c.item-v.ensures.0 _ c.item-v.ensures.1.view.kind c.in-RustType.is
-        c.write_opaque_type_layout_decls.ensures
+    c.write_opaque_type_layout_decls.ensures
 
 pub returns-in-Struct : goal.returns-in-Struct
 returns-in-Struct c = declared_at c.item-v.ensures.0 _ c.item-v.ensures.1.view.kind c.in-Struct.is runs_none

@@ -10,8 +10,8 @@ use Rattle.write.proofs.declare_all.Given as goal
 abbrev pub invariant-loop-i : goal.invariant-loop-i
 invariant-loop-i l =
     Passed l.s (names_in l.t) (items_in l.t) (declare_item (items_of l.s l.t)) l.initial.out l.out (content_of
-        l.initial.c) (content_of l.c) l.i × (length l.offsets ≡ length l.initial.offsets) × (length l.out ≡ length
-        l.initial.out)
+    l.initial.c) (content_of l.c) l.i × (length l.offsets ≡ length l.initial.offsets) × (length l.out ≡ length
+    l.initial.out)
 
 abbrev pub decreases-loop-i : goal.decreases-loop-i
 decreases-loop-i l = length (items_in l.t) - l.i

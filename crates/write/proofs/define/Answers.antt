@@ -11,12 +11,12 @@ pub returns-in-RustFunction : goal.returns-in-RustFunction
 unfolding function_at
 returns-in-RustFunction c =
     defined_at c.item-v.ensures.0 _ c.item-v.ensures.1.view.kind c.in-RustFunction.is
-        c.write_rust_function_shim.ensures
+    c.write_rust_function_shim.ensures
 
 pub returns-else-header : goal.returns-else-header
 returns-else-header c =
     defined_at c.item-v.ensures.0 _ c.item-v.ensures.1.view.kind c.in-RustType.is (layout_shown _ c.if-header.false
-        c.write_opaque_type_layout.ensures)
+    c.write_opaque_type_layout.ensures)
 
 pub returns-in-Struct : goal.returns-in-Struct
 returns-in-Struct c = defined_at c.item-v.ensures.0 _ c.item-v.ensures.1.view.kind c.in-Struct.is runs_none

@@ -10,9 +10,14 @@ pub loop-i-init : goal.loop-i-init
 loop-i-init c = (pass_none _ _ _ _ _ _, refl, refl)
 
 pub define-requires : goal.define-requires
-define-requires c =
-    (c.requires.0, c.requires.1, omega (arith, items_count_lem c.requires.0.tabled, c.loop-i-test.true), c.requires.2,
-        omega (arith, c.loop-i.invariant.1, c.requires.3), representing_after c.requires.4 c.loop-i.invariant.0.runs)
+define-requires c = (
+  c.requires.0,
+  c.requires.1,
+  omega (arith, items_count_lem c.requires.0.tabled, c.loop-i-test.true),
+  c.requires.2,
+  omega (arith, c.loop-i.invariant.1, c.requires.3),
+  representing_after c.requires.4 c.loop-i.invariant.0.runs,
+)
 
 pub overflow_add-i : goal.overflow_add-i
 overflow_add-i c =
@@ -22,10 +27,16 @@ pub loop-i-smaller : goal.loop-i-smaller
 loop-i-smaller c = omega (arith, items_count_lem c.requires.0.tabled, c.loop-i-test.true)
 
 pub loop-i-preserved : goal.loop-i-preserved
-loop-i-preserved c =
-    (pass_next _ _ _ _ (omega (arith, items_count_lem c.requires.0.tabled, c.loop-i-test.true)) c.loop-i.invariant.0
-        c.define.ensures, omega (arith, c.loop-i.invariant.1, c.define.auto), omega (arith, c.loop-i.invariant.2,
-        c.define.auto))
+loop-i-preserved c = (
+  pass_next _ _ _ _ (omega (arith, items_count_lem c.requires.0.tabled, c.loop-i-test.true)) c.loop-i.invariant.0
+      c.define.ensures,
+  omega (arith, c.loop-i.invariant.1, c.define.auto),
+  omega (
+    arith,
+    c.loop-i.invariant.2,
+    c.define.auto,
+  ),
+)
 
 pub returns : goal.returns
 returns c =

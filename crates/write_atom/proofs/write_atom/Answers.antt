@@ -66,10 +66,10 @@ returns-in-15 c = rw c.in-15.is c.put_bytes-in-15.ensures
 pub returns-in_default : goal.returns-in_default
 returns-in_default c =
     let r = c.in_default.in_default-own.rest in wrote_as c.put_bytes-in_default.ensures (atom_past _
-        (apart 15 (apart 14 (apart 13
-        (apart 12 (apart 11 (apart 10
-        (apart 9 (apart 8 (apart 7
-        (apart 6 (apart 5 (apart 4 (apart 3 (apart 2 (apart 1 (apart_none _) r.0.0.0.0.0.0.0.0.0.0.0.0.0.0.1)
-        r.0.0.0.0.0.0.0.0.0.0.0.0.0.1) r.0.0.0.0.0.0.0.0.0.0.0.0.1) r.0.0.0.0.0.0.0.0.0.0.0.1)
-        r.0.0.0.0.0.0.0.0.0.0.1) r.0.0.0.0.0.0.0.0.0.1) r.0.0.0.0.0.0.0.0.1) r.0.0.0.0.0.0.0.1) r.0.0.0.0.0.0.1)
-        r.0.0.0.0.0.1) r.0.0.0.0.1) r.0.0.0.1) r.0.0.1) r.0.1) r.1))
+    (apart 15 (apart 14 (apart 13
+    (apart 12 (apart 11 (apart 10
+    (apart 9 (apart 8 (apart 7
+    (apart 6 (apart 5 (apart 4 (apart 3 (apart 2 (apart 1 (apart_none _) r.0.0.0.0.0.0.0.0.0.0.0.0.0.0.1)
+    r.0.0.0.0.0.0.0.0.0.0.0.0.0.1) r.0.0.0.0.0.0.0.0.0.0.0.0.1) r.0.0.0.0.0.0.0.0.0.0.0.1)
+    r.0.0.0.0.0.0.0.0.0.0.1) r.0.0.0.0.0.0.0.0.0.1) r.0.0.0.0.0.0.0.0.1) r.0.0.0.0.0.0.0.1) r.0.0.0.0.0.0.1)
+    r.0.0.0.0.0.1) r.0.0.0.0.1) r.0.0.0.1) r.0.0.1) r.0.1) r.1))

@@ -13,7 +13,7 @@ decreases-write_type_space l = 2 * l.levels + 1
 abbrev pub invariant-write_type-loop-i : goal.invariant-write_type-loop-i
 invariant-write_type-loop-i l =
     Going (items_of l.s l.t) (length (items_in l.t)) l.inner l.s l.count l.initial.next.at l.i l.next.at
-        (sink l.initial.out l.initial.here) (sink l.out l.here)
+    (sink l.initial.out l.initial.here) (sink l.out l.here)
 
 abbrev pub decreases-write_type-loop-i : goal.decreases-write_type-loop-i
 decreases-write_type-loop-i l = l.count - l.i

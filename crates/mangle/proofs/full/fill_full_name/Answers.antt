@@ -29,4 +29,4 @@ bounds-t-i c = omega (arith, c.requires.2, items_count_lem c.requires.0.tabled, 
 pub returns : goal.returns
 returns c =
     filled_item c.requires.0 c.requires.2 c.write_full_name-count.ensures c.requires.3 (omega arith)
-        c.put_text.ensures (omega arith) (omega arith)
+    c.put_text.ensures (omega arith) (omega arith)

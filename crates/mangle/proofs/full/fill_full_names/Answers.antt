@@ -9,9 +9,13 @@ pub loop-i-init : goal.loop-i-init
 loop-i-init c = (omega arith, refl, filled_same _ c.requires.0 c.requires.1)
 
 pub fill_full_name-end-requires : goal.fill_full_name-end-requires
-fill_full_name-end-requires c =
-    (c.loop-i.invariant.2.lent, c.loop-i.invariant.2.room, item_left c.loop-i.invariant.2 c.requires.0.tabled
-        (omega arith), c.loop-i.invariant.1)
+fill_full_name-end-requires c = (
+  c.loop-i.invariant.2.lent,
+  c.loop-i.invariant.2.room,
+  item_left c.loop-i.invariant.2 c.requires.0.tabled
+      (omega arith),
+  c.loop-i.invariant.1,
+)
 
 pub overflow_add-i : goal.overflow_add-i
 overflow_add-i c = omega (arith, c.requires.0.tabled.items)

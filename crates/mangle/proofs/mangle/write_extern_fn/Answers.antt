@@ -7,7 +7,7 @@ push_name-requires c = (c.requires.0, c.requires.2.view.named)
 pub returns-then-f-eq0 : goal.returns-then-f-eq0
 returns-then-f-eq0 c =
     symbol c.requires.2 _ c.write_version-version.ensures (self_none c.requires.2 c.if-f-eq0.true _)
-        c.push_name.ensures
+    c.push_name.ensures
 
 pub item-self_type-requires : goal.item-self_type-requires
 item-self_type-requires c = (c.requires.0.tabled, c.requires.2.view.owner c.if-f-eq0.false)
@@ -21,4 +21,4 @@ push_name-requires-2 c = (c.requires.0, c.requires.2.view.named)
 pub returns : goal.returns
 returns c =
     symbol c.requires.2 _ c.write_version-scope.ensures (self_one c.requires.2 c.if-f-eq0.false
-        c.item-self_type.ensures.1 c.item-self_type.ensures.0 c.push_name-receiver.ensures) c.push_name-2.ensures
+    c.item-self_type.ensures.1 c.item-self_type.ensures.0 c.push_name-receiver.ensures) c.push_name-2.ensures

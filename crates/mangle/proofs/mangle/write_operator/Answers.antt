@@ -7,4 +7,4 @@ push_name-receiver-requires c = (c.requires.0, c.requires.1.view.named)
 pub returns : goal.returns
 returns c =
     layout c.requires.1 _ c.write_version-version.ensures c.push_name-receiver.ensures c.push-here.ensures
-        c.push.ensures
+    c.push.ensures

@@ -16,9 +16,11 @@ pub overflow_add-d : goal.overflow_add-d
 overflow_add-d c = omega (arith, c.requires.1.view.shallow)
 
 pub loop-d-preserved : goal.loop-d-preserved
-loop-d-preserved c =
-    (omega arith, spaces_turn c.requires.1 _ _ c.loop-d-test.true c.namespace-name.ensures.1 c.loop-d.invariant.1
-        c.put_bytes-here.ensures c.put_name_of-here.ensures c.put_bytes-here-in-loop-d.ensures)
+loop-d-preserved c = (
+  omega arith,
+  spaces_turn c.requires.1 _ _ c.loop-d-test.true c.namespace-name.ensures.1 c.loop-d.invariant.1
+      c.put_bytes-here.ensures c.put_name_of-here.ensures c.put_bytes-here-in-loop-d.ensures,
+)
 
 pub returns : goal.returns
 returns c = spaces_all c.requires.1 _ _ c.loop-d-test.false c.loop-d.invariant.1

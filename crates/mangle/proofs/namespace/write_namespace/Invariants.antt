@@ -9,7 +9,7 @@ use Rattle.mangle.proofs.namespace.write_namespace.Given as goal
 abbrev pub invariant-loop-d : goal.invariant-loop-d
 invariant-loop-d l =
     (l.d ≤ l.v.depth) × Wrote (sink l.initial.out l.initial.here) (each_between l.before l.behind
-        (take l.d (item_at (items_of l.s l.t) l.v.number).namespace)) (sink l.out l.here)
+    (take l.d (item_at (items_of l.s l.t) l.v.number).namespace)) (sink l.out l.here)
 
 abbrev pub decreases-loop-d : goal.decreases-loop-d
 decreases-loop-d l = l.v.depth - l.d

@@ -15,4 +15,4 @@ put_name_of-requires c = (c.requires.0, c.item-v.ensures.1.view.named)
 pub returns : goal.returns
 returns c =
     full_name_lem c.item-v.ensures.1 c.item-v.ensures.0 c.write_namespace-outer.ensures c.put_bytes-here.ensures
-        c.put_name_of.ensures
+    c.put_name_of.ensures

@@ -54,5 +54,5 @@ returns c =
     (passed_near c.name_length-name.ensures (ahead _ _ c.advance-begun.ensures q.operands.0)
     (within _ _ c.advance-begun.ensures) c.advance-named.ensures)
     (passed c.end_length-end.ensures (ahead _ _ c.advance-named.ensures (ahead _ _ c.advance-begun.ensures
-        q.operands.0))
+    q.operands.0))
     (within _ _ c.advance-named.ensures) c.advance-3.ensures))

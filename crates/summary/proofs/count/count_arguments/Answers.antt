@@ -10,7 +10,7 @@ loop-j-init c = (omega arith, listed_none _ _ _ _, listed_none _ _ _ _, gathered
 pub count_argument-p-requires : goal.count_argument-p-requires
 count_argument-p-requires c =
     let h = placed c.loop-j.invariant.1.wrote c.loop-j.invariant.2.wrote c.loop-j.invariant.3.wrote
-        c.loop-j.invariant.4.wrote in
+    c.loop-j.invariant.4.wrote in
     (c.requires.0, c.requires.1, omega arith, c.requires.2, placed_behind _ h c.behind_gap-q.ensures)
 
 pub overflow_add-j : goal.overflow_add-j
@@ -19,7 +19,7 @@ overflow_add-j c = omega (arith, c.struct_known-1, c.loop-j-test)
 pub loop-j-preserved : goal.loop-j-preserved
 loop-j-preserved c =
     let h = placed c.loop-j.invariant.1.wrote c.loop-j.invariant.2.wrote c.loop-j.invariant.3.wrote
-        c.loop-j.invariant.4.wrote in
+    c.loop-j.invariant.4.wrote in
     let g = c.behind_gap-q.ensures in (
       omega arith,
       listed_argument _ c.requires.1 (omega arith) c.loop-j.invariant.1
@@ -41,5 +41,5 @@ returns-then-p-eq0 c = passed_none c.if-p-eq0.true
 pub returns : goal.returns
 returns c =
     passed_all (listed_arguments _ c.requires.1 (omega arith) c.loop-j.invariant.1) (listed_arguments _ c.requires.1
-        (omega arith) c.loop-j.invariant.2) (gathered_arguments _ c.requires.1 (omega arith) c.loop-j.invariant.3)
-        (listed_arguments _ c.requires.1 (omega arith) c.loop-j.invariant.4)
+    (omega arith) c.loop-j.invariant.2) (gathered_arguments _ c.requires.1 (omega arith) c.loop-j.invariant.3)
+    (listed_arguments _ c.requires.1 (omega arith) c.loop-j.invariant.4)

@@ -9,11 +9,11 @@ use Rattle.summary.proofs.count.count_arguments.Given as goal
 abbrev pub invariant-loop-j : goal.invariant-loop-j
 invariant-loop-j l =
     (l.j ≤ l.f.arguments) × Listed (extern_arg (items_of l.s l.t)) false (function_of l.s l.t l.f.number).arguments
-        l.j l.comma (sink [] 1) (sink [] l.p.exts) × Listed (λ a. write_type_space (items_of l.s l.t) a.type ++
-        a.name) false (function_of l.s l.t l.f.number).arguments l.j l.comma (sink [] 1) (sink [] l.p.pars) × Gathered
-        (held_local (items_of l.s l.t)) (function_of l.s l.t l.f.number).arguments l.j (sink [] 1)
-        (sink [] l.p.locals) × Listed (operand (items_of l.s l.t)) false (function_of l.s l.t l.f.number).arguments
-        l.j l.comma (sink [] 1) (sink [] l.p.operands)
+    l.j l.comma (sink [] 1) (sink [] l.p.exts) × Listed (λ a. write_type_space (items_of l.s l.t) a.type ++
+    a.name) false (function_of l.s l.t l.f.number).arguments l.j l.comma (sink [] 1) (sink [] l.p.pars) × Gathered
+    (held_local (items_of l.s l.t)) (function_of l.s l.t l.f.number).arguments l.j (sink [] 1)
+    (sink [] l.p.locals) × Listed (operand (items_of l.s l.t)) false (function_of l.s l.t l.f.number).arguments
+    l.j l.comma (sink [] 1) (sink [] l.p.operands)
 
 abbrev pub decreases-loop-j : goal.decreases-loop-j
 decreases-loop-j l = l.f.arguments - l.j
