@@ -1,5 +1,6 @@
 // The write service: the text of any bytes that document 01 accepts.
 #![tactic(auto)]
+
 ghost use Rattle.std.specs.Prelude.{◌≤◌, length, replicate};
 ghost use Rattle.format.specs.Limits.{most_names, most_items};
 ghost use Rattle.format.specs.Decoding.{decode as decodeOf};

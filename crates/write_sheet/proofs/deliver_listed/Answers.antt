@@ -25,8 +25,11 @@ fill_summaries-requires c = (lent_whole c.intern_types.result _ c.intern_types.e
 pub deliver_text-requires : goal.deliver_text-requires
 deliver_text-requires c =
     let lists = filled_lists c.intern_types.ensures (filled_lists c.fill_full_names-full.ensures
-    (filled_lists c.fill_pool-spelled.ensures (listed_lists c.fill_table.ensures.0))) in
-    (lent_whole c.intern_types.result _ c.intern_types.ensures.lent, digested c.requires lists, c.fill_summaries.ensures)
+    (filled_lists c.fill_pool-spelled.ensures (listed_lists c.fill_table.ensures.0))) in (
+      lent_whole c.intern_types.result _ c.intern_types.ensures.lent,
+      digested c.requires lists,
+      c.fill_summaries.ensures,
+    )
 
 pub returns-then-short-eq0 : goal.returns-then-short-eq0
 returns-then-short-eq0 c =
@@ -37,8 +40,11 @@ returns-then-short-eq0 c =
 pub deliver_text-requires-2 : goal.deliver_text-requires-2
 deliver_text-requires-2 c =
     let lists = filled_lists c.fill_full_names-full.ensures
-    (filled_lists c.fill_pool-spelled.ensures (listed_lists c.fill_table.ensures.0)) in
-    (lent_whole c.fill_full_names-full.result _ c.fill_full_names-full.ensures.lent, digested c.requires lists, summaries_none)
+    (filled_lists c.fill_pool-spelled.ensures (listed_lists c.fill_table.ensures.0)) in (
+      lent_whole c.fill_full_names-full.result _ c.fill_full_names-full.ensures.lent,
+      digested c.requires lists,
+      summaries_none,
+    )
 
 pub returns : goal.returns
 returns c =

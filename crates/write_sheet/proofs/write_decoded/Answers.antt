@@ -15,7 +15,8 @@ pub slice_bounds-write_judged-end-3 : goal.slice_bounds-write_judged-end-3
 slice_bounds-write_judged-end-3 c = sym (length-take-le _ _ (omega (arith, c.requires.0.few)))
 
 pub write_judged-requires : goal.write_judged-requires
-write_judged-requires c = (ready_tables _ c.requires.0 c.requires.1 c.requires.2, marked_tables _ c.requires.0 c.requires.1 c.requires.2)
+write_judged-requires c =
+    (ready_tables _ c.requires.0 c.requires.1 c.requires.2, marked_tables _ c.requires.0 c.requires.1 c.requires.2)
 
 pub returns : goal.returns
 returns c = writes_tables _ c.requires.0 c.requires.1 c.requires.2 c.write_judged.ensures
