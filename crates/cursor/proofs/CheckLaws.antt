@@ -7,9 +7,8 @@ use lib.ListN.{length, get_or}
 use Rattle.refusal.specs.declared.Refusal.{Refusal}
 use Rattle.format.specs.Decode.{Got, fault, got, Dec, after, many}
 use Rattle.cursor.specs.declared.Cursor.{Cursor}
-use Rattle.cursor.specs.declared.Step.{Step}
-use Rattle.cursor.specs.declared.Step.TheVariants.{At, Fault}
 use Rattle.cursor.specs.Checking.{step_of, Checks}
+use Rattle.std.specs.Prelude.{Result, Ok, Err, IsErrAnd}
 
 -- what is made of the value does not matter
 pub step_map : {A B : Type 0} (f : A → B) (p : Got A) → step_of (after p (λ x n. got (f x) n)) ≡ step_of p
@@ -17,25 +16,31 @@ step_map f (fault e) = refl
 step_map f (got x n) = refl
 
 -- the last call's answer is the whole's, whatever is made of the value
-pub tail : {A B : Type 0} (f : A → B) {p : Got A} {r : Step} → Checks p r → Checks (after p (λ x n. got (f x) n)) r
+pub tail : {A B : Type 0} (f : A → B) {p : Got A} {r : Result Cursor Refusal} → Checks p r → Checks (after p (λ x n. got (f x) n)) r
 tail f {p} h = record { step = h.step ∙ sym (step_map f p) }
 
 module _ {A : Type 0} where
   -- a call that gave a position: its decoder's value
-  pub stepped : {p : Got A} {r : Step} {c : Cursor} → Checks p r → r ≡ At c → (x : A) × (p ≡ got x c.at)
+  pub stepped : {p : Got A} {r : Result Cursor Refusal} {c : Cursor} → Checks p r → r ≡ Ok c → (x : A) × (p ≡ got x c.at)
   stepped {p = fault e} {r} h t = let f = h.step in absurd (let z : ◌≡◌ {A = ℕ} 0 1 = cc in omega arith)
   stepped {p = got x n} {r} {c} h t =
-      let y : At (record { at = n }) ≡ At c = sym h.step ∙ t in
+      let y : Ok (record { at = n }) ≡ Ok c = sym h.step ∙ t in
       let b : record { at = n } ≡ c = cc in
       (x, ap (λ (z : Cursor). got x z.at) b)
 
   -- a call that refused
-  pub stopped : {p : Got A} {r : Step} {e : Refusal} → Checks p r → r ≡ Fault e → p ≡ fault e
+  pub stopped : {p : Got A} {r : Result Cursor Refusal} {e : Refusal} → Checks p r → r ≡ Err e → p ≡ fault e
   stopped {p = fault e} {r} {e = d} h t = let f = h.step in let z : e ≡ d = cc in rw z
   stopped {p = got x n} {r} h t = let f = h.step in absurd (let z : ◌≡◌ {A = ℕ} 0 1 = cc in omega arith)
 
+  -- a refusal of its part, which the whole hands on
+  pub refused : {p : Got A} {r : Result Cursor Refusal} {e : Refusal} → IsErrAnd r (λ d. d ≡ e) → p ≡ fault e →
+      Checks p r
+  refused {r = Ok c} i h = absurd i
+  refused {r = Err d} i h = record { step = rw (i, h) }
+
   -- a decoder's value, and the checker's answer
-  pub checked : {p : Got A} {r : Step} {x : A} {m : ℕ} → Checks p r → p ≡ got x m → r ≡ At (record { at = m })
+  pub checked : {p : Got A} {r : Result Cursor Refusal} {x : A} {m : ℕ} → Checks p r → p ≡ got x m → r ≡ Ok (record { at = m })
   checked h e = h.step ∙ ap step_of e
 
   -- ---- a loop over a counted list: what is left decides the answer
@@ -51,13 +56,13 @@ module _ {A : Type 0} where
         let z : n - i ≡ suc (n - (i + 1)) = omega arith in
         rw (z, e) (step_map _ (many (n - (i + 1)) d s m))
 
-    pub many_stop : {at : ℕ} {e : Refusal} → i < n → d s at ≡ fault e → step_of (many (n - i) d s at) ≡ Fault e
+    pub many_stop : {at : ℕ} {e : Refusal} → i < n → d s at ≡ fault e → step_of (many (n - i) d s at) ≡ Err e
     unfolding many
     many_stop h e =
         let z : n - i ≡ suc (n - (i + 1)) = omega arith in
         rw (z, e)
 
-    pub many_done : (c : Cursor) → n ≤ i → step_of (many (n - i) d s c.at) ≡ At c
+    pub many_done : (c : Cursor) → n ≤ i → step_of (many (n - i) d s c.at) ≡ Ok c
     unfolding many
     many_done c h = let z : n - i ≡ 0 = omega arith in rw z
 
@@ -81,7 +86,7 @@ module _ {A B : Type 0} (d : Dec A) (k : Dec B) (s : List ℕ) (like : (at : ℕ
           let z : m ≡ l = ap (λ (c : Cursor). c.at) b in
           rw z (step_map _ (many n d s l) ∙ ih l ∙ sym (step_map _ (many n k s l)))
 
-  pub checks_like : (n at : ℕ) {r : Step} → Checks (many n k s at) r → Checks (many n d s at) r
+  pub checks_like : (n at : ℕ) {r : Result Cursor Refusal} → Checks (many n k s at) r → Checks (many n d s at) r
   checks_like n at h = record { step = h.step ∙ sym (many_like n at) }
 
 -- the number of values

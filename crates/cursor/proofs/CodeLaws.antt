@@ -10,9 +10,9 @@ use Rattle.refusal.specs.declared.Refusal.TheVariants.{CutSheet, LooseIndex, Bad
 use Rattle.format.specs.Limits.{most_bits}
 use Rattle.format.specs.Decode.{fault, got}
 use Rattle.format.specs.Bits.{bits_at, bits}
-use Rattle.cursor.specs.declared.Step.TheVariants.{At, Fault}
 use Rattle.cursor.specs.Checking.{Limited, Checks, refusals, refusal_of, step_in}
 use Rattle.cursor.proofs.CheckLaws.{get_d_same}
+use Rattle.std.specs.Prelude.{Ok, Err}
 
 pub refusal_past : (n : ℕ) → 13 < n → Overrun ≡ refusal_of n
 unfolding refusal_of
@@ -25,27 +25,27 @@ refusal_at n d h = get_d_same refusals n d Overrun (omega arith)
 -- ---- what a number says
 
 module _ {r : ℕ} where
-  pub at_in : r ≤ most_bits → step_in r ≡ At (record { at = r })
+  pub at_in : r ≤ most_bits → step_in r ≡ Ok (record { at = r })
   unfolding step_in
   at_in h = rw (le-leb r most_bits h)
 
-  pub fault_in : most_bits < r → step_in r ≡ Fault (refusal_of (r - most_bits))
+  pub fault_in : most_bits < r → step_in r ≡ Err (refusal_of (r - most_bits))
   unfolding step_in
   fault_in h = rw (lt-leb r most_bits h)
 
-pub cut_in : step_in 262145 ≡ Fault CutSheet
+pub cut_in : step_in 262145 ≡ Err CutSheet
 unfolding step_in refusal_of
 cut_in = refl
 
-pub loose_in : step_in 262148 ≡ Fault LooseIndex
+pub loose_in : step_in 262148 ≡ Err LooseIndex
 unfolding step_in refusal_of
 loose_in = refl
 
-pub bad_in : step_in 262149 ≡ Fault BadKind
+pub bad_in : step_in 262149 ≡ Err BadKind
 unfolding step_in refusal_of
 bad_in = refl
 
-pub deep_in : step_in 262150 ≡ Fault TooDeep
+pub deep_in : step_in 262150 ≡ Err TooDeep
 unfolding step_in refusal_of
 deep_in = refl
 

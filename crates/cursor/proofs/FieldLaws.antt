@@ -13,25 +13,24 @@ use Rattle.format.specs.Limits.{most_bits}
 use Rattle.format.specs.Decode.{Got, fault, got, pick}
 use Rattle.format.specs.Bits.{bits_at, bits, bit}
 use Rattle.cursor.specs.declared.Cursor.{Cursor}
-use Rattle.cursor.specs.declared.Field.{Field}
-use Rattle.cursor.specs.declared.Field.TheVariants.{Value, Cut}
-use Rattle.cursor.specs.declared.Step.{Step}
 use Rattle.cursor.specs.Checking.{Limited, field_of, ReadsField, Checks}
 use Rattle.cursor.proofs.BitLaws.{bits_lt}
 use Rattle.cursor.proofs.CheckLaws.{tail}
+use Rattle.std.specs.Prelude.{Result, Ok, Err}
+use Rattle.cursor.specs.declared.Found.{Found}
 
 module _ (n : ℕ) (s : List ℕ) (at : ℕ) where
   -- what the code answers is the field
 
-  pub field_cut : 8 * length s < at + n → ReadsField (bits n s at) Cut
+  pub field_cut : 8 * length s < at + n → ReadsField (bits n s at) (Err CutSheet)
   unfolding bits
   field_cut l = record { field = rw (lt-leb (at + n) (8 * length s) l) }
 
-  pub field_past : Limited s → most_bits < at → ReadsField (bits n s at) Cut
+  pub field_past : Limited s → most_bits < at → ReadsField (bits n s at) (Err CutSheet)
   field_past l h = field_cut (omega arith)
 
   pub field_whole : {v : ℕ} → at + n ≤ 8 * length s → v ≡ bits_at s at n →
-      ReadsField (bits n s at) (Value v (record { at = at + n }))
+      ReadsField (bits n s at) (Ok (record { value = v; next = record { at = at + n } }))
   unfolding bits
   field_whole l e = record { field = rw (le-leb (at + n) (8 * length s) l, e) }
 
@@ -61,36 +60,31 @@ module _ (n : ℕ) (s : List ℕ) (at : ℕ) where
       fault_of true e = absurd (let z : ◌≡◌ {A = ℕ} 0 1 = cc in omega arith)
       fault_of false e = cc
 
-  -- a field that the code found cut
-  pub cut : {r : Field} → ReadsField (bits n s at) r → r ≡ Cut → bits n s at ≡ fault CutSheet
-  cut h t = by_field (bits n s at) refl (sym h.field ∙ t)
-    where
-      by_field : (p : Got ℕ) → bits n s at ≡ p → field_of p ≡ Cut → p ≡ fault CutSheet
-      by_field (fault f) q t = ap fault (field_fault q)
-      by_field (got v m) q t = absurd (let z : ◌≡◌ {A = ℕ} 0 1 = cc in omega arith)
+-- a field that the code found cut
+pub cut : {p : Got ℕ} {r : Result Found Refusal} {e : Refusal} → ReadsField p r → r ≡ Err e → p ≡ fault e
+cut {p = fault e} {r} {e = d} h t = let f = h.field in let z : e ≡ d = cc in rw z
+cut {p = got x n} {r} h t = let f = h.field in absurd (let z : ◌≡◌ {A = ℕ} 0 1 = cc in omega arith)
 
 -- a field that the code read
-pub value : {p : Got ℕ} {r : Field} {v : ℕ} {c : Cursor} → ReadsField p r → r ≡ Value v c → p ≡ got v c.at
+pub value : {p : Got ℕ} {r : Result Found Refusal} {f : Found} → ReadsField p r → r ≡ Ok f → p ≡ got f.value f.next.at
 value {p = fault e} {r} h t = let f = h.field in absurd (let z : ◌≡◌ {A = ℕ} 0 1 = cc in omega arith)
-value {p = got x n} {r} {v} {c} h t =
-    let y : Value x (record { at = n }) ≡ Value v c = sym h.field ∙ t in
-    let a : x ≡ v = cc in
-    let b : record { at = n } ≡ c = cc in
-    let d : n ≡ c.at = ap (λ (z : Cursor). z.at) b in
-    rw (a, d)
+value {p = got x n} {r} {f} h t =
+    let y : Ok (record { value = x; next = record { at = n } }) ≡ Ok f = sym h.field ∙ t in
+    let b : record { value = x; next = record { at = n } } ≡ f = cc in
+    ap (λ (z : Found). got z.value z.next.at) b
 
 -- ---- a field of one bit
 
 module _ (s : List ℕ) (at : ℕ) where
-  pub bit_value : {r : Field} {v : ℕ} {c : Cursor} → ReadsField (bits 1 s at) r → r ≡ Value v c →
-      bit s at ≡ got (eqb v 1) c.at
+  pub bit_value : {r : Result Found Refusal} {f : Found} → ReadsField (bits 1 s at) r → r ≡ Ok f →
+      bit s at ≡ got (eqb f.value 1) f.next.at
   unfolding bit
   bit_value h t = rw (value h t)
 
-  pub bit_cut : {r : Field} → ReadsField (bits 1 s at) r → r ≡ Cut → bit s at ≡ fault CutSheet
+  pub bit_cut : {r : Result Found Refusal} {e : Refusal} → ReadsField (bits 1 s at) r → r ≡ Err e → bit s at ≡ fault e
   unfolding bit
-  bit_cut h t = rw (cut 1 s at h t)
+  bit_cut h t = rw (cut h t)
 
-  pub bit_checks : {r : Step} → Checks (bits 1 s at) r → Checks (bit s at) r
+  pub bit_checks : {r : Result Cursor Refusal} → Checks (bits 1 s at) r → Checks (bit s at) r
   unfolding bit
   bit_checks h = tail _ h

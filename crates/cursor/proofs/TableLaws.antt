@@ -9,10 +9,9 @@ use lib.Seq.{take-suc-set, get_or-take}
 use Rattle.refusal.specs.declared.Refusal.{Refusal}
 use Rattle.format.specs.Decode.{Got, fault, got, Dec, after, many}
 use Rattle.cursor.specs.declared.Cursor.{Cursor}
-use Rattle.cursor.specs.declared.Step.{Step}
-use Rattle.cursor.specs.declared.Step.TheVariants.{At, Fault}
 use Rattle.cursor.specs.Checking.{step_of, Checks, position_of, filled_of, Fills, Table}
 use Rattle.cursor.proofs.CheckLaws.{checks_like}
+use Rattle.std.specs.Prelude.{Result, Ok, Err}
 
 -- ---- a loop that fills a table
 
@@ -48,14 +47,14 @@ module _ (d : Dec ℕ) (s : List ℕ) (n : ℕ) (at₀ : ℕ) where
       }
 
   pub fill_stop : {i at : ℕ} {e : Refusal} {b c : List ℕ} → Filling i b at → i < n → d s at ≡ fault e →
-      Fills (many n d s at₀) (Fault e) n c
+      Fills (many n d s at₀) (Err e) n c
   unfolding many
   fill_stop {i} {at} f h e =
       let z : n - i ≡ suc (n - (i + 1)) = omega arith in
       record { filled = f.so_far ∙ rw (z, e) }
 
   pub fill_done : {i : ℕ} {c : Cursor} {b : List ℕ} → Filling i b c.at → i ≤ n → n ≤ i →
-      Fills (many n d s at₀) (At c) n b
+      Fills (many n d s at₀) (Ok c) n b
   unfolding many
   fill_done {i} {c} {b} f h l =
       let z : n - i ≡ 0 = omega arith in
@@ -63,16 +62,16 @@ module _ (d : Dec ℕ) (s : List ℕ) (n : ℕ) (at₀ : ℕ) where
       record { filled = f.so_far ∙ rw (z, y, append-nil) }
 
 -- what a filled table was read from
-module _ {p : Got (List ℕ)} {r : Step} {n : ℕ} {b : List ℕ} where
-  pub filled_at : {c : Cursor} → Fills p r n b → r ≡ At c → p ≡ got (take n b) c.at
-  filled_at f t = f.filled ∙ ap (λ (x : Step). filled_of x n b) t
+module _ {p : Got (List ℕ)} {r : Result Cursor Refusal} {n : ℕ} {b : List ℕ} where
+  pub filled_at : {c : Cursor} → Fills p r n b → r ≡ Ok c → p ≡ got (take n b) c.at
+  filled_at f t = f.filled ∙ ap (λ (x : Result Cursor Refusal). filled_of x n b) t
 
-  pub filled_fault : {e : Refusal} → Fills p r n b → r ≡ Fault e → p ≡ fault e
-  filled_fault f t = f.filled ∙ ap (λ (x : Step). filled_of x n b) t
+  pub filled_fault : {e : Refusal} → Fills p r n b → r ≡ Err e → p ≡ fault e
+  filled_fault f t = f.filled ∙ ap (λ (x : Result Cursor Refusal). filled_of x n b) t
 
-pub fills_checks : {p : Got (List ℕ)} {r : Step} {n : ℕ} {b : List ℕ} → Fills p r n b → Checks p r
-fills_checks {r = At c} f = record { step = sym (ap step_of f.filled) }
-fills_checks {r = Fault e} f = record { step = sym (ap step_of f.filled) }
+pub fills_checks : {p : Got (List ℕ)} {r : Result Cursor Refusal} {n : ℕ} {b : List ℕ} → Fills p r n b → Checks p r
+fills_checks {r = Ok c} f = record { step = sym (ap step_of f.filled) }
+fills_checks {r = Err e} f = record { step = sym (ap step_of f.filled) }
 
 -- ---- positions
 
@@ -88,7 +87,7 @@ placed_step : {A : Type 0} (at : ℕ) (p : Got A) → step_of p ≡ step_of (aft
 placed_step at (fault e) = refl
 placed_step at (got x m) = refl
 
-pub placed_checks : {A : Type 0} (d : Dec A) (n : ℕ) (s : List ℕ) (at : ℕ) {r : Step} →
+pub placed_checks : {A : Type 0} (d : Dec A) (n : ℕ) (s : List ℕ) (at : ℕ) {r : Result Cursor Refusal} →
     Checks (many n (position_of d) s at) r → Checks (many n d s at) r
 placed_checks d n s at h = checks_like d (position_of d) s (λ m. placed_step m (d s m)) n at h
 
@@ -141,7 +140,7 @@ module _ {A : Type 0} (d : Dec A) (s : List ℕ) where
       by_first ih (got x m) q h = by_rest m x q (ih m) (many n (position_of d) s m) refl h
 
   -- the values, and the table that was filled
-  pub located : (n at : ℕ) {r : Step} {b : List ℕ} {c : Cursor} → Fills (many n (position_of d) s at) r n b → r ≡ At c →
+  pub located : (n at : ℕ) {r : Result Cursor Refusal} {b : List ℕ} {c : Cursor} → Fills (many n (position_of d) s at) r n b → r ≡ Ok c →
       Located d s n at b c.at
   located n at {b} f t =
       let l = positions n at (filled_at f t) in

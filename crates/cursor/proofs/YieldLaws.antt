@@ -13,16 +13,13 @@ use Rattle.refusal.specs.declared.Refusal.TheVariants.{CutSheet}
 use Rattle.format.specs.Decode.{Got, fault, got, pick, after}
 use Rattle.format.specs.Bits.{bits_at, bits, bit}
 use Rattle.cursor.specs.declared.Cursor.{Cursor}
-use Rattle.cursor.specs.declared.Field.{Field}
-use Rattle.cursor.specs.declared.Field.TheVariants.{Value, Cut}
-use Rattle.cursor.specs.declared.Step.{Step}
-use Rattle.cursor.specs.declared.Step.TheVariants.{At, Fault}
 use Rattle.cursor.specs.Checking.{Limited, ReadsField, Checks}
 use Rattle.cursor.proofs.CheckLaws.{stepped, stopped}
 use Rattle.cursor.proofs.FieldLaws.{value, cut, field_lt, field_next}
 use Rattle.cursor.proofs.CodeLaws.{bits_whole}
 use Rattle.cursor.specs.declared.Found.{Found}
 use Rattle.cursor.specs.Yielding.{value_or, next_of, Yields, Finds}
+use Rattle.std.specs.Prelude.{Result, Ok, Err}
 
 -- what is read with a known value
 pub yields : {A : Type 0} {p : Got A} {x : A} {m : ℕ} → p ≡ got x m → Yields p x
@@ -73,17 +70,17 @@ module _ (n : ℕ) (s : List ℕ) (at : ℕ) where
       let l : at + n ≤ 8 * length s = omega (arith, field_end e) in
       (l, got_value (sym e ∙ bits_whole n s at l refl), z)
 
-  pub finds_value : {r : Field} {v : ℕ} {c : Cursor} → Limited s → ReadsField (bits n s at) r → r ≡ Value v c →
-      Finds (bits n s at) n (record { value = v; next = c })
-  finds_value {c} l h t =
+  pub finds_value : {r : Result Found Refusal} {f : Found} → Limited s → ReadsField (bits n s at) r → r ≡ Ok f →
+      Finds (bits n s at) n f
+  finds_value l h t =
       let e = value h t in
       let f = field_end e in
       record { value = rw e; next = rw e; low = field_lt n s at e; near = omega arith }
 
-  pub finds_none : {r : Field} → ReadsField (bits n s at) r → r ≡ Cut →
+  pub finds_none : {r : Result Found Refusal} {e : Refusal} → ReadsField (bits n s at) r → r ≡ Err e →
       Finds (bits n s at) n (record { value = 0; next = record { at = 0 } })
   finds_none h t =
-      let e = cut n s at h t in record { value = rw e; next = rw e; low = pow_pos n; near = omega arith }
+      let e = cut h t in record { value = rw e; next = rw e; low = pow_pos n; near = omega arith }
 
 -- a field that is there is what was found
 pub found : {p : Got ℕ} {n : ℕ} {r : Found} {v m : ℕ} → Finds p n r → p ≡ got v m → p ≡ got r.value r.next.at
@@ -109,9 +106,9 @@ module _ (s : List ℕ) (at : ℕ) {b : Bool} {m : ℕ} {r : Found} (e : bit s a
   bit_next = in_turn (bits 1 s at) _ e (λ v n g h. sym (got_next h) ∙ found_next f g)
 
 -- the position behind what a checker checked
-module _ {A : Type 0} {p : Got A} {r : Step} where
-  pub next_at : {c : Cursor} → Checks p r → r ≡ At c → c.at ≡ next_of p
+module _ {A : Type 0} {p : Got A} {r : Result Cursor Refusal} where
+  pub next_at : {c : Cursor} → Checks p r → r ≡ Ok c → c.at ≡ next_of p
   next_at h t = rw (stepped h t).1
 
-  pub next_none : {e : Refusal} → Checks p r → r ≡ Fault e → 0 ≡ next_of p
+  pub next_none : {e : Refusal} → Checks p r → r ≡ Err e → 0 ≡ next_of p
   next_none h t = rw (stopped h t)

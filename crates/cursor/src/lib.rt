@@ -35,18 +35,11 @@ impl Cursor {
     }
 }
 
-// A field that was read and the position behind it, or the end of the sheet before it was whole.
+// The value of a field, and the position behind it.
 #[derive(Clone, Copy)]
-pub enum Field {
-    Value(u32, Cursor),
-    Cut,
-}
-
-// A checker's answer: the position behind what it checked, or the refusal.
-#[derive(Clone, Copy)]
-pub enum Step {
-    At(Cursor),
-    Fault(Refusal),
+pub struct Found {
+    pub value: u32,
+    pub next: Cursor,
 }
 
 fn to_u64(b: u8) -> u64
@@ -147,32 +140,32 @@ pub fn end_of(s: &[u8]) -> u32
     8 * (s.len() as u32)
 }
 
-// The field of n bits at c.
-pub fn read(s: &[u8], c: Cursor, n: u32) -> Field
+// The field of n bits at c, or that the sheet ends before it is whole.
+pub fn read(s: &[u8], c: Cursor, n: u32) -> Result<Found, Refusal>
     requires { Limited s.now × (n ≤ 32) }
     ensures { ReadsField (bits n s.now c.at) result }
 {
     let at = c.at;
     if Cursor::LAST < at {
-        return Field::Cut;
+        return Err(Refusal::CutSheet);
     }
     let end = at + n;
     if end_of(s) < end {
-        return Field::Cut;
+        return Err(Refusal::CutSheet);
     }
-    Field::Value(extract(s, at, n), Cursor { at: end })
+    Ok(Found {
+        value: extract(s, at, n),
+        next: Cursor { at: end },
+    })
 }
 
-// Past a field of n bits.
-pub fn skip(s: &[u8], c: Cursor, n: u32) -> Step
+// Past a field of n bits: the position behind it.
+pub fn skip(s: &[u8], c: Cursor, n: u32) -> Result<Cursor, Refusal>
     requires { Limited s.now × (n ≤ 32) }
     ensures { Checks (bits n s.now c.at) result }
 {
-    let f = read(s, c, n);
-    match f {
-        Field::Cut => Step::Fault(Refusal::CutSheet),
-        Field::Value(_, next) => Step::At(next),
-    }
+    let f = read(s, c, n)?;
+    Ok(f.next)
 }
 
 // ---- steps as numbers: what a recursive checker answers, for a number comes back in a register
@@ -205,14 +198,14 @@ fn refusal_of(n: u32) -> Refusal
 }
 
 // The step that a number says.
-pub fn step_in(r: u32) -> Step
+pub fn step_in(r: u32) -> Result<Cursor, Refusal>
     ensures { result ≡ step_in r }
 {
     if r <= Cursor::LAST {
-        return Step::At(Cursor { at: r });
+        return Ok(Cursor { at: r });
     }
     let n = r - Cursor::LAST;
-    Step::Fault(refusal_of(n))
+    Err(refusal_of(n))
 }
 
 // Past a field of n bits.
@@ -238,27 +231,15 @@ pub fn width(n: u32) -> u32
 }
 
 // Past an index into a table of n entries.
-pub fn check_index(s: &[u8], c: Cursor, n: u32) -> Step
+pub fn check_index(s: &[u8], c: Cursor, n: u32) -> Result<Cursor, Refusal>
     requires { Limited s.now }
     ensures { Checks (index n s.now c.at) result }
 {
-    let f = read(s, c, width(n));
-    match f {
-        Field::Cut => Step::Fault(Refusal::CutSheet),
-        Field::Value(i, next) => {
-            if i < n {
-                return Step::At(next);
-            }
-            Step::Fault(Refusal::LooseIndex)
-        }
+    let i = read(s, c, width(n))?;
+    if i.value < n {
+        return Ok(i.next);
     }
-}
-
-// The value of a field, and the position behind it.
-#[derive(Clone, Copy)]
-pub struct Found {
-    pub value: u32,
-    pub next: Cursor,
+    Err(Refusal::LooseIndex)
 }
 
 pub mod fields;
