@@ -1,5 +1,5 @@
 -- Laws of a field: where it is cut, its value and the position behind it.
-use mathlib.Core.Path.{◌≡◌, refl, sym, ap, ◌∙◌}
+use mathlib.Core.Path.{◌≡◌, sym, ap, ◌∙◌}
 use mathlib.Core.List.{List}
 use mathlib.Core.Bool.{Bool, true, false}
 use Prim.Native.Nat.{ℕ, ◌+◌, ◌*◌, ◌^◌, ◌<◌, ◌≤◌}
@@ -13,7 +13,7 @@ use Rattle.format.specs.Limits.{most_bits}
 use Rattle.format.specs.Decode.{Got, fault, got, pick}
 use Rattle.format.specs.Bits.{bits_at, bits, bit}
 use Rattle.cursor.specs.declared.Cursor.{Cursor}
-use Rattle.cursor.specs.Checking.{Limited, field_of, ReadsField, Checks}
+use Rattle.cursor.specs.Checking.{Limited, ReadsField, Checks}
 use Rattle.cursor.proofs.BitLaws.{bits_lt}
 use Rattle.cursor.proofs.CheckLaws.{tail}
 use Rattle.std.specs.Prelude.{Result, Ok, Err}

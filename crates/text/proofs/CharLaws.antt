@@ -15,11 +15,11 @@ use Rattle.refusal.specs.declared.Refusal.TheVariants.{CutSheet}
 use Rattle.format.specs.Decode.{fault, got, pick, many}
 use Rattle.format.specs.Bits.{bits_at, bits}
 use Rattle.cursor.specs.declared.Cursor.{Cursor}
-use Rattle.cursor.specs.declared.Step.TheVariants.{At, Fault}
 use Rattle.cursor.specs.Checking.{Fills}
 use Rattle.cursor.proofs.BitLaws.{bits_split, bits_lt}
 use Rattle.cursor.proofs.CodeLaws.{bits_cut, bits_whole}
 use Rattle.text.specs.Text.{chars_at, Holds}
+use Rattle.std.specs.Prelude.{Ok, Err}
 
 -- a character out of a longer run, d bits of which stand behind it
 pub char_in : (s : List ℕ) (p r d : ℕ) {n q x : ℕ} → x ≡ bits_at s p n → n ≡ r + 7 + d → q ≡ p + r →
@@ -105,11 +105,11 @@ module _ (s : List ℕ) where
 
   -- the n characters at c stand in the front of b
   pub fills_whole : (c : Cursor) (n : ℕ) {b : List ℕ} {m : ℕ} → c.at + 7 * n ≤ 8 * length s → m ≡ c.at + 7 * n →
-      Holds s c.at n b → Fills (many n (bits 7) s c.at) (At (record { at = m })) n b
+      Holds s c.at n b → Fills (many n (bits 7) s c.at) (Ok (record { at = m })) n b
   fills_whole c n l e h = record { filled = rw (chars_whole c.at n l, e, h.chars) }
 
   pub fills_cut : (c : Cursor) (n : ℕ) {b : List ℕ} → c.at ≤ 8 * length s → 8 * length s < c.at + 7 * n →
-      Fills (many n (bits 7) s c.at) (Fault CutSheet) n b
+      Fills (many n (bits 7) s c.at) (Err CutSheet) n b
   fills_cut c n h l = record { filled = chars_cut c.at n h l }
 
   -- ---- characters that are put into a buffer

@@ -1,27 +1,25 @@
 -- Texts of a sheet: a length, then as many 7-bit characters, that a rule admits.
-use Rattle.std.specs.Prelude.{◌≡◌, List, [], ◌∷◌, Bool, ℕ, zero, suc, ◌+◌, ◌^◌, ◌<◌, take}
+use Rattle.std.specs.Prelude.{◌≡◌, List, [], ◌∷◌, Bool, ℕ, zero, suc, ◌+◌, ◌^◌, ◌<◌, take, Result, Ok, Err}
 use Rattle.refusal.specs.declared.Refusal.{Refusal}
-use Rattle.refusal.specs.declared.Refusal.TheVariants.{CutSheet}
+use Rattle.cursor.specs.declared.Found.{Found}
 use Rattle.format.specs.Decode.{Got, fault, got, Dec, pick, ◌>>◌, pure, unless, many}
 use Rattle.format.specs.Bits.{bits_at, bits}
-use Rattle.cursor.specs.declared.Field.{Field}
-use Rattle.cursor.specs.declared.Field.TheVariants.{Value, Cut}
 
 -- a text with a length of w bits; `name` and `line` of the format are such
 unfoldable pub ruled_text : ℕ → (List ℕ → Bool) → Refusal → Dec (List ℕ)
 ruled_text w rule e = bits w >> λ n. many n (bits 7) >> λ cs. unless (rule cs) e (pure cs)
 
 -- what r says of it, where the characters were to be put into the front of b
-abbrev pub text_of : Field → List ℕ → (List ℕ → Bool) → Refusal → Got (List ℕ)
-text_of Cut b rule e = fault CutSheet
-text_of (Value n c) b rule e = pick (rule (take n b)) (got (take n b) c.at) (fault e)
+abbrev pub text_of : Result Found Refusal → List ℕ → (List ℕ → Bool) → Refusal → Got (List ℕ)
+text_of (Err f) b rule e = fault f
+text_of (Ok f) b rule e = pick (rule (take f.value b)) (got (take f.value b) f.next.at) (fault e)
 
-abbrev pub field_length : Field → ℕ
-field_length Cut = 0
-field_length (Value n c) = n
+abbrev pub field_length : Result Found Refusal → ℕ
+field_length (Err e) = 0
+field_length (Ok f) = f.value
 
 -- the text's length is r's, and its characters stand in the front of b, whatever the rule
-pub record Spelled (w : ℕ) (s : List ℕ) (at : ℕ) (r : Field) (b : List ℕ) : Type 0 where
+pub record Spelled (w : ℕ) (s : List ℕ) (at : ℕ) (r : Result Found Refusal) (b : List ℕ) : Type 0 where
   pub text : (rule : List ℕ → Bool) (e : Refusal) → ruled_text w rule e s at ≡ text_of r b rule e
   pub short : field_length r < 2 ^ w
 

@@ -7,7 +7,7 @@ ghost use Rattle.format.specs.Bits.{bits};
 ghost use Rattle.cursor.specs.Checking.{Limited, Fills};
 ghost use Rattle.text.specs.Text.{Holds, Spelled};
 
-use cursor::{Cursor, Field, Step, end_of, extract_wide, read};
+use cursor::{Cursor, Found, end_of, extract_wide, read};
 use refusal::Refusal;
 
 // A character of a number, d bits of which stand behind it.
@@ -42,13 +42,8 @@ fn put_few(s: &[u8], at: u32, n: u32, buf: &mut [u8])
     ensures { Holds s.now at n buf.new }
 {
     let x = extract_wide(s, at, 7 * n);
-    let mut down = 7 * n;
-    let mut i: u32 = 0;
-    while i < n {
-        down = down - 7;
-        let k = i as usize;
-        buf[k] = char_in(x, down);
-        i = i + 1;
+    for i in 0..n {
+        buf[i as usize] = char_in(x, 7 * (n - 1 - i));
     }
 }
 
@@ -59,10 +54,8 @@ fn put_many(s: &[u8], at: u32, n: u32, buf: &mut [u8])
     ensures { Holds s.now at n buf.new }
 {
     let last = n - 8;
-    let mut i: u32 = 0;
-    while i < last {
+    for i in (0..last).step_by(8) {
         put_eight(s, at, i, buf);
-        i = i + 8;
     }
     put_eight(s, at, last, buf);
 }
@@ -80,34 +73,29 @@ pub fn unpack(s: &[u8], at: u32, n: u32, buf: &mut [u8])
 }
 
 // The n characters at c, into the front of buf.
-fn chars(s: &[u8], c: Cursor, n: u32, buf: &mut [u8]) -> Step
+fn chars(s: &[u8], c: Cursor, n: u32, buf: &mut [u8]) -> Result<Cursor, Refusal>
     requires { Limited s.now × (c.at ≤ 8 * length s.now) × (n ≤ length buf.old) }
     ensures { Fills (many n (bits 7) s.now c.at) result n buf.new }
 {
     let at = c.at;
     let left = end_of(s) - at;
     if left / 7 < n {
-        return Step::Fault(Refusal::CutSheet);
+        return Err(Refusal::CutSheet);
     }
     let next = Cursor { at: at + 7 * n };
     unpack(s, at, n, buf);
-    Step::At(next)
+    Ok(next)
 }
 
 // A length of w bits and as many characters at c, into the front of buf: the length, and the position behind them.
-pub fn read_text(s: &[u8], c: Cursor, w: u32, buf: &mut [u8]) -> Field
+pub fn read_text(s: &[u8], c: Cursor, w: u32, buf: &mut [u8]) -> Result<Found, Refusal>
     requires { Limited s.now × (w ≤ 32) × (2 ^ w ≤ length buf.old + 1) }
     ensures { Spelled w s.now c.at result buf.new }
 {
-    let f = read(s, c, w);
-    match f {
-        Field::Cut => Field::Cut,
-        Field::Value(n, first) => {
-            let r = chars(s, first, n, buf);
-            match r {
-                Step::Fault(_) => Field::Cut,
-                Step::At(next) => Field::Value(n, next),
-            }
-        }
-    }
+    let length = read(s, c, w)?;
+    let next = chars(s, length.next, length.value, buf)?;
+    Ok(Found {
+        value: length.value,
+        next,
+    })
 }
