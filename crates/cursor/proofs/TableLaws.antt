@@ -11,7 +11,7 @@ use Rattle.format.specs.Decode.{Got, fault, got, Dec, after, many}
 use Rattle.cursor.specs.declared.Cursor.{Cursor}
 use Rattle.cursor.specs.Checking.{step_of, Checks, position_of, filled_of, Fills, Table}
 use Rattle.cursor.proofs.CheckLaws.{checks_like}
-use Rattle.std.specs.Prelude.{Result, Ok, Err}
+use Rattle.std.specs.Prelude.{Result, Ok, Err, IsErrAnd}
 
 -- ---- a loop that fills a table
 
@@ -46,12 +46,13 @@ module _ (d : Dec ℕ) (s : List ℕ) (n : ℕ) (at₀ : ℕ) where
             (rw (← add-one i) (rw (z, e) (prefixed_one (take i b) x (many (n - (i + 1)) d s m)))));
       }
 
-  pub fill_stop : {i at : ℕ} {e : Refusal} {b c : List ℕ} → Filling i b at → i < n → d s at ≡ fault e →
-      Fills (many n d s at₀) (Err e) n c
+  pub fill_stop : {i at : ℕ} {e : Refusal} {r : Result Cursor Refusal} {b c : List ℕ} → Filling i b at → i < n →
+      IsErrAnd r (λ x. x ≡ e) → d s at ≡ fault e → Fills (many n d s at₀) r n c
   unfolding many
-  fill_stop {i} {at} f h e =
+  fill_stop {r = Ok a} f h y q = absurd y
+  fill_stop {i} {r = Err a} f h y q =
       let z : n - i ≡ suc (n - (i + 1)) = omega arith in
-      record { filled = f.so_far ∙ rw (z, e) }
+      record { filled = f.so_far ∙ rw (z, q, y) }
 
   pub fill_done : {i : ℕ} {c : Cursor} {b : List ℕ} → Filling i b c.at → i ≤ n → n ≤ i →
       Fills (many n d s at₀) (Ok c) n b

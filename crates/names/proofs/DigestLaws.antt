@@ -2,7 +2,7 @@
 use mathlib.Core.Path.{◌≡◌, refl, sym, ap, ◌∙◌}
 use mathlib.Core.List.{List, [], ◌∷◌, map}
 use mathlib.Core.Bool.{Bool, true, false}
-use Prim.Native.Nat.{ℕ, zero, suc, ◌+◌, ◌-◌, ◌*◌, ◌/◌, ◌%◌, ◌^◌, ◌<◌, ◌≤◌}
+use Prim.Native.Nat.{ℕ, zero, suc, ◌+◌, ◌-◌, ◌*◌, ◌/◌, ◌%◌, ◌^◌, ◌<◌, ◌≤◌, min}
 use native.Mathlib.Omega.{arith}
 use native.Mathlib.Numerals.{add-one}
 use lib.ListN.{length, get_or, take, drop, drop_of_length-le}
@@ -15,17 +15,15 @@ use Rattle.format.specs.Bits.{bits_at, bits}
 use Rattle.format.specs.Sheet.{Name}
 use Rattle.format.specs.Decoding.{name_by}
 use Rattle.cursor.specs.declared.Cursor.{Cursor}
-use Rattle.cursor.specs.declared.Step.{Step}
-use Rattle.cursor.specs.declared.Step.TheVariants as Step
 use Rattle.cursor.specs.Checking.{Fills}
 use Rattle.cursor.proofs.BitLaws.{bits_split}
 use Rattle.cursor.proofs.TableLaws.{filled_at}
 use Rattle.cursor.proofs.YieldLaws.{in_turn, got_value, got_next}
 use Rattle.text.specs.Text.{chars_at}
 use Rattle.text.proofs.CharLaws.{field_end, chars_whole, chars_cut}
-use Rattle.names.specs.declared.Digested.{Digested}
-use Rattle.names.specs.declared.Digested.TheVariants.{At, Fault}
 use Rattle.names.specs.Digests.{mix, window_from, digest_from, digest, digest_of, Digests}
+use Rattle.std.specs.Prelude.{Result, Ok, Err, IsErrAnd}
+use Rattle.cursor.specs.declared.Found.{Found}
 
 -- ---- windows of characters in a sheet
 
@@ -64,7 +62,7 @@ module _ (s : List ℕ) (h : ℕ) where
   digest_start at n = let z : (at + 7 * n - at) / 7 ≡ n = omega arith in rw z
 
   -- a turn: the window's b bits are 56, or those left
-  pub digest_turn : {at end b x y : ℕ} → at < end → (end - at) % 7 ≡ 0 → b ≡ end - at - (end - at - 56) →
+  pub digest_turn : {at end b x y : ℕ} → at < end → (end - at) % 7 ≡ 0 → b ≡ min (end - at) 56 →
       x ≡ bits_at s at b → y ≡ mix h x →
       digest_from h (chars_at s at ((end - at) / 7)) ≡ digest_from y (chars_at s (at + b) ((end - (at + b)) / 7))
   digest_turn {at} {end} {b} l z e f g =
@@ -112,31 +110,35 @@ module _ (w : List ℕ) (i x : ℕ) where
 -- ---- a walk that digests
 
 -- a name that was checked, and its digest
-pub digested : {p : Got Name} {r : Digested} {h : ℕ} {c : Cursor} → Digests p r → r ≡ At h c →
-    (x : Name) × (p ≡ got x c.at) × (h ≡ digest x)
-digested {p = fault e} {r} d t = let f = d.step in absurd (let z : ◌≡◌ {A = ℕ} 0 1 = cc in omega arith)
-digested {p = got x n} {r} {h} {c} d t =
-    let y : At (digest x) (record { at = n }) ≡ At h c = sym d.step ∙ t in
-    let b : record { at = n } ≡ c = cc in
-    let k : h ≡ digest x = cc in
-    (x, ap (λ (z : Cursor). got x z.at) b, k)
+pub digested : {p : Got Name} {r : Result Found Refusal} {f : Found} → Digests p r → r ≡ Ok f →
+    (x : Name) × (p ≡ got x f.next.at) × (f.value ≡ digest x)
+digested {p = fault e} {r} d t = let s = d.step in absurd (let z : ◌≡◌ {A = ℕ} 0 1 = cc in omega arith)
+digested {p = got x n} {r} {f} d t =
+    let y : Ok (record { value = digest x; next = record { at = n } }) ≡ Ok f = sym d.step ∙ t in
+    let b : record { value = digest x; next = record { at = n } } ≡ f = cc in
+    (x, ap (λ (z : Found). got x z.next.at) b, sym (ap (λ (z : Found). z.value) b))
 
-pub undigested : {p : Got Name} {r : Digested} {e : Refusal} → Digests p r → r ≡ Fault e → p ≡ fault e
+pub undigested : {p : Got Name} {r : Result Found Refusal} {e : Refusal} → Digests p r → r ≡ Err e → p ≡ fault e
 undigested {p = fault e} {r} {e = f} d t = let s = d.step in let z : e ≡ f = cc in rw z
 undigested {p = got x n} {r} d t = let s = d.step in absurd (let z : ◌≡◌ {A = ℕ} 0 1 = cc in omega arith)
 
+-- a refusal of its part, which the whole hands on
+pub unread : {p : Got Name} {r : Result Found Refusal} {e : Refusal} → IsErrAnd r (λ d. d ≡ e) → p ≡ fault e → Digests p r
+unread {r = Ok f} i h = absurd i
+unread {r = Err d} i h = record { step = rw (i, h) }
+
 -- a name whose length was read
 module _ (rule : List ℕ → Bool) (s : List ℕ) (at : ℕ) {n m : ℕ} (q : bits 6 s at ≡ got n m) where
-  pub name_short : 8 * length s < m + 7 * n → Digests (name_by rule s at) (Fault CutSheet)
+  pub name_short : 8 * length s < m + 7 * n → Digests (name_by rule s at) (Err CutSheet)
   unfolding name_by
   name_short h = rw (q, chars_cut s m n (field_end 6 s at q) h) record { step = refl }
 
   pub name_good : {h : ℕ} → m + 7 * n ≤ 8 * length s → rule (chars_at s m n) ≡ true → h ≡ digest (chars_at s m n) →
-      Digests (name_by rule s at) (At h (record { at = m + 7 * n }))
+      Digests (name_by rule s at) (Ok (record { value = h; next = record { at = m + 7 * n } }))
   unfolding name_by
   name_good l e f = rw (q, chars_whole s m n l, e, f) record { step = refl }
 
-  pub name_bad : m + 7 * n ≤ 8 * length s → rule (chars_at s m n) ≡ false → Digests (name_by rule s at) (Fault BadName)
+  pub name_bad : m + 7 * n ≤ 8 * length s → rule (chars_at s m n) ≡ false → Digests (name_by rule s at) (Err BadName)
   unfolding name_by
   name_bad l e = rw (q, chars_whole s m n l, e) record { step = refl }
 
@@ -159,6 +161,6 @@ digests_many d s (suc n) at h =
     rw (← got_value h₂, ← got_next h₂, e₁, digests_many d s n m e₂)))
 
 -- what a filled table holds
-pub digests_filled : (d : Dec Name) (s : List ℕ) (n at : ℕ) {xs : List Name} {r : Step} {b : List ℕ} {c : Cursor} →
-    Fills (many n (digest_of d) s at) r n b → r ≡ Step.At c → many n d s at ≡ got xs c.at → take n b ≡ map digest xs
+pub digests_filled : (d : Dec Name) (s : List ℕ) (n at : ℕ) {xs : List Name} {r : Result Cursor Refusal} {b : List ℕ} {c : Cursor} →
+    Fills (many n (digest_of d) s at) r n b → r ≡ Ok c → many n d s at ≡ got xs c.at → take n b ≡ map digest xs
 digests_filled d s n at f t h = got_value (sym (filled_at f t) ∙ digests_many d s n at h)

@@ -12,12 +12,11 @@ use Rattle.format.specs.Limits.{longest_name}
 use Rattle.format.specs.Decode.{Got, fault, got, pick}
 use Rattle.format.specs.Sheet.{Name}
 use Rattle.format.specs.Decoding.{name_by, name}
-use Rattle.cursor.specs.declared.Cursor.{Cursor}
-use Rattle.cursor.specs.declared.Field.{Field}
-use Rattle.cursor.specs.declared.Field.TheVariants.{Value, Cut}
 use Rattle.text.specs.Text.{ruled_text, Spelled}
 use Rattle.text.proofs.TextLaws.{text_value, text_none, text_lt}
 use Rattle.names.specs.Fetching.{Fetched}
+use Rattle.std.specs.Prelude.{Result, Ok, Err}
+use Rattle.cursor.specs.declared.Found.{Found}
 
 no_name : {p : Got Name} (e : Refusal) (n : ℕ) (b : List ℕ) → n ≤ longest_name → p ≡ fault e → Fetched p n b
 no_name e n b l h = record {
@@ -25,16 +24,17 @@ no_name e n b l h = record {
   chars = λ cs m g. absurd (let z : ◌≡◌ {A = ℕ} 0 1 = cc in omega arith);
 }
 
-module _ (s : List ℕ) (at : ℕ) {b : List ℕ} {r : Field} (h : Spelled 6 s at r b) where
-  pub fetch_none : r ≡ Cut → Fetched (name s at) 0 b
+module _ (s : List ℕ) (at : ℕ) {b : List ℕ} {r : Result Found Refusal} (h : Spelled 6 s at r b) where
+  pub fetch_none : {e : Refusal} → r ≡ Err e → Fetched (name s at) 0 b
   unfolding name name_by ruled_text
   fetch_none t = no_name _ 0 b (omega arith) (text_none 6 s at h t is_name BadName)
 
-  pub fetch_value : {n : ℕ} {c : Cursor} → r ≡ Value n c → Fetched (name s at) n b
+  pub fetch_value : {f : Found} → r ≡ Ok f → Fetched (name s at) f.value b
   unfolding name name_by ruled_text
-  fetch_value {n} {c} t =
-      by_rule (omega (arith, text_lt 6 s at h t)) (is_name (take n b)) (text_value 6 s at h t is_name BadName)
+  fetch_value {f} t =
+      by_rule (omega (arith, text_lt 6 s at h t)) (is_name (take f.value b)) (text_value 6 s at h t is_name BadName)
     where
-      by_rule : n ≤ longest_name → (x : Bool) → name s at ≡ pick x (got (take n b) c.at) (fault BadName) → Fetched (name s at) n b
+      by_rule : f.value ≤ longest_name → (x : Bool) →
+          name s at ≡ pick x (got (take f.value b) f.next.at) (fault BadName) → Fetched (name s at) f.value b
       by_rule l true e = record { short = l; chars = λ cs m g. cc }
-      by_rule l false e = no_name BadName n b l e
+      by_rule l false e = no_name BadName f.value b l e

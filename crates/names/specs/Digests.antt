@@ -1,11 +1,10 @@
 -- Digests: numbers that tell most unequal names apart.
 use Rattle.std.specs.Prelude.{◌≡◌, List, [], ◌∷◌, map, Bool, true, false, ℕ, zero, suc, ◌+◌, ◌*◌, ◌/◌, ◌%◌}
+use Rattle.std.specs.Prelude.{Option, Some, None, Result, Ok, Err}
+use Rattle.refusal.specs.declared.Refusal.{Refusal}
 use Rattle.format.specs.Decode.{Got, fault, got, Dec, after}
 use Rattle.format.specs.Sheet.{Name}
-use Rattle.names.specs.declared.Judged.{Judged}
-use Rattle.names.specs.declared.Judged.TheVariants.{Good, Bad}
-use Rattle.names.specs.declared.Digested.{Digested}
-use Rattle.names.specs.declared.Digested.TheVariants.{At, Fault}
+use Rattle.cursor.specs.declared.Found.{Found}
 use Rattle.names.specs.Naming.{name_at}
 
 -- a digest with a window of at most eight characters more, which is one number of 7 bits each: a multiplicative hash
@@ -35,18 +34,19 @@ digests_at s names = map (λ at. digest (name_at s at)) names
 -- ---- a walk that digests
 
 -- the digest h, where the test holds
-abbrev pub judged_of : Bool → ℕ → Judged
-judged_of true h = Good h
-judged_of false h = Bad
+abbrev pub judged_of : Bool → ℕ → Option ℕ
+judged_of true h = Some h
+judged_of false h = None
 
 -- the digest of the name that d reads
 abbrev pub digest_of : Dec Name → Dec ℕ
 digest_of d s at = after (d s at) (λ x m. got (digest x) m)
 
-abbrev pub digested_of : Got Name → Digested
-digested_of (fault e) = Fault e
-digested_of (got x n) = At (digest x) (record { at = n })
+-- a name's digest and the position behind the name, or the refusal
+abbrev pub digested_of : Got Name → Result Found Refusal
+digested_of (fault e) = Err e
+digested_of (got x n) = Ok (record { value = digest x; next = record { at = n } })
 
 -- a checker's answer is that of the decoder's p
-pub record Digests (p : Got Name) (r : Digested) : Type 0 where
+pub record Digests (p : Got Name) (r : Result Found Refusal) : Type 0 where
   pub step : r ≡ digested_of p

@@ -16,7 +16,7 @@ ghost use Rattle.names.specs.Naming.{name_at, Named};
 ghost use Rattle.names.specs.Digests.{mix as mixOf, digest as digestChars, digests_at, digest_of, judged_of};
 ghost use Rattle.names.specs.Digests.{Digests};
 
-use cursor::{Cursor, Field, Step, end_of, extract_wide, read};
+use cursor::{Cursor, Found, end_of, extract_wide, read};
 use refusal::Refusal;
 use text::read_text;
 use walk::walk;
@@ -35,12 +35,6 @@ impl Name {
 
 // ---- digests
 
-fn to_u64(c: u8) -> u64
-    ensures { (result ≡ c) × (result < 256) }
-{
-    c as u64
-}
-
 // A digest with a window of characters more; of a text they may have eight bits.
 fn mix(h: u64, x: u64) -> u64
     requires { (h < 2 ^ 32) × (x < 2 ^ 58) }
@@ -56,36 +50,17 @@ pub fn digest(w: &[u8]) -> u32
     ensures { result ≡ digestChars w.now }
 {
     let mut x: u64 = 0;
-    let mut i: usize = 0;
-    while i < w.len() {
-        x = x * 128 + to_u64(w[i]);
-        i = i + 1;
+    for c in w {
+        x = x * 128 + *c as u64;
     }
     mix(0, x) as u32
 }
 
-// The bits of the next window, where so many are left.
-fn window_bits(left: u32) -> u32
-    ensures { result ≡ left - (left - 56) }
-{
-    if left < 56 {
-        return left;
-    }
-    56
-}
-
 // ---- a walk over the names
 
-// The digest of a name, or that the characters are none.
-#[derive(Clone, Copy)]
-pub enum Judged {
-    Good(u32),
-    Bad,
-}
-
-// The n characters at a position, by the rule of a sheet of that edition. Each window of them is read once, for the
-// digest and for the state.
-fn judge_name(t: &[u16; Words::SIZE], s: &[u8], at: u32, n: u32, edition: u32) -> Judged
+// The digest of the n characters at a position, if they are a name by the rule of a sheet of that edition. Each window of
+// them is read once, for the digest and for the state.
+fn judge_name(t: &[u16; Words::SIZE], s: &[u8], at: u32, n: u32, edition: u32) -> Option<u32>
     requires { Right t.now × Limited s.now × (at + 7 * n ≤ 8 * length s.now) }
     ensures { result ≡ judged_of (sheet_name (table_of edition) (chars_at s.now at n))
         (digestChars (chars_at s.now at n)) }
@@ -95,46 +70,35 @@ fn judge_name(t: &[u16; Words::SIZE], s: &[u8], at: u32, n: u32, edition: u32) -
     let mut h: u64 = 0;
     let mut next = at;
     while next < end {
-        let bits = window_bits(end - next);
+        let bits = (end - next).min(56);
         let x = extract_wide(s, next, bits);
         h = mix(h, x);
         q = walk(t, q, x, bits);
         next = next + bits;
     }
-    let good = verdict(t, q, edition);
-    if good {
-        return Judged::Good(h as u32);
+    if verdict(t, q, edition) {
+        return Some(h as u32);
     }
-    Judged::Bad
+    None
 }
 
-// A name's digest and the position behind it, or the refusal.
-#[derive(Clone, Copy)]
-pub enum Digested {
-    At(u32, Cursor),
-    Fault(Refusal),
-}
-
-// Past the name at c, by the rule of a sheet of that edition.
-fn check_name(t: &[u16; Words::SIZE], s: &[u8], c: Cursor, edition: u32) -> Digested
+// The digest of the name at c, by the rule of a sheet of that edition, and the position behind it.
+fn check_name(t: &[u16; Words::SIZE], s: &[u8], c: Cursor, edition: u32) -> Result<Found, Refusal>
     requires { Right t.now × Limited s.now }
     ensures { Digests (table_name (table_of edition) s.now c.at) result }
 {
-    let f = read(s, c, 6);
-    match f {
-        Field::Cut => Digested::Fault(Refusal::CutSheet),
-        Field::Value(n, first) => {
-            let at = first.at;
-            let behind = at + 7 * n;
-            if end_of(s) < behind {
-                return Digested::Fault(Refusal::CutSheet);
-            }
-            let r = judge_name(t, s, at, n, edition);
-            match r {
-                Judged::Good(h) => Digested::At(h, Cursor { at: behind }),
-                Judged::Bad => Digested::Fault(Refusal::BadName),
-            }
-        }
+    let length = read(s, c, 6)?;
+    let at = length.next.at;
+    let behind = at + 7 * length.value;
+    if end_of(s) < behind {
+        return Err(Refusal::CutSheet);
+    }
+    match judge_name(t, s, at, length.value, edition) {
+        Some(digest) => Ok(Found {
+            value: digest,
+            next: Cursor { at: behind },
+        }),
+        None => Err(Refusal::BadName),
     }
 }
 
@@ -146,7 +110,7 @@ pub fn check_names(
     n: u32,
     offsets: &mut [u32],
     digests: &mut [u32],
-) -> Step
+) -> Result<Cursor, Refusal>
     requires { Limited s.now × (n ≤ length offsets.old) × (n ≤ length digests.old) }
     ensures { Fills (many n (position_of (table_name (table_of edition))) s.now c.at) result n
         offsets.new ×
@@ -154,24 +118,14 @@ pub fn check_names(
 {
     let words = Words::table();
     let mut next = c;
-    let mut i: u32 = 0;
-    while i < n {
-        let r = check_name(&words, s, next, edition);
-        match r {
-            Digested::At(h, p) => {
-                let k = i as usize;
-                let here = next.at;
-                offsets[k] = here;
-                digests[k] = h;
-                next = p;
-            }
-            Digested::Fault(e) => {
-                return Step::Fault(e);
-            }
-        }
-        i = i + 1;
+    for i in 0..n {
+        let name = check_name(&words, s, next, edition)?;
+        let k = i as usize;
+        offsets[k] = next.at;
+        digests[k] = name.value;
+        next = name.next;
     }
-    Step::At(next)
+    Ok(next)
 }
 
 // The name at a position, into the front of buf.
@@ -179,10 +133,11 @@ pub fn fetch(s: &[u8], at: u32, buf: &mut [u8]) -> Name
     requires { Limited s.now × (longest_name ≤ length buf.old) }
     ensures { Fetched (name s.now at) result.length buf.new }
 {
-    let f = read_text(s, Cursor::new(at), 6, buf);
-    match f {
-        Field::Cut => Name { length: 0 },
-        Field::Value(n, _) => Name { length: n as usize },
+    match read_text(s, Cursor::new(at), 6, buf) {
+        Ok(text) => Name {
+            length: text.value as usize,
+        },
+        Err(_) => Name { length: 0 },
     }
 }
 
@@ -210,15 +165,9 @@ pub fn same_name(s: &[u8], names: &[u32], digests: &[u32], i: u32, j: u32) -> bo
     ensures { result ≡ same (name_at s.now (get_or names.now i 0))
         (name_at s.now (get_or names.now j 0)) }
 {
-    if i == j {
-        return true;
-    }
     let a = i as usize;
     let b = j as usize;
-    if digests[a] != digests[b] {
-        return false;
-    }
-    same_chars(s, names[a], names[b])
+    i == j || digests[a] == digests[b] && same_chars(s, names[a], names[b])
 }
 
 // Whether name i is the text, by its characters alone.
@@ -240,9 +189,5 @@ pub fn name_is(s: &[u8], names: &[u32], digests: &[u32], i: u32, text: &[u8]) ->
     ensures { result ≡ same (name_at s.now (get_or names.now i 0)) text.now }
 {
     let k = i as usize;
-    let h = digest(text);
-    if digests[k] != h {
-        return false;
-    }
-    name_reads(s, names, i, text)
+    digests[k] == digest(text) && name_reads(s, names, i, text)
 }

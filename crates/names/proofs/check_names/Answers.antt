@@ -1,6 +1,5 @@
 use native.Mathlib.Omega.{arith}
 use mathlib.Core.Path.{refl}
-use Prim.Native.Nat.{◌-◌}
 use lib.ListN.{length-set}
 use Rattle.cursor.specs.Checking.{position_of}
 use Rattle.cursor.proofs.TableLaws.{placed_got, placed_fault, fill_none, fill_turn, fill_stop, fill_done}
@@ -11,35 +10,29 @@ use Rattle.names.proofs.DigestLaws.{digested, undigested, digest_got, digest_fau
 use Rattle.names.proofs.check_names.Goals as goal
 
 pub loop-i-init : goal.loop-i-init
-loop-i-init c = (omega arith, refl, refl, fill_none _ _ _ _ _, fill_none _ _ _ _ _)
+loop-i-init c = (refl, refl, fill_none _ _ _ _ _, fill_none _ _ _ _ _)
 
-pub returns-in-Fault : goal.returns-in-Fault
-returns-in-Fault c =
-    let d = table_name (table_of c.args.edition) in (
-      fill_stop (position_of d) _ _ _ c.loop-i.invariant.3 c.loop-i-test.true (placed_fault d (undigested
-          c.check_name-r.ensures c.in-Fault.is)),
-      fill_stop (digest_of d) _ _ _ c.loop-i.invariant.4 c.loop-i-test.true
-          (digest_fault d (undigested c.check_name-r.ensures c.in-Fault.is)),
+pub returns-in_err-name : goal.returns-in_err-name
+returns-in_err-name c =
+    let d = table_name (table_of c.args.edition) in
+    let e = undigested c.check_name.ensures c.in_err-name.was in (
+      fill_stop (position_of d) _ _ _ c.loop-i.invariant.2 (omega arith) c.from_residual.ensures.1 (placed_fault d e),
+      fill_stop (digest_of d) _ _ _ c.loop-i.invariant.3 (omega arith) c.from_residual.ensures.1 (digest_fault d e),
     )
 
 pub loop-i-preserved : goal.loop-i-preserved
 loop-i-preserved c =
-    let d = table_name (table_of c.args.edition) in (
-      omega arith,
+    let d = table_name (table_of c.args.edition) in
+    let q = digested c.check_name.ensures c.in_ok-name.was in (
       simp length-set (omega arith),
       simp length-set (omega arith),
-      fill_turn (position_of d) _ _ _
-          c.loop-i.invariant.3 c.loop-i-test.true (omega arith) (placed_got d (digested c.check_name-r.ensures
-          c.in-At.is).1),
-      fill_turn (digest_of d) _ _ _ c.loop-i.invariant.4 c.loop-i-test.true (omega arith)
-          (digest_got d (digested c.check_name-r.ensures c.in-At.is).1 (digested c.check_name-r.ensures
-          c.in-At.is).2),
+      fill_turn (position_of d) _ _ _ c.loop-i.invariant.2 (omega arith) (omega arith) (placed_got d q.1),
+      fill_turn (digest_of d) _ _ _ c.loop-i.invariant.3 (omega arith) (omega arith) (digest_got d q.1 q.2),
     )
 
 pub returns : goal.returns
 returns c =
     let d = table_name (table_of c.args.edition) in (
-      fill_done (position_of d) _ _ _ c.loop-i.invariant.3 (omega arith) (omega arith),
-      fill_done (digest_of d) _ _
-          _ c.loop-i.invariant.4 (omega arith) (omega arith),
+      fill_done (position_of d) _ _ _ c.loop-i.invariant.2 (omega arith) (omega arith),
+      fill_done (digest_of d) _ _ _ c.loop-i.invariant.3 (omega arith) (omega arith),
     )

@@ -1,5 +1,4 @@
 use mathlib.Core.Path.{◌≡◌}
-use Prim.Native.Nat.{◌-◌, ◌≤◌}
 use lib.ListN.{length}
 use Rattle.cursor.specs.Checking.{position_of}
 use Rattle.cursor.proofs.TableLaws.{Filling}
@@ -10,9 +9,6 @@ use Rattle.names.proofs.check_names.Given as goal
 
 abbrev pub invariant-loop-i : goal.invariant-loop-i
 invariant-loop-i l =
-    (l.i ≤ l.n) × (length l.offsets ≡ length l.initial.offsets) × (length l.digests ≡ length l.initial.digests) ×
+    (length l.offsets ≡ length l.initial.offsets) × (length l.digests ≡ length l.initial.digests) ×
     Filling (position_of (table_name (table_of l.edition))) l.s l.n l.initial.next.at l.i l.offsets l.next.at ×
     Filling (digest_of (table_name (table_of l.edition))) l.s l.n l.initial.next.at l.i l.digests l.next.at
-
-abbrev pub decreases-loop-i : goal.decreases-loop-i
-decreases-loop-i l = l.n - l.i
