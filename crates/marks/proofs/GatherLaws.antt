@@ -6,29 +6,28 @@ use native.Mathlib.Omega.{arith}
 use Rattle.refusal.specs.declared.Refusal.{Refusal}
 use Rattle.format.specs.Decode.{Got, fault, got, Dec, after, many}
 use Rattle.cursor.specs.declared.Cursor.{Cursor}
-use Rattle.cursor.specs.declared.Step.{Step}
-use Rattle.cursor.specs.declared.Step.TheVariants.{At, Fault}
 use Rattle.format.specs.Limits.{most_bits}
 use Rattle.cursor.specs.Checking.{step_of, Checks, step_in}
 use Rattle.cursor.proofs.CheckLaws.{stopped}
 use Rattle.cursor.proofs.CodeLaws.{fault_in}
 use Rattle.marks.specs.Gathering.{each, gathered_of, answered, Gathers}
+use Rattle.std.specs.Prelude.{Result, Ok, Err, IsErrAnd}
 
 module _ {A S : Type 0} {f : A → S → S} where
   -- the answer alone
-  pub gathers_checks : {p : Got A} {u v : S} {r : Step} → Gathers f p u r v → Checks p r
+  pub gathers_checks : {p : Got A} {u v : S} {r : Result Cursor Refusal} → Gathers f p u r v → Checks p r
   gathers_checks {p} {u} {v} {r} h = record { step = by_answer p r h.gathered }
     where
-      by_answer : (p : Got A) (r : Step) → gathered_of f p u ≡ answered r v → r ≡ step_of p
-      by_answer (fault e) (At c) g = absurd (let z : ◌≡◌ {A = ℕ} 0 1 = cc in omega arith)
-      by_answer (fault e) (Fault d) g = let z : e ≡ d = cc in rw z
-      by_answer (got x n) (At c) g = let z : n ≡ c.at = cc in rw z
-      by_answer (got x n) (Fault d) g = absurd (let z : ◌≡◌ {A = ℕ} 0 1 = cc in omega arith)
+      by_answer : (p : Got A) (r : Result Cursor Refusal) → gathered_of f p u ≡ answered r v → r ≡ step_of p
+      by_answer (fault e) (Ok c) g = absurd (let z : ◌≡◌ {A = ℕ} 0 1 = cc in omega arith)
+      by_answer (fault e) (Err d) g = let z : e ≡ d = cc in rw z
+      by_answer (got x n) (Ok c) g = let z : n ≡ c.at = cc in rw z
+      by_answer (got x n) (Err d) g = absurd (let z : ◌≡◌ {A = ℕ} 0 1 = cc in omega arith)
 
   -- a call that gave a position: its decoder's value, and the facts
-  pub moved : {p : Got A} {u v : S} {r : Step} {c : Cursor} → Gathers f p u r v → r ≡ At c →
+  pub moved : {p : Got A} {u v : S} {r : Result Cursor Refusal} {c : Cursor} → Gathers f p u r v → r ≡ Ok c →
       (x : A) × (p ≡ got x c.at) × (v ≡ f x u)
-  moved {p} {u} {v} {r} {c} h t = by_value p (h.gathered ∙ ap (λ (z : Step). answered z v) t)
+  moved {p} {u} {v} {r} {c} h t = by_value p (h.gathered ∙ ap (λ (z : Result Cursor Refusal). answered z v) t)
     where
       by_value : (p : Got A) → gathered_of f p u ≡ got v c.at → (x : A) × (p ≡ got x c.at) × (v ≡ f x u)
       by_value (fault e) g = absurd (let z : ◌≡◌ {A = ℕ} 0 1 = cc in omega arith)
@@ -38,24 +37,24 @@ module _ {A S : Type 0} {f : A → S → S} where
           (x, ap (λ (m : ℕ). got x m) z, sym y)
 
   -- where the value is known
-  pub facts : {p : Got A} {u v : S} {r : Step} {c : Cursor} {x : A} {m : ℕ} → Gathers f p u r v → r ≡ At c → p ≡ got x m →
+  pub facts : {p : Got A} {u v : S} {r : Result Cursor Refusal} {c : Cursor} {x : A} {m : ℕ} → Gathers f p u r v → r ≡ Ok c → p ≡ got x m →
       v ≡ f x u
   facts {p} {u} {v} {r} {c} {x} {m} h t e =
-      let g : gathered_of f p u ≡ got v c.at = h.gathered ∙ ap (λ (z : Step). answered z v) t in
+      let g : gathered_of f p u ≡ got v c.at = h.gathered ∙ ap (λ (z : Result Cursor Refusal). answered z v) t in
       let k : got (f x u) m ≡ got v c.at = sym (ap (λ (q : Got A). gathered_of f q u) e) ∙ g in
       let y : f x u ≡ v = cc in
       sym y
 
   -- a call that refused
-  pub halted : {p : Got A} {u v : S} {r : Step} {e : Refusal} → Gathers f p u r v → r ≡ Fault e → p ≡ fault e
-  halted {p} {u} {v} {r} {e} h t = by_value p (h.gathered ∙ ap (λ (z : Step). answered z v) t)
+  pub halted : {p : Got A} {u v : S} {r : Result Cursor Refusal} {e : Refusal} → Gathers f p u r v → r ≡ Err e → p ≡ fault e
+  halted {p} {u} {v} {r} {e} h t = by_value p (h.gathered ∙ ap (λ (z : Result Cursor Refusal). answered z v) t)
     where
       by_value : (p : Got A) → gathered_of f p u ≡ fault e → p ≡ fault e
       by_value (fault d) g = let z : d ≡ e = cc in rw z
       by_value (got x n) g = absurd (let z : ◌≡◌ {A = ℕ} 0 1 = cc in omega arith)
 
   -- the last call's facts are the whole's, whatever is made of the value
-  pub made : {B : Type 0} {h : B → S → S} (g : A → B) {p : Got A} {u v w : S} {r : Step} →
+  pub made : {B : Type 0} {h : B → S → S} (g : A → B) {p : Got A} {u v w : S} {r : Result Cursor Refusal} →
       ((x : A) → h (g x) w ≡ f x u) → Gathers f p u r v → Gathers h (after p (λ x n. got (g x) n)) w r v
   made {B} {h} g {p} {u} {v} {w} {r} like k = record { gathered = by_value p k.gathered }
     where
@@ -65,8 +64,14 @@ module _ {A S : Type 0} {f : A → S → S} where
       by_value (got x n) q = ap (λ (y : S). got y n) (like x) ∙ q
 
   -- what refuses says nothing of the facts
-  pub refused : {p : Got A} {u v : S} {e : Refusal} → p ≡ fault e → Gathers f p u (Fault e) v
+  pub refused : {p : Got A} {u v : S} {e : Refusal} → p ≡ fault e → Gathers f p u (Err e) v
   refused e = rw e record { gathered = refl }
+
+  -- a refusal of its part, which the whole hands on
+  pub abandoned : {p : Got A} {u v : S} {r : Result Cursor Refusal} {e : Refusal} → IsErrAnd r (λ d. d ≡ e) → p ≡ fault e →
+      Gathers f p u r v
+  abandoned {r = Ok c} i h = absurd i
+  abandoned {r = Err d} i h = rw (i, h) record { gathered = refl }
 
 -- what comes behind a refusal that is passed on does not matter
 pub stays : {A B S T : Type 0} {f : A → S → S} {g : B → T → T} (k : A → ℕ → Got B) {p : Got A} {u v : S} {w x : T} {r : ℕ} →
@@ -78,7 +83,7 @@ pub stays_checks : {A B T : Type 0} {g : B → T → T} (k : A → ℕ → Got B
 stays_checks k {r} h l = rw (fault_in l, stopped h (fault_in l)) record { gathered = refl }
 
 -- a call with no facts
-pub idle : {A B S : Type 0} {h : B → S → S} (g : A → B) {p : Got A} {u v : S} {r : Step} →
+pub idle : {A B S : Type 0} {h : B → S → S} (g : A → B) {p : Got A} {u v : S} {r : Result Cursor Refusal} →
     ((x : A) → h (g x) u ≡ v) → Checks p r → Gathers h (after p (λ x n. got (g x) n)) u r v
 idle {A} {B} {S} {h} g {p} {u} {v} {r} like k = rw k.step record { gathered = by_value p }
   where

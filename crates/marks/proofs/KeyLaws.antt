@@ -8,6 +8,7 @@ use native.Mathlib.Numerals.{add-one}
 use lib.ListN.{length, get_or, set, take, drop, drop_of_length-le, take-append-drop}
 use lib.Seq.{drop-cons, take_all, take-suc, get_or-set_same, get_or-set_other}
 use lib.Dec.{eqb}
+use mir.Val.{bool_byte}
 use borrow.Author.Tests.{eqb-true, eqb-false, eq-eqb, ne_eqb}
 use Rattle.lexical.proofs.BoolLaws.{both, and_of, by_cases, or_cases, or_left, or_right}
 use Rattle.rules.specs.Rules.{any, twice}
@@ -26,9 +27,10 @@ module _ (k : ℕ) (xs : List ℕ) where
   unfolding count_of
   count_end j l = ap (count_of k) (drop_of_length-le xs l)
 
-pub one_low : (b : Bool) → one_if b ≤ 1
-one_low true = omega arith
-one_low false = omega arith
+-- what a test counts
+pub one_of : (b : Bool) → (bool_byte b ≡ one_if b) × (one_if b ≤ 1)
+one_of true = (refl, omega arith)
+one_of false = (refl, omega arith)
 
 -- ---- none, or some
 
@@ -55,9 +57,6 @@ count_some k (x ∷ xs) e = by_first (eqb k x) e (count_some k xs)
 -- ---- a key that is asked for where there is a mark
 
 module _ (k m : ℕ) (xs : List ℕ) where
-  pub unmarked : (m ≡ 1 → ⊥) → false ≡ (eqb m 1 && any (eqb k) xs)
-  unmarked d = ap (λ (b : Bool). b && any (eqb k) xs) (sym (ne_eqb m 1 d))
-
   pub counted : {n : ℕ} → m ≡ 1 → n ≡ count_of k xs → not (eqb n 0) ≡ (eqb m 1 && any (eqb k) xs)
   counted {n} e h =
       by_cases (eqb n 0)

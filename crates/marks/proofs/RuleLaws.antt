@@ -11,7 +11,6 @@ use Rattle.lexical.specs.Bytes.{bytes, same}
 use Rattle.lexical.proofs.BoolLaws.{both, and_of, or_cases}
 use Rattle.format.specs.Decode.{pick}
 use Rattle.format.specs.declared.Atom.{Atom}
-use Rattle.format.specs.declared.Atom.TheVariants as Atom
 use Rattle.format.specs.Types.{Ty, atom, named, template, pointer, str, fn, array, Ret, none, gives, Tys, nil, cons}
 use Rattle.format.specs.Sheet.{Argument, Function, Body, struct, enum, cxx_type, rust_type, function, Item}
 use Rattle.syntax.specs.Items.{item_at, self_type, is_function}

@@ -4,7 +4,7 @@
 
 ghost use Rattle.std.specs.Prelude.{◌≡◌, ◌&&◌, ◌<◌, length, eqb};
 ghost use Rattle.rules.specs.Rules.{any, twice};
-ghost use Rattle.marks.specs.Keys.{one_if, count_of};
+ghost use Rattle.marks.specs.Keys.{count_of};
 ghost use Rattle.marks.specs.Marking.{mark};
 
 #[derive(Clone, Copy)]
@@ -29,22 +29,12 @@ impl Mark {
 pub fn set_mark(marks: &mut [u8], place: usize)
     ensures { marks.new ≡ mark place marks.old }
 {
-    if marks.len() <= place {
-        return;
+    if place < marks.len() {
+        marks[place] = 1;
     }
-    marks[place] = 1;
 }
 
 // ---- keys
-
-fn one_if(b: bool) -> u32
-    ensures { result ≡ one_if b }
-{
-    if b {
-        return 1;
-    }
-    0
-}
 
 // How many of the keys are k. No early exit: so it is compiled to vector code.
 fn count_equal(keys: &[u32], k: u32) -> u32
@@ -52,11 +42,8 @@ fn count_equal(keys: &[u32], k: u32) -> u32
     ensures { result ≡ count_of k keys.now }
 {
     let mut n: u32 = 0;
-    let mut j: usize = 0;
-    while j < keys.len() {
-        let x = keys[j];
-        n = n + one_if(k == x);
-        j = j + 1;
+    for x in keys {
+        n = n + u32::from(k == *x);
     }
     n
 }
@@ -66,11 +53,7 @@ fn seen_before(front: &[u32], k: u32, mark: u8) -> bool
     requires { length front.now < 4294967296 }
     ensures { result ≡ (eqb mark 1 && any (eqb k) front.now) }
 {
-    if mark != 1 {
-        return false;
-    }
-    let n = count_equal(front, k);
-    n != 0
+    mark == 1 && count_equal(front, k) != 0
 }
 
 // Whether two of the keys are equal. Each key leaves a 1 at its last byte: a key whose place has none is new.
@@ -78,16 +61,12 @@ fn repeats_in(keys: &[u32], seen: &mut [u8; 256]) -> bool
     requires { (length keys.now < 4294967296) × (length seen.old ≡ 256) }
     ensures { result ≡ twice eqb keys.now }
 {
-    let mut i: usize = 0;
-    while i < keys.len() {
-        let k = keys[i];
-        let p = (k % 256) as usize;
-        let mark = seen[p];
-        if seen_before(&keys[..i], k, mark) {
+    for (i, k) in keys.iter().enumerate() {
+        let p = (*k % 256) as usize;
+        if seen_before(&keys[..i], *k, seen[p]) {
             return true;
         }
         seen[p] = 1;
-        i = i + 1;
     }
     false
 }

@@ -14,8 +14,6 @@ use Rattle.format.specs.Decoding.{kind_of, type_body, type_at, optional}
 use Rattle.format.specs.declared.TypeKind.{TypeKind}
 use Rattle.format.specs.declared.TypeKind.TheVariants as Kind
 use Rattle.cursor.specs.declared.Cursor.{Cursor}
-use Rattle.cursor.specs.declared.Step.{Step}
-use Rattle.cursor.specs.declared.Step.TheVariants.{At}
 use Rattle.format.specs.Limits.{most_bits}
 use Rattle.cursor.specs.Checking.{Limited, Checks, step_in}
 use Rattle.cursor.proofs.CheckLaws.{stepped}
@@ -26,6 +24,8 @@ use Rattle.marks.specs.Gathering.{each, Gathers}
 use Rattle.marks.specs.Marking.{mark_index, mark_ty, mark_ret, mark_tys}
 use Rattle.marks.proofs.GatherLaws.{made, idle}
 use Rattle.types.proofs.TypeLaws.{type_cut, type_body_lem}
+use Rattle.std.specs.Prelude.{Result, Ok}
+use Rattle.refusal.specs.declared.Refusal.{Refusal}
 
 -- ---- an item index
 
@@ -45,7 +45,7 @@ module _ (n : ℕ) (s : List ℕ) (at : ℕ) {u : List ℕ} {w : ℕ} (z : w ≡
     index_loose l = rw (loose_in, ← z, e, le-ltb i n l) record { gathered = refl }
 
 -- an index that was checked, read again
-module _ (n : ℕ) (s : List ℕ) (at : ℕ) {r : Step} {c : Cursor} (h : Checks (index n s at) r) (t : r ≡ At c)
+module _ (n : ℕ) (s : List ℕ) (at : ℕ) {r : Result Cursor Refusal} {c : Cursor} (h : Checks (index n s at) r) (t : r ≡ Ok c)
     {w : ℕ} (z : w ≡ width_of n) where
   pub index_there : (at + w ≤ 8 * length s) × ((stepped h t).0 ≡ bits_at s at w)
   index_there =
@@ -53,7 +53,7 @@ module _ (n : ℕ) (s : List ℕ) (at : ℕ) {r : Step} {c : Cursor} (h : Checks
       rw z (e.0, e.1)
 
   pub index_known : {i : ℕ} {u v : List ℕ} → i ≡ bits_at s at w → v ≡ mark_index i u →
-      Gathers mark_index (index n s at) u (At c) v
+      Gathers mark_index (index n s at) u (Ok c) v
   index_known e q = rw ((stepped h t).1, q, e, ← index_there.1) record { gathered = refl }
 
 -- ---- types
@@ -64,20 +64,20 @@ types_like [] u = refl
 types_like (t ∷ ts) u = types_like ts (mark_ty t u)
 
 module _ (n levels : ℕ) (s : List ℕ) (at : ℕ) {u : List ℕ} where
-  pub atom_marks : {r : Step} → Checks (bits 4 s at) r → Gathers mark_ty (type_body Kind.Atom n (type_at n levels) s at) u r u
+  pub atom_marks : {r : Result Cursor Refusal} → Checks (bits 4 s at) r → Gathers mark_ty (type_body Kind.Atom n (type_at n levels) s at) u r u
   unfolding mark_ty
   atom_marks h = idle _ (λ x. refl) h
 
-  pub named_marks : {v : List ℕ} {r : Step} → Gathers mark_index (index n s at) u r v → Gathers mark_ty (type_body Kind.Named n (type_at n levels) s at) u r v
+  pub named_marks : {v : List ℕ} {r : Result Cursor Refusal} → Gathers mark_index (index n s at) u r v → Gathers mark_ty (type_body Kind.Named n (type_at n levels) s at) u r v
   unfolding mark_ty
   named_marks h = made named (λ x. refl) h
 
-  pub template_marks : (k : _) {v : List ℕ} {r : Step} → Gathers mark_ty (type_at n levels s at) u r v →
+  pub template_marks : (k : _) {v : List ℕ} {r : Result Cursor Refusal} → Gathers mark_ty (type_at n levels s at) u r v →
       Gathers mark_ty (type_body (Kind.Template k) n (type_at n levels) s at) u r v
   unfolding mark_ty
   template_marks k h = made (template k) (λ t. refl) h
 
-  pub pointer_marks : (k : _) {v : List ℕ} {m : Bool} {next : ℕ} {r : Step} → bit s at ≡ got m next → Gathers mark_ty (type_at n levels s next) u r v →
+  pub pointer_marks : (k : _) {v : List ℕ} {m : Bool} {next : ℕ} {r : Result Cursor Refusal} → bit s at ≡ got m next → Gathers mark_ty (type_at n levels s next) u r v →
       Gathers mark_ty (type_body (Kind.Pointer k) n (type_at n levels) s at) u r v
   unfolding mark_ty
   pointer_marks k {m} e h = rw e (made (pointer k m) (λ t. refl) h)
@@ -86,7 +86,7 @@ module _ (n levels : ℕ) (s : List ℕ) (at : ℕ) {u : List ℕ} where
   unfolding mark_ty
   str_marks l = rw (at_in l) record { gathered = refl }
 
-  pub array_marks : {v : List ℕ} {t : Ty} {next : ℕ} {r : Step} → type_at n levels s at ≡ got t next → v ≡ mark_ty t u → Checks (bits 32 s next) r →
+  pub array_marks : {v : List ℕ} {t : Ty} {next : ℕ} {r : Result Cursor Refusal} → type_at n levels s at ≡ got t next → v ≡ mark_ty t u → Checks (bits 32 s next) r →
       Gathers mark_ty (type_body Kind.Array n (type_at n levels) s at) u r v
   unfolding mark_ty
   array_marks {t} e k h = rw e (idle (array t) (λ x. sym k) h)
@@ -94,7 +94,7 @@ module _ (n levels : ℕ) (s : List ℕ) (at : ℕ) {u : List ℕ} where
   -- a type that a bit may leave out
 
   module _ {b m : ℕ} (e : bits 1 s at ≡ got b m) where
-    pub result_marks : {v : List ℕ} {r : Step} → b ≡ 1 → Gathers mark_ty (type_at n levels s m) u r v →
+    pub result_marks : {v : List ℕ} {r : Result Cursor Refusal} → b ≡ 1 → Gathers mark_ty (type_at n levels s m) u r v →
         Gathers mark_ret (optional (type_at n levels) s at) u r v
     unfolding mark_ty bit
     result_marks t h = rw (e, eq-eqb b 1 t) (made gives (λ t. refl) h)
@@ -115,19 +115,19 @@ module _ (n levels : ℕ) (s : List ℕ) (at : ℕ) {u : List ℕ} where
         Gathers mark_ty (type_body Kind.Fn n (type_at n levels) s at) u (step_in 262145) v
     fn_cut g = rw (cut_in, e, g) record { gathered = refl }
 
-    pub fn_marks : {v w : List ℕ} {k first : ℕ} {r : Step} → w ≡ mark_ret x u → bits 4 s next ≡ got k first →
+    pub fn_marks : {v w : List ℕ} {k first : ℕ} {r : Result Cursor Refusal} → w ≡ mark_ret x u → bits 4 s next ≡ got k first →
         Gathers (each mark_ty) (many k (type_at n levels) s first) w r v → Gathers mark_ty (type_body Kind.Fn n (type_at n levels) s at) u r v
     unfolding mark_ty
     fn_marks q g h = rw (e, g) (made (λ ts. fn x (tys ts)) (λ ts. types_like ts (mark_ret x u) ∙ ap (each mark_ty ts) (sym q)) h)
 
 -- what stands behind a kind
-pub body_marks : (n levels : ℕ) (s : List ℕ) (at : ℕ) {k m : ℕ} {kind : TypeKind} {u v : List ℕ} {r : Step} →
+pub body_marks : (n levels : ℕ) (s : List ℕ) (at : ℕ) {k m : ℕ} {kind : TypeKind} {u v : List ℕ} {r : Result Cursor Refusal} →
     bits 4 s at ≡ got k m → (levels ≡ 0 → ⊥) → kind ≡ kind_of k →
     Gathers mark_ty (type_body kind n (type_at n (levels - 1)) s m) u r v → Gathers mark_ty (type_at n levels s at) u r v
 body_marks n levels s at e h z g = rw (type_body_lem n levels s at e h, ← z) g
 
 -- a name
-pub name_slot : (n levels : ℕ) (s : List ℕ) (at : ℕ) {k m : ℕ} {u v : List ℕ} {r : Step} → bits 4 s at ≡ got k m → k ≡ 1 →
+pub name_slot : (n levels : ℕ) (s : List ℕ) (at : ℕ) {k m : ℕ} {u v : List ℕ} {r : Result Cursor Refusal} → bits 4 s at ≡ got k m → k ≡ 1 →
     (levels ≡ 0 → ⊥) → Gathers mark_index (index n s m) u r v → Gathers mark_ty (type_at n levels s at) u r v
 unfolding kind_of
 name_slot n levels s at {m = m} e z h g =

@@ -2,18 +2,18 @@
 // name is marked on the way, as far as the lent table reaches: who wants no marks lends an empty one.
 #![tactic(auto)]
 
-ghost use Rattle.std.specs.Prelude.{◌≡◌, ◌≤◌};
+ghost use Rattle.std.specs.Prelude.{◌≡◌, ◌≤◌, Err};
 ghost use Rattle.format.specs.Limits.{most_levels, most_bits};
 ghost use Rattle.format.specs.Decode.{many};
 ghost use Rattle.format.specs.Bits.{index};
 ghost use Rattle.format.specs.Decoding.{kind_of, too_deep, type_body, type_at, type, optional};
 ghost use Rattle.format.specs.declared.TypeKind.TheVariants.{Fn};
-ghost use Rattle.cursor.specs.declared.Step.TheVariants.{Fault};
+ghost use Rattle.syntax.specs.Types.{is_indirect_template};
 ghost use Rattle.cursor.specs.Checking.{Limited, step_in};
 ghost use Rattle.marks.specs.Gathering.{each, Gathers};
 ghost use Rattle.marks.specs.Marking.{mark_index, mark_ty, mark_ret};
 
-use cursor::{Cursor, Step, check_index, end_of, extract, pass, step_in, width};
+use cursor::{Cursor, check_index, end_of, extract, pass, step_in, width};
 use format::{Pointer, Template, TypeKind};
 use marks::{Mark, set_mark};
 use refusal::Refusal;
@@ -56,26 +56,30 @@ pub fn kind_of(k: u32) -> TypeKind
         12 => TypeKind::Bad,
         13 => TypeKind::Pointer(Pointer::SliceRef),
         14 => TypeKind::Array,
-        15 => TypeKind::Bad,
         _ => TypeKind::Bad,
     }
 }
 
+// Whether a type of this kind is passed by reference.
+pub fn is_indirect_template(k: Template) -> bool
+    ensures { result ≡ is_indirect_template k }
+{
+    matches!(
+        k,
+        Template::RustVec | Template::SharedPtr | Template::WeakPtr | Template::CxxVector
+    )
+}
+
 // The walks answer by a number, as `step_in` of crate cursor reads it.
+// A number comes back in a register, a Result through memory: measured slower (docs/DECISIONS.md).
 
 // The refusal of a kind where no level is left.
 fn too_deep(k: TypeKind) -> u32
-    ensures { step_in result ≡ Fault (too_deep k) }
+    ensures { step_in result ≡ Err (too_deep k) }
 {
     match k {
         TypeKind::Bad => Cursor::BAD_KIND,
-        TypeKind::Atom => Cursor::TOO_DEEP,
-        TypeKind::Named => Cursor::TOO_DEEP,
-        TypeKind::Template(_) => Cursor::TOO_DEEP,
-        TypeKind::Pointer(_) => Cursor::TOO_DEEP,
-        TypeKind::Str => Cursor::TOO_DEEP,
-        TypeKind::Fn => Cursor::TOO_DEEP,
-        TypeKind::Array => Cursor::TOO_DEEP,
+        _ => Cursor::TOO_DEEP,
     }
 }
 
@@ -209,76 +213,77 @@ fn walk_types(s: &[u8], at: u32, items: u32, left: u32, n: u32, marks: &mut [u8]
         (step_in result) marks.new }
 {
     let mut next = at;
-    let mut i: u32 = 0;
-    while i < n {
+    for _ in 0..n {
         let r = walk_slot(&s[..], next, items, left, &mut marks[..]);
         if Cursor::LAST < r {
             return r;
         }
         next = r;
-        i = i + 1;
     }
     next
 }
 
 // Past an item index, which is marked.
-pub fn check_item_index(s: &[u8], c: Cursor, items: u32, marks: &mut [u8]) -> Step
+pub fn check_item_index(
+    s: &[u8],
+    c: Cursor,
+    items: u32,
+    marks: &mut [u8],
+) -> Result<Cursor, Refusal>
     requires { Limited s.now }
     ensures { Gathers mark_index (index items s.now c.at) marks.old result
         marks.new }
 {
-    let r = check_index(s, c, items);
-    match r {
-        Step::Fault(e) => Step::Fault(e),
-        Step::At(next) => {
-            let i = extract(s, c.at, width(items));
-            set_mark(marks, Mark::NAMED + i as usize);
-            Step::At(next)
-        }
-    }
+    let next = check_index(s, c, items)?;
+    let index = extract(s, c.at, width(items));
+    set_mark(marks, Mark::NAMED + index as usize);
+    Ok(next)
 }
 
 // Past an outermost type, in a sheet of so many items.
-pub fn check_type(s: &[u8], c: Cursor, items: u32, marks: &mut [u8]) -> Step
+pub fn check_type(s: &[u8], c: Cursor, items: u32, marks: &mut [u8]) -> Result<Cursor, Refusal>
     requires { Limited s.now }
     ensures { Gathers mark_ty (type items s.now c.at) marks.old result
         marks.new }
 {
     let at = c.at;
     if Cursor::LAST < at {
-        return Step::Fault(Refusal::CutSheet);
+        return Err(Refusal::CutSheet);
     }
-    let r = walk_type(&s[..], at, items, Levels::MOST, &mut marks[..]);
-    step_in(r)
+    step_in(walk_type(&s[..], at, items, Levels::MOST, &mut marks[..]))
 }
 
 // Past n outermost types.
-pub fn check_types(s: &[u8], c: Cursor, items: u32, n: u32, marks: &mut [u8]) -> Step
+pub fn check_types(
+    s: &[u8],
+    c: Cursor,
+    items: u32,
+    n: u32,
+    marks: &mut [u8],
+) -> Result<Cursor, Refusal>
     requires { Limited s.now }
     ensures { Gathers (each mark_ty) (many n (type items) s.now c.at) marks.old result
         marks.new }
 {
     if n == 0 {
-        return Step::At(c);
+        return Ok(c);
     }
     let at = c.at;
     if Cursor::LAST < at {
-        return Step::Fault(Refusal::CutSheet);
+        return Err(Refusal::CutSheet);
     }
-    let r = walk_types(&s[..], at, items, Levels::MOST, n, &mut marks[..]);
-    step_in(r)
+    step_in(walk_types(&s[..], at, items, Levels::MOST, n, &mut marks[..]))
 }
 
 // Past an outermost type that a bit may leave out.
-pub fn check_return(s: &[u8], c: Cursor, items: u32, marks: &mut [u8]) -> Step
+pub fn check_return(s: &[u8], c: Cursor, items: u32, marks: &mut [u8]) -> Result<Cursor, Refusal>
     requires { Limited s.now }
     ensures { Gathers mark_ret (optional (type items) s.now c.at) marks.old result
         marks.new }
 {
     let at = c.at;
     if Cursor::LAST < at {
-        return Step::Fault(Refusal::CutSheet);
+        return Err(Refusal::CutSheet);
     }
-    let r = walk_return(&s[..], at, items, Levels::MOST, &mut marks[..]);
-    step_in(r)
+    step_in(walk_return(&s[..], at, items, Levels::MOST, &mut marks[..]))
 }

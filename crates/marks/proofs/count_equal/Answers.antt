@@ -1,28 +1,19 @@
 use native.Mathlib.Omega.{arith}
-use Prim.Native.Nat.{◌-◌}
 use lib.Dec.{eqb}
 use lib.ListN.{get_or}
-use Rattle.marks.proofs.KeyLaws.{count_turn, count_end, one_low}
+use Rattle.marks.proofs.KeyLaws.{count_turn, count_end, one_of}
 use Rattle.marks.proofs.count_equal.Goals as goal
 
-pub loop-j-init : goal.loop-j-init
-loop-j-init c = (omega arith, omega arith, omega arith)
+pub loop-x-init : goal.loop-x-init
+loop-x-init c = (omega arith, omega arith)
 
 pub overflow_add-n : goal.overflow_add-n
-overflow_add-n c = omega (arith, c.one_if-n.ensures, one_low (eqb c.args.k (get_or c.args.keys.now c.loop-j.j 0)))
+overflow_add-n c = omega (arith, one_of (eqb c.args.k (get_or c.args.keys.now c.loop-x.x-index 0)))
 
-pub loop-j-preserved : goal.loop-j-preserved
-loop-j-preserved c = (
-  omega arith,
-  omega (arith, c.one_if-n.ensures, one_low (eqb c.args.k (get_or c.args.keys.now c.loop-j.j 0))),
-  omega (
-    arith,
-    c.loop-j.invariant.2,
-    c.one_if-n.ensures,
-    count_turn c.args.k c.args.keys.now c.loop-j.j
-        c.loop-j-test.true,
-  ),
-)
+pub loop-x-preserved : goal.loop-x-preserved
+loop-x-preserved c =
+    let h = one_of (eqb c.args.k (get_or c.args.keys.now c.loop-x.x-index 0)) in
+    (omega arith, omega (arith, count_turn c.args.k c.args.keys.now c.loop-x.x-index c.loop-x-test.true))
 
 pub returns : goal.returns
-returns c = omega (arith, c.loop-j.invariant.2, count_end c.args.k c.args.keys.now c.loop-j.j c.loop-j-test.false)
+returns c = omega (arith, count_end c.args.k c.args.keys.now c.loop-x.x-index c.loop-x-test.false)

@@ -1,19 +1,11 @@
-use native.Mathlib.Omega.{arith}
-use mathlib.Core.Path.{sym, ◌∙◌}
-use Prim.Native.Nat.{◌%◌, ◌-◌}
+use mathlib.Core.Path.{◌∙◌}
+use Prim.Native.Nat.{◌%◌}
 use lib.ListN.{get_or, length-set}
-use lib.Seq.{length-take-le}
 use Rattle.marks.proofs.KeyLaws.{apart_none, apart_all, keys_hit, keys_turn}
 use Rattle.marks.proofs.repeats_in.Goals as goal
 
 pub loop-i-init : goal.loop-i-init
-loop-i-init c = (omega arith, c.requires.1, apart_none _ _)
-
-pub slice_bounds-seen_before-end : goal.slice_bounds-seen_before-end
-slice_bounds-seen_before-end c = sym (length-take-le _ _ c.loop-i.invariant.0)
-
-pub seen_before-requires : goal.seen_before-requires
-seen_before-requires c = omega (arith, length-take-le c.loop-i.i c.args.keys.now c.loop-i.invariant.0)
+loop-i-init c = (c.requires.1, apart_none _ _)
 
 pub returns-then-seen_before : goal.returns-then-seen_before
 returns-then-seen_before c =
@@ -21,11 +13,10 @@ returns-then-seen_before c =
 
 pub loop-i-preserved : goal.loop-i-preserved
 loop-i-preserved c = (
-  omega arith,
-  length-set c.loop-i.seen (get_or c.args.keys.now c.loop-i.i 0 % 256) 1 ∙ c.loop-i.invariant.1,
+  length-set c.loop-i.seen (get_or c.args.keys.now c.loop-i.i 0 % 256) 1 ∙ c.loop-i.invariant.0,
   keys_turn c.args.keys.now c.loop-i.seen c.loop-i.i c.loop-i-test.true c.seen_before.ensures
-      c.loop-i.invariant.1 c.loop-i.invariant.2 c.if-seen_before.false,
+      c.loop-i.invariant.0 c.loop-i.invariant.1 c.if-seen_before.false,
 )
 
 pub returns : goal.returns
-returns c = apart_all c.args.keys.now c.loop-i.seen c.loop-i.i c.loop-i-test.false c.loop-i.invariant.2
+returns c = apart_all c.args.keys.now c.loop-i.seen c.loop-i.i c.loop-i-test.false c.loop-i.invariant.1

@@ -1,8 +1,5 @@
-use Rattle.marks.proofs.KeyLaws.{unmarked, counted}
+use Rattle.marks.proofs.KeyLaws.{counted}
 use Rattle.marks.proofs.seen_before.Goals as goal
 
-pub returns-then-mark-ne1 : goal.returns-then-mark-ne1
-returns-then-mark-ne1 c = unmarked c.args.k c.args.mark c.args.front.now c.if-mark-ne1.true
-
-pub returns : goal.returns
-returns c = counted c.args.k c.args.mark c.args.front.now c.if-mark-ne1.false c.count_equal-n.ensures
+pub returns-then-mark-eq1 : goal.returns-then-mark-eq1
+returns-then-mark-eq1 c = counted c.args.k c.args.mark c.args.front.now c.if-mark-eq1.true c.count_equal.ensures

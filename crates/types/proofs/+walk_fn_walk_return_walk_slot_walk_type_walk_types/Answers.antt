@@ -132,29 +132,26 @@ walk_type-returns-in-Bad t c =
     body_marks _ _ _ _ (bits_whole _ _ _ (omega arith) c.extract.ensures) c.if-left-eq0.false c.kind_of-kind.ensures
     (rw (c.in-Bad.is, bad_in) record { gathered = refl })
 
-pub walk_types-loop-i-init : goal.walk_types-loop-i-init
-walk_types-loop-i-init t c = (omega arith, omega arith, refl, fold_none mark_ty (type_at _ _) _ _ _ _)
+pub walk_types-loop-init : goal.walk_types-loop-init
+walk_types-loop-init t c = (omega arith, refl, fold_none mark_ty (type_at _ _) _ _ _ _)
 
 pub walk_types-returns-then-r-gt-LAST : goal.walk_types-returns-then-r-gt-LAST
 walk_types-returns-then-r-gt-LAST t c =
     rw (fault_in c.if-r-gt-LAST.true) record {
-      gathered = c.loop-i.invariant.3 ∙ fold_stop mark_ty (type_at _ _) _ _ _
-          _ c.loop-i-test.true (halted c.walk_slot-r.ensures (fault_in c.if-r-gt-LAST.true));
+      gathered = c.loop.invariant.2 ∙ fold_stop mark_ty (type_at _ _) _ _ _
+          _ (omega arith) (halted c.walk_slot-r.ensures (fault_in c.if-r-gt-LAST.true));
     }
 
-pub walk_types-loop-i-preserved : goal.walk_types-loop-i-preserved
-walk_types-loop-i-preserved t c =
+pub walk_types-loop-preserved : goal.walk_types-loop-preserved
+walk_types-loop-preserved t c =
     let m = moved c.walk_slot-r.ensures (at_in c.if-r-gt-LAST.false) in (
       omega arith,
       omega arith,
-      omega arith,
-      c.loop-i.invariant.3 ∙ fold_turn mark_ty (type_at _ _) _ _ _
-          c.loop-i-test.true m.1 m.2,
+      c.loop.invariant.2 ∙ fold_turn mark_ty (type_at _ _) _ _ _ (omega arith) m.1 m.2,
     )
 
 pub walk_types-returns : goal.walk_types-returns
 walk_types-returns t c =
-    rw (at_in c.loop-i.invariant.1) record {
-      gathered = c.loop-i.invariant.3 ∙ fold_done mark_ty (type_at _ _) _ _ _ _
-          _ c.loop-i-test.false;
+    rw (at_in c.loop.invariant.0) record {
+      gathered = c.loop.invariant.2 ∙ fold_done mark_ty (type_at _ _) _ _ _ _ _ (omega arith);
     }

@@ -22,11 +22,7 @@ decreases-walk_type l = 5 * l.left
 abbrev pub decreases-walk_types : goal.decreases-walk_types
 decreases-walk_types l = 5 * l.left + 2
 
-abbrev pub invariant-walk_types-loop-i : goal.invariant-walk_types-loop-i
-invariant-walk_types-loop-i l =
-    (l.i ≤ l.n) × (l.next ≤ most_bits) × (length l.marks ≡ length l.initial.marks) × (folded mark_ty (type_at l.items
-    l.left) l.s l.n l.initial.next l.initial.marks ≡ folded mark_ty (type_at l.items l.left) l.s (l.n - l.i)
-    l.next l.marks)
-
-abbrev pub decreases-walk_types-loop-i : goal.decreases-walk_types-loop-i
-decreases-walk_types-loop-i l = l.n - l.i
+abbrev pub invariant-walk_types-loop : goal.invariant-walk_types-loop
+invariant-walk_types-loop l =
+    (l.next ≤ most_bits) × (length l.marks ≡ length l.initial.marks) × (folded mark_ty (type_at l.items l.left) l.s l.n
+    l.initial.next l.initial.marks ≡ folded mark_ty (type_at l.items l.left) l.s (l.n - l.counter) l.next l.marks)

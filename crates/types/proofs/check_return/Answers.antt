@@ -9,4 +9,4 @@ returns-then-at-gt-LAST c = refused (return_past _ _ _ c.requires c.if-at-gt-LAS
 
 pub returns : goal.returns
 unfolding type
-returns c = rw c.step_in.ensures c.walk_return-r.ensures
+returns c = rw c.step_in.ensures c.walk_return.ensures

@@ -16,4 +16,4 @@ returns-then-at-gt-LAST c = refused (types_past _ _ _ c.requires c.if-at-gt-LAST
 
 pub returns : goal.returns
 unfolding type
-returns c = rw c.step_in.ensures c.walk_types-r.ensures
+returns c = rw c.step_in.ensures c.walk_types.ensures

@@ -1,6 +1,7 @@
+use native.Mathlib.Omega.{arith}
 use mathlib.Core.Path.{refl}
 use Rattle.format.specs.Decoding.{kind_of}
-use Rattle.types.proofs.TypeLaws.{kind_past, above, above_none}
+use Rattle.types.proofs.TypeLaws.{kind_past}
 use Rattle.types.proofs.kind_of.Goals as goal
 
 pub returns-in-0 : goal.returns-in-0
@@ -63,18 +64,5 @@ pub returns-in-14 : goal.returns-in-14
 unfolding kind_of
 returns-in-14 c = rw c.in-14.is refl
 
-pub returns-in-15 : goal.returns-in-15
-unfolding kind_of
-returns-in-15 c = rw c.in-15.is refl
-
 pub returns-in_default : goal.returns-in_default
-returns-in_default c =
-    let r = c.in_default.in_default-own.rest in kind_past _
-    (above 15 (above 14 (above 13
-    (above 12 (above 11 (above 10
-    (above 9 (above 8 (above 7
-    (above 6 (above 5 (above 4 (above 3 (above 2 (above 1 (above 0 (above_none _)
-    r.0.0.0.0.0.0.0.0.0.0.0.0.0.0.0.1) r.0.0.0.0.0.0.0.0.0.0.0.0.0.0.1) r.0.0.0.0.0.0.0.0.0.0.0.0.0.1)
-    r.0.0.0.0.0.0.0.0.0.0.0.0.1) r.0.0.0.0.0.0.0.0.0.0.0.1) r.0.0.0.0.0.0.0.0.0.0.1) r.0.0.0.0.0.0.0.0.0.1)
-    r.0.0.0.0.0.0.0.0.1) r.0.0.0.0.0.0.0.1) r.0.0.0.0.0.0.1) r.0.0.0.0.0.1) r.0.0.0.0.1) r.0.0.0.1) r.0.0.1)
-    r.0.1) r.1)
+returns-in_default c = kind_past _ (omega arith)
