@@ -16,11 +16,11 @@ use Rattle.refusal.specs.declared.Refusal.TheVariants.{CutSheet, BadComment}
 use Rattle.format.specs.Decode.{got, pick}
 use Rattle.format.specs.Bits.{bits_at, bits}
 use Rattle.format.specs.Decoding.{line_ok, line}
-use Rattle.cursor.specs.declared.Step.TheVariants.{At, Fault}
 use Rattle.cursor.specs.Checking.{Checks}
 use Rattle.cursor.proofs.BitLaws.{bits_lt}
 use Rattle.text.specs.Text.{chars_at}
 use Rattle.text.proofs.CharLaws.{field_end, chars_split, chars_more, chars_in_lem, chars_length, chars_whole, chars_cut}
+use Rattle.std.specs.Prelude.{Ok, Err}
 
 -- the n characters at a position are those of a line
 abbrev pub line_chars : List ℕ → ℕ → ℕ → Bool
@@ -81,12 +81,12 @@ last_none (x ∷ w) h = absurd (omega arith)
 -- ---- a line whose length was read
 
 module _ (s : List ℕ) (at : ℕ) {n m : ℕ} (q : bits 7 s at ≡ got n m) where
-  pub line_short : 8 * length s < m + 7 * n → Checks (line s at) (Fault CutSheet)
+  pub line_short : 8 * length s < m + 7 * n → Checks (line s at) (Err CutSheet)
   unfolding line
   line_short h = rw (q, chars_cut s m n (field_end 7 s at q) h) record { step = refl }
 
   pub line_whole : (b : Bool) → m + 7 * n ≤ 8 * length s → line_ok (chars_at s m n) ≡ b →
-      Checks (line s at) (pick b (At (record { at = m + 7 * n })) (Fault BadComment))
+      Checks (line s at) (pick b (Ok (record { at = m + 7 * n })) (Err BadComment))
   unfolding line
   line_whole true h e = rw (q, chars_whole s m n h, e) record { step = refl }
   line_whole false h e = rw (q, chars_whole s m n h, e) record { step = refl }

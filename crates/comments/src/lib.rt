@@ -10,7 +10,7 @@ ghost use Rattle.cursor.specs.Checking.{Limited, Checks};
 ghost use Rattle.text.specs.Text.{chars_at};
 ghost use Rattle.comments.specs.Comments.{comment};
 
-use cursor::{Cursor, Field, Step, end_of, extract, extract_wide, read};
+use cursor::{Cursor, end_of, extract, extract_wide, read};
 use refusal::Refusal;
 
 // A line of a comment, by its number of characters.
@@ -69,70 +69,44 @@ fn is_line(s: &[u8], at: u32, n: u32) -> bool
     requires { Limited s.now × (at + 7 * n ≤ 8 * length s.now) }
     ensures { result ≡ line_ok (chars_at s.now at n) }
 {
-    let all = all_line_chars(s, at, n);
-    if !all {
-        return false;
-    }
-    if n == 0 {
-        return true;
-    }
-    let last = extract(s, at + 7 * (n - 1), 7);
-    last != 92
+    // The last one is no backslash (92).
+    all_line_chars(s, at, n) && (n == 0 || extract(s, at + 7 * (n - 1), 7) != 92)
 }
 
 // Past the line at c.
-fn check_line(s: &[u8], c: Cursor) -> Step
+fn check_line(s: &[u8], c: Cursor) -> Result<Cursor, Refusal>
     requires { Limited s.now }
     ensures { Checks (line s.now c.at) result }
 {
-    let f = read(s, c, 7);
-    match f {
-        Field::Cut => Step::Fault(Refusal::CutSheet),
-        Field::Value(n, first) => {
-            let at = first.at;
-            let end = at + 7 * n;
-            if end_of(s) < end {
-                return Step::Fault(Refusal::CutSheet);
-            }
-            let good = is_line(s, at, n);
-            if good {
-                return Step::At(Cursor { at: end });
-            }
-            Step::Fault(Refusal::BadComment)
-        }
+    let length = read(s, c, 7)?;
+    let at = length.next.at;
+    let end = at + 7 * length.value;
+    if end_of(s) < end {
+        return Err(Refusal::CutSheet);
     }
+    if is_line(s, at, length.value) {
+        return Ok(Cursor { at: end });
+    }
+    Err(Refusal::BadComment)
 }
 
 // Past n lines.
-fn check_lines(s: &[u8], c: Cursor, n: u32) -> Step
+fn check_lines(s: &[u8], c: Cursor, n: u32) -> Result<Cursor, Refusal>
     requires { Limited s.now }
     ensures { Checks (many n line s.now c.at) result }
 {
     let mut next = c;
-    let mut i: u32 = 0;
-    while i < n {
-        let r = check_line(s, next);
-        match r {
-            Step::At(p) => {
-                next = p;
-            }
-            Step::Fault(e) => {
-                return Step::Fault(e);
-            }
-        }
-        i = i + 1;
+    for _ in 0..n {
+        next = check_line(s, next)?;
     }
-    Step::At(next)
+    Ok(next)
 }
 
 // Past a comment's count and lines.
-pub fn check_comment(s: &[u8], c: Cursor) -> Step
+pub fn check_comment(s: &[u8], c: Cursor) -> Result<Cursor, Refusal>
     requires { Limited s.now }
     ensures { (make : List (List ℕ) → Body) → Checks (comment make s.now c.at) result }
 {
-    let f = read(s, c, 5);
-    match f {
-        Field::Cut => Step::Fault(Refusal::CutSheet),
-        Field::Value(n, first) => check_lines(s, first, n),
-    }
+    let count = read(s, c, 5)?;
+    check_lines(s, count.next, count.value)
 }

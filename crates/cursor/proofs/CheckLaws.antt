@@ -39,6 +39,12 @@ module _ {A : Type 0} where
   refused {r = Ok c} i h = absurd i
   refused {r = Err d} i h = record { step = rw (i, h) }
 
+  -- the same, where the answer of the whole is known
+  pub ended : {p : Got A} {r : Result Cursor Refusal} {e : Refusal} → IsErrAnd r (λ d. d ≡ e) → step_of p ≡ Err e →
+      Checks p r
+  ended {r = Ok c} i h = absurd i
+  ended {r = Err d} i h = record { step = rw i (sym h) }
+
   -- a decoder's value, and the checker's answer
   pub checked : {p : Got A} {r : Result Cursor Refusal} {x : A} {m : ℕ} → Checks p r → p ≡ got x m → r ≡ Ok (record { at = m })
   checked h e = h.step ∙ ap step_of e

@@ -58,8 +58,8 @@ pub fn digest(w: &[u8]) -> u32
 
 // ---- a walk over the names
 
-// The digest of the n characters at a position, if they are a name by the rule of a sheet of that edition. Each window of
-// them is read once, for the digest and for the state.
+// The digest of the n characters at a position, if they are a name by the rule of a sheet of that edition. Each window
+// of them is read once, for the digest and for the state.
 fn judge_name(t: &[u16; Words::SIZE], s: &[u8], at: u32, n: u32, edition: u32) -> Option<u32>
     requires { Right t.now × Limited s.now × (at + 7 * n ≤ 8 * length s.now) }
     ensures { result ≡ judged_of (sheet_name (table_of edition) (chars_at s.now at n))

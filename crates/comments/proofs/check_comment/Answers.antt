@@ -1,13 +1,14 @@
 use mathlib.Core.Path.{refl}
 use Rattle.cursor.proofs.FieldLaws.{value, cut}
-use Rattle.cursor.proofs.CheckLaws.{tail}
+use Rattle.cursor.proofs.CheckLaws.{tail, refused}
 use Rattle.comments.specs.Comments.{comment}
 use Rattle.comments.proofs.check_comment.Goals as goal
 
-pub returns-in-Cut : goal.returns-in-Cut
+pub returns-in_err-count : goal.returns-in_err-count
 unfolding comment
-returns-in-Cut c = λ make. rw (cut _ _ _ c.read-f.ensures c.in-Cut.is) record { step = refl }
+returns-in_err-count c =
+    λ make. refused c.from_residual.ensures.1 (rw (cut c.read.ensures c.in_err-count.was) refl)
 
-pub returns-in-Value : goal.returns-in-Value
+pub returns : goal.returns
 unfolding comment
-returns-in-Value c = λ make. rw (value c.read-f.ensures c.in-Value.is) (tail make c.check_lines.ensures)
+returns c = λ make. rw (value c.read.ensures c.in_ok-count.was) (tail make c.check_lines.ensures)
