@@ -21,7 +21,6 @@ use Rattle.format.specs.declared.TypeKind.{TypeKind}
 use Rattle.format.specs.Decoding.{name_of, type, argument}
 use Rattle.rules.specs.Rules.{twice, is_cxx_vector}
 use Rattle.rules.proofs.SearchLaws.{apart_keys, filled_turn}
-use Rattle.cursor.specs.declared.Step.TheVariants.{Fault}
 use Rattle.cursor.specs.Checking.{step_in}
 use Rattle.cursor.proofs.CodeLaws.{at_in, fault_in, cut_in, loose_in, bits_cut, bits_whole}
 use Rattle.cursor.proofs.YieldLaws.{yields, got_value}
@@ -38,6 +37,7 @@ use Rattle.marks.proofs.GatherLaws.{moved, halted, folded, fold_none, fold_turn,
 use Rattle.arguments.specs.declared.Passed.{Passed}
 use Rattle.arguments.specs.Arguments.{is_vector_kind, judge_error, argument_of, Passes, names_of, Numbered, note, Notes}
 use Rattle.arguments.proofs.ErrorLaws.{vector_type}
+use Rattle.std.specs.Prelude.{Err}
 
 -- ---- what is marked of an argument
 
@@ -96,7 +96,7 @@ argument_found names items s at e f = rw (e, f)
 
 module _ {method throws : Bool} (s names : List ℕ) (items at : ℕ) {u v : List ℕ} where
   passes_fault : {e : Refusal} {r : Passed} → argument (names_at s names) items s at ≡ fault e →
-      step_in r.next ≡ Fault e → most_bits < r.next →
+      step_in r.next ≡ Err e → most_bits < r.next →
       Passes method throws s names (argument (names_at s names) items s at) u r v
   passes_fault q t l = record {
     marks = rw (q, t) record { gathered = refl };

@@ -10,7 +10,6 @@ use borrow.Author.Tests.{ne_eqb}
 use Rattle.format.specs.Decode.{got}
 use Rattle.format.specs.Bits.{bits_at, bits, width_of, index}
 use Rattle.format.specs.Types.{Ty, atom, named, template, pointer, str, fn, array}
-use Rattle.format.specs.declared.Atom.{Atom}
 use Rattle.format.specs.declared.Template.{Template}
 use Rattle.format.specs.declared.TypeKind.{TypeKind}
 use Rattle.format.specs.declared.TypeKind.TheVariants as Kind
@@ -60,7 +59,7 @@ vector_number (suc (suc (suc (suc (suc (suc (suc (suc (suc (suc (suc (suc (suc (
 -- ---- kinds that say all
 
 -- neither an atom, nor a name, nor indirect
-abbrev is_plain_kind : TypeKind → Bool
+abbrev pub is_plain_kind : TypeKind → Bool
 is_plain_kind Kind.Atom = false
 is_plain_kind Kind.Named = false
 is_plain_kind (Kind.Template k) = false

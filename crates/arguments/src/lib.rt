@@ -6,7 +6,6 @@ ghost use Rattle.lexical.specs.Bytes.{same};
 ghost use Rattle.format.specs.Limits.{most_arguments, most_bits};
 ghost use Rattle.format.specs.Decode.{many};
 ghost use Rattle.format.specs.Decoding.{kind_of, argument, type};
-ghost use Rattle.syntax.specs.Types.{is_indirect_template};
 ghost use Rattle.rules.specs.Rules.{twice};
 ghost use Rattle.cursor.specs.Checking.{Limited, step_in};
 ghost use Rattle.cursor.specs.Yielding.{Yields};
@@ -19,10 +18,10 @@ ghost use Rattle.arguments.specs.Arguments.{is_vector_kind, judge_error, argumen
 ghost use Rattle.arguments.specs.Arguments.{names_of, Indexes, Notes};
 
 use cursor::{Cursor, end_of, extract, width};
-use format::{Template, TypeKind};
+use format::TypeKind;
 use marks::{Mark, repeats, set_mark};
 use names::{name_is, same_name};
-use types::{Levels, kind_of, walk_type};
+use types::{Levels, is_indirect_template, kind_of, walk_type};
 
 // How many arguments a function has.
 #[derive(Clone, Copy)]
@@ -39,10 +38,9 @@ impl Count {
 fn mark_if(marks: &mut [u8], yes: bool, place: usize)
     ensures { marks.new ≡ mark_if yes place marks.old }
 {
-    if !yes {
-        return;
+    if yes {
+        set_mark(marks, place);
     }
-    set_mark(marks, place);
 }
 
 // ---- one argument
@@ -54,19 +52,6 @@ fn is_vector(k: u32) -> bool
     k == 10
 }
 
-fn is_indirect_template(k: Template) -> bool
-    ensures { result ≡ is_indirect_template k }
-{
-    match k {
-        Template::RustBox => false,
-        Template::RustVec => true,
-        Template::UniquePtr => false,
-        Template::SharedPtr => true,
-        Template::WeakPtr => true,
-        Template::CxxVector => true,
-    }
-}
-
 // Where it is asked, whether name i is the text.
 fn name_when(s: &[u8], names: &[u32], digests: &[u32], asked: bool, i: u32, text: &[u8]) -> bool
     requires { Named s.now names.now × (digests.now ≡ digests_at s.now names.now) ×
@@ -74,10 +59,7 @@ fn name_when(s: &[u8], names: &[u32], digests: &[u32], asked: bool, i: u32, text
     ensures { result ≡
         (asked && same (name_at s.now (get_or names.now i 0)) text.now) }
 {
-    if asked {
-        return name_is(s, names, digests, i, text);
-    }
-    false
+    asked && name_is(s, names, digests, i, text)
 }
 
 // Of an argument `error` of a throwing function: its type is of the kind and stands at a position.
@@ -91,34 +73,14 @@ fn judge_error(s: &[u8], items: u32, at: u32, kind: TypeKind, marks: &mut [u8])
         TypeKind::Atom => {
             let a = extract(s, body, 4);
             mark_if(marks, a == 14, Mark::UNFIT);
-            return;
         }
         TypeKind::Named => {
             let i = extract(s, body, width(items));
             mark_if(marks, i < 256, Mark::ERRORS + i as usize);
-            return;
         }
-        TypeKind::Template(k) => {
-            let indirect = is_indirect_template(k);
-            mark_if(marks, indirect, Mark::UNFIT);
-            return;
-        }
-        TypeKind::Array => {
-            set_mark(marks, Mark::UNFIT);
-            return;
-        }
-        TypeKind::Pointer(_) => {
-            return;
-        }
-        TypeKind::Str => {
-            return;
-        }
-        TypeKind::Fn => {
-            return;
-        }
-        TypeKind::Bad => {
-            return;
-        }
+        TypeKind::Template(k) => mark_if(marks, is_indirect_template(k), Mark::UNFIT),
+        TypeKind::Array => set_mark(marks, Mark::UNFIT),
+        TypeKind::Pointer(_) | TypeKind::Str | TypeKind::Fn | TypeKind::Bad => {}
     }
 }
 
@@ -144,15 +106,13 @@ fn judge_argument(
     mark_if(marks, vector, Mark::UNFIT);
     let receiver = name_when(s, names, digests, method, name, b"self");
     mark_if(marks, receiver, Mark::UNFIT);
-    let error = name_when(s, names, digests, throws, name, b"error");
-    if !error {
-        return;
+    if name_when(s, names, digests, throws, name, b"error") {
+        judge_error(s, items, of, kind_of(k), marks);
     }
-    let kind = kind_of(k);
-    judge_error(s, items, of, kind, marks);
 }
 
 // An argument that was walked past: the index of its name, and the position behind it or the refusal, by one number.
+// A number comes back in a register, a Result through memory: measured slower (docs/DECISIONS.md).
 #[derive(Clone, Copy)]
 pub struct Passed {
     pub name: u32,
@@ -179,13 +139,17 @@ fn check_argument(
     let w = width(n);
     let of = at + w;
     if end_of(s) < of {
-        let next = Cursor::CUT;
-        return Passed { name: 0, next };
+        return Passed {
+            name: 0,
+            next: Cursor::CUT,
+        };
     }
     let name = extract(s, at, w);
     if n <= name {
-        let next = Cursor::LOOSE;
-        return Passed { name, next };
+        return Passed {
+            name,
+            next: Cursor::LOOSE,
+        };
     }
     let next = walk_type(&s[..], of, items, Levels::MOST, &mut marks[..]);
     if Cursor::LAST < next {
@@ -218,21 +182,14 @@ fn check_each(
         marks.old result (take n numbers.new) (take n keys.new) marks.new }
 {
     let mut next = at;
-    let mut i: u32 = 0;
-    while i < n {
+    for i in 0..n {
         let a = check_argument(s, names, digests, next, items, method, throws, marks);
-        let behind = a.next;
-        if Cursor::LAST < behind {
-            return behind;
+        if Cursor::LAST < a.next {
+            return a.next;
         }
-        let name = a.name;
-        let j = name as usize;
-        let key = digests[j];
-        let k = i as usize;
-        numbers[k] = name;
-        keys[k] = key;
-        next = behind;
-        i = i + 1;
+        numbers[i as usize] = a.name;
+        keys[i as usize] = digests[a.name as usize];
+        next = a.next;
     }
     next
 }
@@ -244,17 +201,13 @@ fn equal_names(s: &[u8], names: &[u32], digests: &[u32], numbers: &[u32]) -> boo
     ensures { result ≡ twice same (names_of s.now names.now numbers.now) }
 {
     let mut found = false;
-    let mut i: usize = 0;
-    'pairs: while i < numbers.len() {
-        let mut j = i + 1;
-        while j < numbers.len() {
+    'pairs: for i in 0..numbers.len() {
+        for j in i + 1..numbers.len() {
             found = same_name(s, names, digests, numbers[i], numbers[j]);
             if found {
                 break 'pairs;
             }
-            j = j + 1;
         }
-        i = i + 1;
     }
     found
 }
@@ -296,8 +249,7 @@ pub fn check_arguments(
         return r;
     }
     let k = n as usize;
-    let close = repeats(&keys[..k]);
-    if !close {
+    if !repeats(&keys[..k]) {
         return r;
     }
     let same = equal_names(s, names, digests, &numbers[..k]);

@@ -16,12 +16,12 @@ returns-then-r-gt-LAST c = notes_refused c.check_each-r.ensures c.if-r-gt-LAST.t
 pub slice_bounds-repeats-end : goal.slice_bounds-repeats-end
 slice_bounds-repeats-end c = sym (length-take-le _ _ (omega arith))
 
-pub repeats-close-requires : goal.repeats-close-requires
-repeats-close-requires c = few_keys _ _ c.requires.3 (omega arith)
+pub repeats-requires : goal.repeats-requires
+repeats-requires c = few_keys _ _ c.requires.3 (omega arith)
 
-pub returns-then-not-close : goal.returns-then-not-close
-returns-then-not-close c =
-    notes_apart c.check_each-r.ensures (omega arith) c.repeats-close.ensures (not-true _ (ap not c.if-not-close.true))
+pub returns-then-not-repeats : goal.returns-then-not-repeats
+returns-then-not-repeats c =
+    notes_apart c.check_each-r.ensures (omega arith) c.repeats.ensures (not-true _ (ap not c.if-not-repeats.true))
 
 pub slice_bounds-equal_names-end : goal.slice_bounds-equal_names-end
 slice_bounds-equal_names-end c = sym (length-take-le _ _ (omega arith))

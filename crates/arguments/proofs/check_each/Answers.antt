@@ -1,24 +1,23 @@
 use native.Mathlib.Omega.{arith}
 use mathlib.Core.Path.{refl, ap}
-use Prim.Native.Nat.{◌-◌}
 use lib.ListN.{length, length-set}
 use Rattle.names.proofs.NameLaws.{digests_length}
 use Rattle.arguments.proofs.ArgumentLaws.{noting_none, noting_turn, noting_stop, noting_done}
 use Rattle.arguments.proofs.check_each.Goals as goal
 
 pub loop-i-init : goal.loop-i-init
-loop-i-init c = (omega arith, c.requires.2, refl, refl, refl, noting_none _ _ _ _ _ _ _ _ _ _)
+loop-i-init c = (c.requires.2, refl, refl, refl, noting_none _ _ _ _ _ _ _ _ _ _)
 
 pub check_argument-a-requires : goal.check_argument-a-requires
-check_argument-a-requires c = (c.requires.0, c.requires.1, c.loop-i.invariant.1)
+check_argument-a-requires c = (c.requires.0, c.requires.1, c.loop-i.invariant.0)
 
-pub returns-then-behind-gt-LAST : goal.returns-then-behind-gt-LAST
-returns-then-behind-gt-LAST c =
-    noting_stop _ _ _ _ _ _ _ _ c.loop-i.invariant.5 c.loop-i-test.true c.check_argument-a.ensures
-    c.if-behind-gt-LAST.true
+pub returns-then-a-gt-LAST : goal.returns-then-a-gt-LAST
+returns-then-a-gt-LAST c =
+    noting_stop _ _ _ _ _ _ _ _ c.loop-i.invariant.4 (omega arith) c.check_argument-a.ensures
+    c.if-a-gt-LAST.true
 
-pub bounds-digests-j : goal.bounds-digests-j
-bounds-digests-j c =
+pub bounds-digests-a : goal.bounds-digests-a
+bounds-digests-a c =
     omega (
       arith,
       ap length c.requires.1,
@@ -29,15 +28,14 @@ bounds-digests-j c =
 pub loop-i-preserved : goal.loop-i-preserved
 loop-i-preserved c = (
   omega arith,
-  omega arith,
   simp length-set (omega arith),
   simp length-set (omega arith),
   omega arith,
   noting_turn
-      _ _ _ _ _ _ _ _ c.loop-i.invariant.5 c.loop-i-test.true c.check_argument-a.ensures c.requires.1 (omega arith)
+      _ _ _ _ _ _ _ _ c.loop-i.invariant.4 (omega arith) c.check_argument-a.ensures c.requires.1 (omega arith)
       (omega arith) (omega arith),
 )
 
 pub returns : goal.returns
 returns c =
-    noting_done _ _ _ _ _ _ _ _ c.loop-i.invariant.5 c.loop-i.invariant.0 c.loop-i-test.false c.loop-i.invariant.1
+    noting_done _ _ _ _ _ _ _ _ c.loop-i.invariant.4 (omega arith) (omega arith) c.loop-i.invariant.0

@@ -1,5 +1,5 @@
 use mathlib.Core.Path.{◌≡◌}
-use Prim.Native.Nat.{◌-◌, ◌≤◌}
+use Prim.Native.Nat.{◌≤◌}
 use lib.ListN.{length}
 use Rattle.format.specs.Limits.{most_bits}
 use Rattle.arguments.proofs.ArgumentLaws.{Noting}
@@ -7,9 +7,6 @@ use Rattle.arguments.proofs.check_each.Given as goal
 
 abbrev pub invariant-loop-i : goal.invariant-loop-i
 invariant-loop-i l =
-    (l.i ≤ l.n) × (l.next ≤ most_bits) × (length l.numbers ≡ length l.initial.numbers) × (length l.keys ≡ length
+    (l.next ≤ most_bits) × (length l.numbers ≡ length l.initial.numbers) × (length l.keys ≡ length
     l.initial.keys) × (length l.marks ≡ length l.initial.marks) × Noting l.method l.throws l.s l.names l.items l.n
     l.at l.initial.marks l.i l.next l.numbers l.keys l.marks
-
-abbrev pub decreases-loop-i : goal.decreases-loop-i
-decreases-loop-i l = l.n - l.i

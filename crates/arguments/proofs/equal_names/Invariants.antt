@@ -1,8 +1,8 @@
 use mathlib.Core.Path.{◌≡◌}
 use mathlib.Core.List.{[]}
 use mathlib.Core.Bool.{false}
-use Prim.Native.Nat.{◌+◌, ◌≤◌, ◌-◌}
-use lib.ListN.{length, get_or, drop}
+use Prim.Native.Nat.{◌+◌}
+use lib.ListN.{get_or, drop}
 use Rattle.lexical.specs.Bytes.{same}
 use Rattle.rules.specs.Rules.{any, twice}
 use Rattle.arguments.specs.Arguments.{names_of}
@@ -10,17 +10,11 @@ use Rattle.arguments.proofs.equal_names.Given as goal
 
 abbrev pub invariant-loop-j : goal.invariant-loop-j
 invariant-loop-j l =
-    (l.j ≤ length l.numbers) × (l.found ≡ false) × (any (same (get_or (names_of l.s l.names l.numbers) l.i []))
-    (drop (l.i + 1) (names_of l.s l.names l.numbers)) ≡ any (same (get_or (names_of l.s l.names l.numbers) l.i
-    [])) (drop l.j (names_of l.s l.names l.numbers)))
-
-abbrev pub decreases-loop-j : goal.decreases-loop-j
-decreases-loop-j l = length l.numbers - l.j
+    (l.found ≡ false) × (any (same (get_or (names_of l.s l.names l.numbers) l.i [])) (drop (l.i + 1) (names_of l.s
+    l.names l.numbers)) ≡ any (same (get_or (names_of l.s l.names l.numbers) l.i [])) (drop l.j (names_of l.s l.names
+    l.numbers)))
 
 abbrev pub invariant-pairs : goal.invariant-pairs
 invariant-pairs l =
-    (l.i ≤ length l.numbers) × (l.found ≡ false) × (twice same (names_of l.s l.names l.numbers) ≡ twice same
-    (drop l.i (names_of l.s l.names l.numbers)))
-
-abbrev pub decreases-pairs : goal.decreases-pairs
-decreases-pairs l = length l.numbers - l.i
+    (l.found ≡ false) × (twice same (names_of l.s l.names l.numbers) ≡ twice same (drop l.i (names_of l.s l.names
+    l.numbers)))

@@ -1,9 +1,10 @@
 use native.Mathlib.Omega.{arith}
-use mathlib.Core.Path.{refl, sym, ◌∙◌}
+use mathlib.Core.Path.{sym, ap, ◌∙◌}
+use mathlib.Core.Logic.{inl, inr}
 use Rattle.cursor.proofs.WidthLaws.{width_le}
 use Rattle.types.proofs.KindLaws.{kind_room}
 use Rattle.arguments.proofs.ErrorLaws.{atom_room, judge_atom, named_room, judge_named, judge_template}
-use Rattle.arguments.proofs.ErrorLaws.{judge_array, judge_plain}
+use Rattle.arguments.proofs.ErrorLaws.{judge_array, judge_plain, is_plain_kind}
 use Rattle.arguments.proofs.judge_error.Goals as goal
 
 pub overflow_add-body : goal.overflow_add-body
@@ -31,20 +32,18 @@ returns-in-Named c =
 
 pub returns-in-Template : goal.returns-in-Template
 returns-in-Template c =
-    judge_template _ _ (sym c.in-Template.is ∙ c.requires.2) c.is_indirect_template-indirect.ensures
+    judge_template _ _ (sym c.in-Template.is ∙ c.requires.2) c.is_indirect_template.ensures
     c.mark_if-in-Template.ensures
 
 pub returns-in-Array : goal.returns-in-Array
 returns-in-Array c = judge_array _ _ (sym c.in-Array.is ∙ c.requires.2) c.set_mark.ensures
 
 pub returns-in-Pointer : goal.returns-in-Pointer
-returns-in-Pointer c = judge_plain _ _ _ (sym c.in-Pointer.is ∙ c.requires.2) refl
-
-pub returns-in-Str : goal.returns-in-Str
-returns-in-Str c = judge_plain _ _ _ (sym c.in-Str.is ∙ c.requires.2) refl
-
-pub returns-in-Fn : goal.returns-in-Fn
-returns-in-Fn c = judge_plain _ _ _ (sym c.in-Fn.is ∙ c.requires.2) refl
-
-pub returns-in-Bad : goal.returns-in-Bad
-returns-in-Bad c = judge_plain _ _ _ (sym c.in-Bad.is ∙ c.requires.2) refl
+returns-in-Pointer c =
+    judge_plain _ _ _ c.requires.2 (elim c.in-Pointer.is [
+      | inl p ↦ ap is_plain_kind p.1
+      | inr p ↦ elim p [
+        | inl p ↦ ap is_plain_kind p
+        | inr p ↦ elim p [ inl p ↦ ap is_plain_kind p | inr p ↦ ap is_plain_kind p ]
+      ]
+    ])
