@@ -19,7 +19,7 @@ ghost use Rattle.items.specs.Parts.{signature};
 
 use arguments::check_arguments;
 use comments::check_comment;
-use cursor::{Cursor, Field, Step, check_index, read, skip, step_in};
+use cursor::{Cursor, check_index, read, skip, step_in};
 use format::ItemKind;
 use refusal::Refusal;
 use types::{check_item_index, check_return, check_types};
@@ -27,21 +27,16 @@ use words::in_range;
 
 // ---- functions
 
-fn check_form(s: &[u8], c: Cursor, items: u32, marks: &mut [u8]) -> Step
+fn check_form(s: &[u8], c: Cursor, items: u32, marks: &mut [u8]) -> Result<Cursor, Refusal>
     requires { Limited s.now }
     ensures { Gathers mark_form (form items s.now c.at) marks.old result
         marks.new }
 {
-    let f = read(s, c, 2);
-    match f {
-        Field::Cut => Step::Fault(Refusal::CutSheet),
-        Field::Value(k, next) => {
-            if k == 0 {
-                return Step::At(next);
-            }
-            check_item_index(s, next, items, marks)
-        }
+    let kind = read(s, c, 2)?;
+    if kind.value == 0 {
+        return Ok(kind.next);
     }
+    check_item_index(s, kind.next, items, marks)
 }
 
 // Whether the form at c is a method's.
@@ -49,15 +44,9 @@ fn is_method(s: &[u8], c: Cursor) -> bool
     requires { Limited s.now }
     ensures { (items m : ℕ) (x : Form) → form items s.now c.at ≡ got x m → result ≡ is_method x }
 {
-    let f = read(s, c, 2);
-    match f {
-        Field::Cut => false,
-        Field::Value(k, _) => {
-            if k == 1 {
-                return true;
-            }
-            k == 2
-        }
+    match read(s, c, 2) {
+        Ok(kind) => matches!(kind.value, 1 | 2),
+        Err(_) => false,
     }
 }
 
@@ -71,7 +60,7 @@ fn check_signature(
     method: bool,
     throws: bool,
     marks: &mut [u8],
-) -> Step
+) -> Result<Cursor, Refusal>
     requires { Named s.now names.now × (digests.now ≡ digests_at s.now names.now) }
     ensures { (make : Ret → List Argument → List (List ℕ) → Body) (u : List ℕ) →
         ((x : Ret) (xs : List Argument) (ls : List (List ℕ)) →
@@ -80,26 +69,20 @@ fn check_signature(
         (signature make (names_at s.now names.now) items s.now c.at)
         u result marks.new }
 {
-    let a = check_return(s, c, items, marks);
-    match a {
-        Step::Fault(e) => Step::Fault(e),
-        Step::At(count) => {
-            let f = read(s, count, 5);
-            match f {
-                Field::Cut => Step::Fault(Refusal::CutSheet),
-                Field::Value(n, first) => {
-                    let r = check_arguments(
-                        s, names, digests, first.at, items, n, method, throws, marks,
-                    );
-                    let b = step_in(r);
-                    match b {
-                        Step::Fault(e) => Step::Fault(e),
-                        Step::At(next) => check_comment(s, next),
-                    }
-                }
-            }
-        }
-    }
+    let count = check_return(s, c, items, marks)?;
+    let arguments = read(s, count, 5)?;
+    let comment = step_in(check_arguments(
+        s,
+        names,
+        digests,
+        arguments.next.at,
+        items,
+        arguments.value,
+        method,
+        throws,
+        marks,
+    ))?;
+    check_comment(s, comment)
 }
 
 fn check_function(
@@ -109,76 +92,50 @@ fn check_function(
     c: Cursor,
     items: u32,
     marks: &mut [u8],
-) -> Step
+) -> Result<Cursor, Refusal>
     requires { Named s.now names.now × (digests.now ≡ digests_at s.now names.now) }
     ensures { Gathers mark_body
         (function_body (names_at s.now names.now) items s.now c.at)
         marks.old result marks.new }
 {
-    let a = check_index(s, c, names.len() as u32);
-    match a {
-        Step::Fault(e) => Step::Fault(e),
-        Step::At(c1) => {
-            let b = check_form(s, c1, items, marks);
-            match b {
-                Step::Fault(e) => Step::Fault(e),
-                Step::At(c2) => {
-                    let f = read(s, c2, 1);
-                    match f {
-                        Field::Cut => Step::Fault(Refusal::CutSheet),
-                        Field::Value(t, c3) => {
-                            let method = is_method(s, c1);
-                            check_signature(s, names, digests, c3, items, method, t == 1, marks)
-                        }
-                    }
-                }
-            }
-        }
-    }
+    let form = check_index(s, c, names.len() as u32)?;
+    let behind = check_form(s, form, items, marks)?;
+    let throws = read(s, behind, 1)?;
+    let method = is_method(s, form);
+    check_signature(
+        s,
+        names,
+        digests,
+        throws.next,
+        items,
+        method,
+        throws.value == 1,
+        marks,
+    )
 }
 
 // ---- items
 
-fn check_struct(s: &[u8], c: Cursor, items: u32, marks: &mut [u8]) -> Step
+fn check_struct(s: &[u8], c: Cursor, items: u32, marks: &mut [u8]) -> Result<Cursor, Refusal>
     requires { Limited s.now }
     ensures { Gathers mark_body (struct_body items s.now c.at) marks.old result
         marks.new }
 {
-    let a = skip(s, c, 1);
-    match a {
-        Step::Fault(e) => Step::Fault(e),
-        Step::At(c1) => {
-            let f = read(s, c1, 6);
-            match f {
-                Field::Cut => Step::Fault(Refusal::CutSheet),
-                Field::Value(n, first) => check_types(s, first, items, n, marks),
-            }
-        }
-    }
+    let count = skip(s, c, 1)?;
+    let fields = read(s, count, 6)?;
+    check_types(s, fields.next, items, fields.value, marks)
 }
 
-fn check_enum(s: &[u8], c: Cursor) -> Step
+fn check_enum(s: &[u8], c: Cursor) -> Result<Cursor, Refusal>
     requires { Limited s.now }
     ensures { Checks (enum_body s.now c.at) result }
 {
-    let a = skip(s, c, 1);
-    match a {
-        Step::Fault(e) => Step::Fault(e),
-        Step::At(c1) => {
-            let f = read(s, c1, 4);
-            match f {
-                Field::Cut => Step::Fault(Refusal::CutSheet),
-                Field::Value(n, owner) => {
-                    let k = n as u8;
-                    let good = in_range(2, 11, k);
-                    if good {
-                        return skip(s, owner, 1);
-                    }
-                    Step::Fault(Refusal::BadKind)
-                }
-            }
-        }
+    let next = skip(s, c, 1)?;
+    let repr = read(s, next, 4)?;
+    if in_range(2, 11, repr.value as u8) {
+        return skip(s, repr.next, 1);
     }
+    Err(Refusal::BadKind)
 }
 
 // What the number k of a kind says.
@@ -198,14 +155,7 @@ pub fn part_of(k: u32) -> ItemKind
 fn is_bad(k: ItemKind) -> bool
     ensures { result ≡ is_bad k }
 {
-    match k {
-        ItemKind::Bad => true,
-        ItemKind::Struct => false,
-        ItemKind::Enum => false,
-        ItemKind::CxxType => false,
-        ItemKind::RustType => false,
-        ItemKind::RustFunction => false,
-    }
+    matches!(k, ItemKind::Bad)
 }
 
 // Past what stands behind the C++ name.
@@ -217,7 +167,7 @@ fn check_body(
     items: u32,
     kind: ItemKind,
     marks: &mut [u8],
-) -> Step
+) -> Result<Cursor, Refusal>
     requires { Named s.now names.now × (digests.now ≡ digests_at s.now names.now) }
     ensures { Gathers mark_body
         (item_body kind (names_at s.now names.now) items s.now c.at)
@@ -226,44 +176,30 @@ fn check_body(
     match kind {
         ItemKind::Struct => check_struct(s, c, items, marks),
         ItemKind::Enum => check_enum(s, c),
-        ItemKind::CxxType => skip(s, c, 1),
-        ItemKind::RustType => skip(s, c, 1),
+        ItemKind::CxxType | ItemKind::RustType => skip(s, c, 1),
         ItemKind::RustFunction => check_function(s, names, digests, c, items, marks),
-        ItemKind::Bad => Step::Fault(Refusal::BadKind),
+        ItemKind::Bad => Err(Refusal::BadKind),
     }
 }
 
 // Past n indexes into the name table.
-fn check_indexes(s: &[u8], c: Cursor, names: u32, n: u32) -> Step
+fn check_indexes(s: &[u8], c: Cursor, names: u32, n: u32) -> Result<Cursor, Refusal>
     requires { Limited s.now }
     ensures { Checks (many n (index names) s.now c.at) result }
 {
     let mut next = c;
-    let mut i: u32 = 0;
-    while i < n {
-        let r = check_index(s, next, names);
-        match r {
-            Step::At(p) => {
-                next = p;
-            }
-            Step::Fault(e) => {
-                return Step::Fault(e);
-            }
-        }
-        i = i + 1;
+    for _ in 0..n {
+        next = check_index(s, next, names)?;
     }
-    Step::At(next)
+    Ok(next)
 }
 
-fn check_namespace(s: &[u8], names: &[u32], c: Cursor) -> Step
+fn check_namespace(s: &[u8], names: &[u32], c: Cursor) -> Result<Cursor, Refusal>
     requires { Named s.now names.now }
     ensures { Checks (namespace (names_at s.now names.now) s.now c.at) result }
 {
-    let f = read(s, c, 3);
-    match f {
-        Field::Cut => Step::Fault(Refusal::CutSheet),
-        Field::Value(n, first) => check_indexes(s, first, names.len() as u32, n),
-    }
+    let count = read(s, c, 3)?;
+    check_indexes(s, count.next, names.len() as u32, count.value)
 }
 
 // Past the item at c.
@@ -274,34 +210,20 @@ fn check_item(
     c: Cursor,
     items: u32,
     marks: &mut [u8],
-) -> Step
+) -> Result<Cursor, Refusal>
     requires { Named s.now names.now × (digests.now ≡ digests_at s.now names.now) }
     ensures { Gathers mark_item
         (item (names_at s.now names.now) items s.now c.at)
         marks.old result marks.new }
 {
-    let f = read(s, c, 3);
-    match f {
-        Field::Cut => Step::Fault(Refusal::CutSheet),
-        Field::Value(k, c1) => {
-            let kind = part_of(k);
-            let bad = is_bad(kind);
-            if bad {
-                return Step::Fault(Refusal::BadKind);
-            }
-            let a = check_namespace(s, names, c1);
-            match a {
-                Step::Fault(e) => Step::Fault(e),
-                Step::At(c2) => {
-                    let b = check_index(s, c2, names.len() as u32);
-                    match b {
-                        Step::Fault(e) => Step::Fault(e),
-                        Step::At(c3) => check_body(s, names, digests, c3, items, kind, marks),
-                    }
-                }
-            }
-        }
+    let number = read(s, c, 3)?;
+    let kind = part_of(number.value);
+    if is_bad(kind) {
+        return Err(Refusal::BadKind);
     }
+    let name = check_namespace(s, names, number.next)?;
+    let behind = check_index(s, name, names.len() as u32)?;
+    check_body(s, names, digests, behind, items, kind, marks)
 }
 
 // Past all items, with the position of each in offsets.
@@ -313,7 +235,7 @@ pub fn check_items(
     items: u32,
     offsets: &mut [u32],
     marks: &mut [u8],
-) -> Step
+) -> Result<Cursor, Refusal>
     requires { Named s.now names.now × (digests.now ≡ digests_at s.now names.now) ×
         (items ≤ length offsets.old) }
     ensures { Fills
@@ -324,21 +246,10 @@ pub fn check_items(
         marks.old result marks.new }
 {
     let mut next = c;
-    let mut i: u32 = 0;
-    while i < items {
-        let r = check_item(s, names, digests, next, items, marks);
-        match r {
-            Step::At(p) => {
-                let k = i as usize;
-                let here = next.at;
-                offsets[k] = here;
-                next = p;
-            }
-            Step::Fault(e) => {
-                return Step::Fault(e);
-            }
-        }
-        i = i + 1;
+    for i in 0..items {
+        let behind = check_item(s, names, digests, next, items, marks)?;
+        offsets[i as usize] = next.at;
+        next = behind;
     }
-    Step::At(next)
+    Ok(next)
 }

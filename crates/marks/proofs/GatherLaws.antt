@@ -73,6 +73,12 @@ module _ {A S : Type 0} {f : A → S → S} where
   abandoned {r = Ok c} i h = absurd i
   abandoned {r = Err d} i h = rw (i, h) record { gathered = refl }
 
+  -- the same, where the answer of the whole is known
+  pub ended : {p : Got A} {u v : S} {r : Result Cursor Refusal} {e : Refusal} → IsErrAnd r (λ d. d ≡ e) →
+      gathered_of f p u ≡ fault e → Gathers f p u r v
+  ended {r = Ok c} i h = absurd i
+  ended {r = Err d} i h = record { gathered = rw i h }
+
 -- what comes behind a refusal that is passed on does not matter
 pub stays : {A B S T : Type 0} {f : A → S → S} {g : B → T → T} (k : A → ℕ → Got B) {p : Got A} {u v : S} {w x : T} {r : ℕ} →
     Gathers f p u (step_in r) v → most_bits < r → Gathers g (after p k) w (step_in r) x

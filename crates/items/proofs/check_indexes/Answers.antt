@@ -1,26 +1,20 @@
 use native.Mathlib.Omega.{arith}
 use mathlib.Core.Path.{sym, ◌∙◌}
-use Prim.Native.Nat.{◌-◌}
-use Rattle.cursor.proofs.CheckLaws.{stepped, stopped, many_none, many_turn, many_stop, many_done}
+use Rattle.cursor.proofs.CheckLaws.{ended, stepped, stopped, many_none, many_turn, many_stop, many_done}
 use Rattle.format.specs.Bits.{index}
 use Rattle.items.proofs.check_indexes.Goals as goal
 
-pub loop-i-init : goal.loop-i-init
-loop-i-init c = (omega arith, many_none (index _) _ _ _)
+pub loop-init : goal.loop-init
+loop-init c = many_none (index _) _ _ _
 
-pub returns-in-Fault : goal.returns-in-Fault
-returns-in-Fault c =
-    record {
-      step = sym (c.loop-i.invariant.1 ∙ many_stop (index _) _ _ _ c.loop-i-test.true
-          (stopped c.check_index-r.ensures c.in-Fault.is));
-    }
+pub returns-in_err-next : goal.returns-in_err-next
+returns-in_err-next c =
+    ended c.from_residual.ensures.1
+    (c.loop.invariant ∙ many_stop (index _) _ _ _ (omega arith) (stopped c.check_index.ensures c.in_err-next.was))
 
-pub loop-i-preserved : goal.loop-i-preserved
-loop-i-preserved c = (
-  omega arith,
-  c.loop-i.invariant.1 ∙ many_turn (index _) _ _ _ c.loop-i-test.true (stepped c.check_index-r.ensures
-      c.in-At.is).1,
-)
+pub loop-preserved : goal.loop-preserved
+loop-preserved c =
+    c.loop.invariant ∙ many_turn (index _) _ _ _ (omega arith) (stepped c.check_index.ensures c.in_ok-next.was).1
 
 pub returns : goal.returns
-returns c = record { step = sym (c.loop-i.invariant.1 ∙ many_done (index _) _ _ _ _ c.loop-i-test.false) }
+returns c = record { step = sym (c.loop.invariant ∙ many_done (index _) _ _ _ _ (omega arith)) }

@@ -3,48 +3,48 @@ use Rattle.format.specs.Decoding.{item}
 use Rattle.cursor.proofs.FieldLaws.{value, cut}
 use Rattle.cursor.proofs.CheckLaws.{stepped, stopped}
 use Rattle.marks.specs.Marking.{mark_item}
-use Rattle.marks.proofs.GatherLaws.{made}
+use Rattle.marks.proofs.GatherLaws.{made, abandoned}
 use Rattle.items.proofs.ItemLaws.{name_of_lem, bad_is}
 use Rattle.items.proofs.check_item.Goals as goal
 
-pub returns-then-bad : goal.returns-then-bad
+pub returns-in_err-number : goal.returns-in_err-number
 unfolding item
-returns-then-bad c =
-    rw (value c.read-f.ensures c.in-Value.is, bad_is c.part_of-kind.ensures c.is_bad-bad.ensures c.if-bad.true) record
-    { gathered = refl }
+returns-in_err-number c = abandoned c.from_residual.ensures.1 (rw (cut c.read.ensures c.in_err-number.was) refl)
 
-pub returns-in-Cut : goal.returns-in-Cut
+pub returns-then-is_bad : goal.returns-then-is_bad
 unfolding item
-returns-in-Cut c = rw (cut _ _ _ c.read-f.ensures c.in-Cut.is) record { gathered = refl }
-
-pub returns-in-Fault : goal.returns-in-Fault
-unfolding item
-returns-in-Fault c =
+returns-then-is_bad c =
     rw (
-      value c.read-f.ensures c.in-Value.is,
-      bad_is c.part_of-kind.ensures c.is_bad-bad.ensures c.if-bad.false,
-      stopped c.check_namespace-a.ensures c.in-Fault.is,
+      value c.read.ensures c.in_ok-number.was,
+      bad_is c.part_of-kind.ensures c.is_bad.ensures c.if-is_bad.true,
     ) record { gathered = refl }
 
-pub returns-in-Fault-b : goal.returns-in-Fault-b
+pub returns-in_err-name : goal.returns-in_err-name
 unfolding item
-returns-in-Fault-b c =
-    rw (
-      value c.read-f.ensures c.in-Value.is,
-      bad_is c.part_of-kind.ensures c.is_bad-bad.ensures c.if-bad.false,
-      (stepped c.check_namespace-a.ensures c.in-At.is).1,
-      stopped (name_of_lem c.args.s.now c.args.names.now _
-          c.check_index-b.ensures) c.in-Fault-b.is,
-    ) record { gathered = refl }
+returns-in_err-name c =
+    abandoned c.from_residual-in_err-name.ensures.1 (rw (
+      value c.read.ensures c.in_ok-number.was,
+      bad_is c.part_of-kind.ensures c.is_bad.ensures c.if-is_bad.false,
+      stopped c.check_namespace.ensures c.in_err-name.was,
+    ) refl)
 
-pub returns-in-At-b : goal.returns-in-At-b
+pub returns-in_err-behind : goal.returns-in_err-behind
+unfolding item
+returns-in_err-behind c =
+    abandoned c.from_residual-in_err-behind.ensures.1 (rw (
+      value c.read.ensures c.in_ok-number.was,
+      bad_is c.part_of-kind.ensures c.is_bad.ensures c.if-is_bad.false,
+      (stepped c.check_namespace.ensures c.in_ok-name.was).1,
+      stopped (name_of_lem c.args.s.now c.args.names.now _ c.check_index.ensures) c.in_err-behind.was,
+    ) refl)
+
+pub returns : goal.returns
 unfolding item mark_item
-returns-in-At-b c =
+returns c =
     rw (
-      value c.read-f.ensures c.in-Value.is,
-      bad_is c.part_of-kind.ensures c.is_bad-bad.ensures c.if-bad.false,
-      (stepped c.check_namespace-a.ensures c.in-At.is).1,
-      (stepped (name_of_lem c.args.s.now c.args.names.now _
-          c.check_index-b.ensures) c.in-At-b.is).1,
+      value c.read.ensures c.in_ok-number.was,
+      bad_is c.part_of-kind.ensures c.is_bad.ensures c.if-is_bad.false,
+      (stepped c.check_namespace.ensures c.in_ok-name.was).1,
+      (stepped (name_of_lem c.args.s.now c.args.names.now _ c.check_index.ensures) c.in_ok-behind.was).1,
       ← c.part_of-kind.ensures,
     ) (made _ (λ b. refl) c.check_body.ensures)

@@ -1,5 +1,5 @@
 use mathlib.Core.Path.{◌≡◌}
-use Prim.Native.Nat.{◌-◌, ◌≤◌}
+use Prim.Native.Nat.{◌-◌}
 use lib.ListN.{length}
 use Rattle.format.specs.Decoding.{item}
 use Rattle.cursor.specs.Checking.{position_of}
@@ -11,11 +11,8 @@ use Rattle.items.proofs.check_items.Given as goal
 
 abbrev pub invariant-loop-i : goal.invariant-loop-i
 invariant-loop-i l =
-    (l.i ≤ l.items) × (length l.offsets ≡ length l.initial.offsets) × (length l.marks ≡ length l.initial.marks) ×
+    (length l.offsets ≡ length l.initial.offsets) × (length l.marks ≡ length l.initial.marks) ×
     Filling (position_of (item (names_at l.s l.names) l.items)) l.s l.items l.initial.next.at l.i l.offsets
     l.next.at × (folded mark_item (item (names_at l.s l.names) l.items) l.s l.items l.initial.next.at
     l.initial.marks ≡ folded mark_item (item (names_at l.s l.names) l.items) l.s (l.items - l.i) l.next.at
     l.marks)
-
-abbrev pub decreases-loop-i : goal.decreases-loop-i
-decreases-loop-i l = l.items - l.i

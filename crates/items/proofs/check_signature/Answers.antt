@@ -1,7 +1,7 @@
 use mathlib.Core.Path.{refl, sym, ap, ◌∙◌}
 use native.Mathlib.Omega.{arith}
 use Rattle.cursor.proofs.FieldLaws.{value, cut, field_lt}
-use Rattle.marks.proofs.GatherLaws.{moved, halted}
+use Rattle.marks.proofs.GatherLaws.{moved, halted, abandoned}
 use Rattle.cursor.proofs.YieldLaws.{field_end}
 use Rattle.marks.specs.Marking.{mark_arguments}
 use Rattle.items.specs.Parts.{signature}
@@ -11,43 +11,41 @@ use Rattle.items.proofs.check_signature.Goals as goal
 pub check_comment-requires : goal.check_comment-requires
 check_comment-requires c = c.requires.0.limited
 
-pub check_arguments-r-requires : goal.check_arguments-r-requires
-check_arguments-r-requires c =
-    let e = value c.read-f.ensures c.in-Value.is in (
+pub check_arguments-requires : goal.check_arguments-requires
+check_arguments-requires c =
+    let e = value c.read.ensures c.in_ok-arguments.was in (
       c.requires.0,
       c.requires.1,
       omega (arith, c.requires.0.limited, field_end 5 _ _ e),
-      omega (
-        arith,
-        field_lt 5 _ _
-            e,
-      ),
+      omega (arith, field_lt 5 _ _ e),
     )
 
-pub returns-in-Fault : goal.returns-in-Fault
+pub returns-in_err-count : goal.returns-in_err-count
 unfolding signature
-returns-in-Fault c = λ make u like. rw (halted c.check_return-a.ensures c.in-Fault.is) record { gathered = refl }
+returns-in_err-count c =
+    λ make u like. abandoned c.from_residual.ensures.1 (rw (halted c.check_return.ensures c.in_err-count.was) refl)
 
-pub returns-in-Cut : goal.returns-in-Cut
+pub returns-in_err-arguments : goal.returns-in_err-arguments
 unfolding signature
-returns-in-Cut c =
-    λ make u like. rw ((moved c.check_return-a.ensures c.in-At.is).1, cut _ _ _ c.read-f.ensures c.in-Cut.is) record
-    { gathered = refl }
+returns-in_err-arguments c =
+    λ make u like. abandoned c.from_residual-in_err-arguments.ensures.1 (rw (
+      (moved c.check_return.ensures c.in_ok-count.was).1,
+      cut c.read.ensures c.in_err-arguments.was,
+    ) refl)
 
-pub returns-in-Fault-b : goal.returns-in-Fault-b
+pub returns-in_err-comment : goal.returns-in_err-comment
 unfolding signature
-returns-in-Fault-b c =
-    λ make u like. rw (
-      (moved c.check_return-a.ensures c.in-At.is).1,
-      value c.read-f.ensures c.in-Value.is,
-      halted
-          c.check_arguments-r.ensures (sym c.step_in-b.ensures ∙ c.in-Fault-b.is),
-    ) record { gathered = refl }
+returns-in_err-comment c =
+    λ make u like. abandoned c.from_residual-in_err-comment.ensures.1 (rw (
+      (moved c.check_return.ensures c.in_ok-count.was).1,
+      value c.read.ensures c.in_ok-arguments.was,
+      halted c.check_arguments.ensures (sym c.step_in.ensures ∙ c.in_err-comment.was),
+    ) refl)
 
-pub returns-in-At-b : goal.returns-in-At-b
+pub returns : goal.returns
 unfolding signature
-returns-in-At-b c =
-    λ make u like. let x = moved c.check_return-a.ensures c.in-At.is in let y = moved c.check_arguments-r.ensures
-    (sym c.step_in-b.ensures ∙ c.in-At-b.is) in rw (x.1, value c.read-f.ensures c.in-Value.is, y.1) (comment_marks
-    (make x.0 y.0) _ _ (λ ls. like x.0 y.0 ls ∙ sym (y.2 ∙ ap (mark_arguments _ _ y.0) x.2))
-    (c.check_comment.ensures _))
+returns c =
+    λ make u like. let x = moved c.check_return.ensures c.in_ok-count.was in
+    let y = moved c.check_arguments.ensures (sym c.step_in.ensures ∙ c.in_ok-comment.was) in
+    rw (x.1, value c.read.ensures c.in_ok-arguments.was, y.1) (comment_marks (make x.0 y.0) _ _
+    (λ ls. like x.0 y.0 ls ∙ sym (y.2 ∙ ap (mark_arguments _ _ y.0) x.2)) (c.check_comment.ensures _))

@@ -1,3 +1,4 @@
+use native.Mathlib.Omega.{arith}
 use mathlib.Core.Path.{refl}
 use Rattle.format.specs.Decoding.{part_of}
 use Rattle.items.proofs.ItemLaws.{part_past}
@@ -24,4 +25,4 @@ unfolding part_of
 returns-in-4 c = rw c.in-4.is refl
 
 pub returns-in_default : goal.returns-in_default
-returns-in_default c = let r = c.in_default.in_default-own.rest in part_past _ r.0.0.0.0.1 r.0.0.0.1 r.0.0.1 r.0.1 r.1
+returns-in_default c = part_past _ (omega arith)
