@@ -1,11 +1,8 @@
 use native.Mathlib.Omega.{arith}
 use mathlib.Core.Path.{sym, ◌∙◌}
 use Rattle.format.specs.Decoding.{line}
-use Rattle.cursor.proofs.CheckLaws.{ended, stepped, stopped, many_none, many_turn, many_stop, many_done}
+use Rattle.cursor.proofs.CheckLaws.{ended, stepped, stopped, many_turn, many_stop, many_done}
 use Rattle.comments.proofs.check_lines.Goals as goal
-
-pub loop-init : goal.loop-init
-loop-init c = many_none line _ _ _
 
 pub returns-in_err-next : goal.returns-in_err-next
 returns-in_err-next c =

@@ -1,15 +1,12 @@
 use native.Mathlib.Omega.{arith}
-use mathlib.Core.Path.{refl, ◌∙◌}
+use mathlib.Core.Path.{◌∙◌}
 use lib.ListN.{length-set}
 use Rattle.format.specs.Decoding.{item}
 use Rattle.cursor.specs.Checking.{position_of}
-use Rattle.cursor.proofs.TableLaws.{placed_got, placed_fault, fill_none, fill_turn, fill_stop, fill_done}
+use Rattle.cursor.proofs.TableLaws.{placed_got, placed_fault, fill_turn, fill_stop, fill_done}
 use Rattle.marks.specs.Marking.{mark_item}
-use Rattle.marks.proofs.GatherLaws.{moved, halted, ended, fold_none, fold_turn, fold_stop, fold_done}
+use Rattle.marks.proofs.GatherLaws.{moved, halted, ended, fold_turn, fold_stop, fold_done}
 use Rattle.items.proofs.check_items.Goals as goal
-
-pub loop-i-init : goal.loop-i-init
-loop-i-init c = (refl, refl, fill_none _ _ _ _ _, fold_none mark_item (item _ _) _ _ _ _)
 
 pub returns-in_err-behind : goal.returns-in_err-behind
 returns-in_err-behind c =

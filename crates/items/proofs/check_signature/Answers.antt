@@ -8,9 +8,6 @@ use Rattle.items.specs.Parts.{signature}
 use Rattle.items.proofs.ItemLaws.{comment_marks}
 use Rattle.items.proofs.check_signature.Goals as goal
 
-pub check_comment-requires : goal.check_comment-requires
-check_comment-requires c = c.requires.0.limited
-
 pub check_arguments-requires : goal.check_arguments-requires
 check_arguments-requires c =
     let e = value c.read.ensures c.in_ok-arguments.was in (

@@ -25,9 +25,6 @@ pub returns-then-end_of-behind : goal.returns-then-end_of-behind
 returns-then-end_of-behind c =
     name_short (sheet_name (table_of c.args.edition)) _ _ (value c.read.ensures c.in_ok-length.was) (omega arith)
 
-pub judge_name-requires : goal.judge_name-requires
-judge_name-requires c = (c.requires.0, c.requires.1, omega arith)
-
 pub returns-in-Some : goal.returns-in-Some
 returns-in-Some c =
     let q = told_good _ _ c.judge_name.ensures c.in-Some.is in

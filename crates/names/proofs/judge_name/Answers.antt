@@ -3,20 +3,9 @@ use mathlib.Core.Path.{◌∙◌}
 use Rattle.cursor.proofs.BitLaws.{bits_short, bits_lt}
 use Rattle.words.specs.Words.{words_in}
 use Rattle.words.proofs.WalkLaws.{fits_walk}
-use Rattle.names.proofs.DigestLaws.{digest_start, digest_turn, digest_end}
-use Rattle.names.proofs.JudgeLaws.{state_start, state_turn, state_end, judged_good, judged_bad}
+use Rattle.names.proofs.DigestLaws.{digest_turn, digest_end}
+use Rattle.names.proofs.JudgeLaws.{state_turn, state_end, judged_good, judged_bad}
 use Rattle.names.proofs.judge_name.Goals as goal
-
-pub loop-next-init : goal.loop-next-init
-loop-next-init c = (
-  omega arith,
-  omega arith,
-  omega arith,
-  digest_start _ _ _ _,
-  rw c.start-q.ensures (λ l. omega arith),
-  rw
-      c.start-q.ensures (state_start (words_in c.args.t.now) _ _ _ _),
-)
 
 pub mix-h-requires : goal.mix-h-requires
 mix-h-requires c = (c.loop-next.invariant.2, omega (arith, bits_short _ _ _ c.extract_wide-x.ensures (omega arith)))
