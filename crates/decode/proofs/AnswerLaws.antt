@@ -16,17 +16,16 @@ use Rattle.format.specs.Decoding.{name, sheet, decode}
 use Rattle.cursor.specs.Checking.{Limited}
 use Rattle.names.specs.Fetching.{Fetched}
 use Rattle.format.specs.declared.Outline.{Outline}
-use Rattle.decode.specs.declared.Decoded.{Decoded}
-use Rattle.decode.specs.declared.Decoded.TheVariants.{Whole, Refused}
+use Rattle.std.specs.Prelude.{Result, Ok, Err}
 use Rattle.decode.specs.Tables.{Tables, Answers}
 
-module _ {s : List ℕ} {p : Got Sheet} {r : Decoded} {b i g m₀ m₁ : List ℕ} where
+module _ {s : List ℕ} {p : Got Sheet} {r : Result Outline Refusal} {b i g m₀ m₁ : List ℕ} where
   -- what an answer says of the definition
 
-  pub refused : {e : Refusal} → Answers s p r b i g m₀ m₁ → r ≡ Refused e → p ≡ fault e
+  pub refused : {e : Refusal} → Answers s p r b i g m₀ m₁ → r ≡ Err e → p ≡ fault e
   refused {e} a t = rw t at a.says
 
-  pub whole : {o : Outline} → Answers s p r b i g m₀ m₁ → r ≡ Whole o → Tables s p o b i g m₀ m₁
+  pub whole : {o : Outline} → Answers s p r b i g m₀ m₁ → r ≡ Ok o → Tables s p o b i g m₀ m₁
   whole {o} a t = rw t at a.says
 
 -- a sheet that is decoded is not too long

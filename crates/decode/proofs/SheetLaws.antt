@@ -2,27 +2,26 @@
 use mathlib.Core.Path.{◌≡◌, refl, sym, ◌∙◌}
 use mathlib.Core.List.{List}
 use mathlib.Core.Bool.{Bool, true, false, ◌&&◌, and-false}
-use Prim.Native.Nat.{ℕ, ◌+◌, ◌-◌, ◌*◌, ◌/◌, ◌%◌, ◌≤◌, ◌<◌}
+use Prim.Native.Nat.{ℕ, ◌-◌, ◌*◌, ◌/◌, ◌%◌, ◌≤◌, ◌<◌}
 use native.Mathlib.Omega.{arith}
 use lib.ListN.{length, take}
 use lib.Dec.{eqb, leb}
 use borrow.Author.Tests.{eq-eqb, ne_eqb, lt-leb, le-leb}
 use Rattle.refusal.specs.declared.Refusal.{Refusal}
-use Rattle.refusal.specs.declared.Refusal.TheVariants.{CutSheet, Tail}
-use Rattle.lexical.specs.Bytes.{within}
+use Rattle.refusal.specs.declared.Refusal.TheVariants.{CutSheet, Edition, Tail}
 use Rattle.lexical.specs.Names.{sheet_name, table_of}
 use Rattle.lexical.proofs.NameLaws.{sheet_name_base, edition_covers}
 use Rattle.format.specs.Limits.{last_edition, most_bytes}
 use Rattle.format.specs.Decode.{Got, fault, got, Dec, pick, after, many}
-use Rattle.format.specs.Bits.{bits}
+use Rattle.format.specs.Bits.{bits, bit}
 use Rattle.format.specs.Sheet.{Name, Sheet}
-use Rattle.format.specs.Decoding.{name, item, table_name, name_table, item_table, tail}
+use Rattle.format.specs.Decoding.{name, item, table_name, name_table, item_table, tail, edition, behind_edition, sheet, decode}
+use Rattle.std.specs.Prelude.{Result, Ok, Err, IsErrAnd}
+use Rattle.format.specs.declared.Outline.{Outline}
 use Rattle.cursor.specs.declared.Cursor.{Cursor}
-use Rattle.cursor.specs.declared.Step.{Step}
-use Rattle.cursor.specs.declared.Step.TheVariants.{At, Fault}
 use Rattle.cursor.specs.Checking.{Limited, Checks, position_of, Fills, Table}
-use Rattle.cursor.proofs.FieldLaws.{field_lt}
-use Rattle.cursor.proofs.CheckLaws.{stepped, stopped}
+use Rattle.cursor.proofs.FieldLaws.{field_lt, field_next}
+use Rattle.cursor.proofs.CheckLaws.{stepped, stopped, refused}
 use Rattle.cursor.proofs.TableLaws.{fills_checks, placed_checks, Located, located}
 use Rattle.names.proofs.DigestLaws.{digests_filled}
 use Rattle.marks.specs.Gathering.{each, Gathers}
@@ -31,42 +30,91 @@ use Rattle.marks.proofs.GatherLaws.{facts}
 use Rattle.names.specs.Naming.{names_at, Named}
 use Rattle.names.specs.Digests.{digest_of, digests_at}
 use Rattle.names.proofs.NamedLaws.{table_base, table_names, table_digests, table_named}
-use Rattle.decode.specs.declared.Decoded.{Decoded}
-use Rattle.decode.specs.declared.Decoded.TheVariants.{Whole, Refused}
 use Rattle.decode.specs.Tables.{behind_names, behind_bits, AnswersItems, Answers}
+
+-- ---- a refusal that is handed on
+
+module _ {s : List ℕ} {p : Got Sheet} {e : Refusal} where
+  pub items_denied : {names : List Name} {r : Result Outline Refusal} {b m₀ m₁ : List ℕ} → IsErrAnd r (λ d. d ≡ e) →
+      p ≡ fault e → AnswersItems s names p r b m₀ m₁
+  items_denied {r = Ok o} i h = absurd i
+  items_denied {r = Err d} i h = record { says = rw i h }
+
+  pub denied : {r : Result Outline Refusal} {b o g m₀ m₁ : List ℕ} → IsErrAnd r (λ d. d ≡ e) → p ≡ fault e →
+      Answers s p r b o g m₀ m₁
+  denied {r = Ok o} i h = absurd i
+  denied {r = Err d} i h = record { says = rw i h }
 
 -- ---- the sheet's length
 
-module _ {n : ℕ} where
-  pub too_long : most_bytes < n → leb n most_bytes ≡ false
-  too_long h = lt-leb n most_bytes h
+module _ (s : List ℕ) where
+  pub too_long : most_bytes < length s → decode s ≡ fault CutSheet
+  unfolding decode
+  too_long h = rw (lt-leb (length s) most_bytes h)
 
-  pub not_too_long : n ≤ most_bytes → leb n most_bytes ≡ true
-  not_too_long h = le-leb n most_bytes h
+  pub not_too_long : length s ≤ most_bytes → decode s ≡ sheet s 0
+  unfolding decode
+  not_too_long h = rw (le-leb (length s) most_bytes h)
 
--- ---- the edition
+-- ---- the edition, and both bits
 
-module _ (e : ℕ) where
-  pub edition_none : e ≡ 0 → within 1 last_edition e ≡ false
-  edition_none h = rw h
+module _ (s : List ℕ) (at : ℕ) where
+  pub sheet_cut : {e : Refusal} → bits 4 s at ≡ fault e → sheet s at ≡ fault e
+  unfolding sheet edition
+  sheet_cut q = rw q
 
-  pub edition_later : last_edition < e → within 1 last_edition e ≡ false
-  edition_later h = rw (lt-leb e last_edition h) (and-false (leb 1 e))
+  module _ {e m : ℕ} (q : bits 4 s at ≡ got e m) where
+    pub edition_none : e ≡ 0 → sheet s at ≡ fault Edition
+    unfolding sheet edition
+    edition_none h = rw (q, h)
 
-  pub edition_known : (e ≡ 0 → ⊥) → e ≤ last_edition → within 1 last_edition e ≡ true
-  edition_known h l = rw (le-leb 1 e (omega arith), le-leb e last_edition l)
+    pub edition_later : last_edition < e → sheet s at ≡ fault Edition
+    unfolding sheet edition
+    edition_later h = rw (q, lt-leb e last_edition h, and-false (leb 1 e))
+
+    pub edition_known : (e ≡ 0 → ⊥) → e ≤ last_edition → sheet s at ≡ behind_edition (table_of e) s m
+    unfolding sheet edition
+    edition_known h l = rw (q, le-leb 1 e (omega arith), le-leb e last_edition l)
+
+  module _ (words : List (List ℕ)) where
+    pub header_cut : {e : Refusal} → bit s at ≡ fault e → behind_edition words s at ≡ fault e
+    unfolding behind_edition
+    header_cut q = rw q
+
+    module _ {h : Bool} {m : ℕ} (q : bit s at ≡ got h m) where
+      pub doxygen_cut : {e : Refusal} → bit s m ≡ fault e → behind_edition words s at ≡ fault e
+      unfolding behind_edition
+      doxygen_cut f = rw (q, f)
+
+      pub both_bits : {d : Bool} {k : ℕ} → bit s m ≡ got d k → behind_edition words s at ≡ behind_bits words h d s k
+      unfolding behind_edition behind_bits behind_names
+      both_bits f = rw (q, f)
 
 -- ---- the end of the sheet
 
-pub not_zero : {z : ℕ} → (z ≡ 0 → ⊥) → eqb z 0 ≡ false
-not_zero {z} h = ne_eqb z 0 h
+module _ {A : Type 0} (x : A) (s : List ℕ) (at : ℕ) where
+  pub tail_cut : {e : Refusal} {r : Result Cursor Refusal} → IsErrAnd r (λ d. d ≡ e) →
+      bits ((8 - at % 8) % 8) s at ≡ fault e → Checks (tail x s at) r
+  unfolding tail
+  tail_cut i q = refused i (rw q)
 
-module _ (s : List ℕ) (at : ℕ) {n : ℕ} where
-  pub at_end_lem : n ≡ at + (8 - at % 8) % 8 → n / 8 ≡ length s → eqb n (8 * length s) ≡ true
-  at_end_lem e h = eq-eqb n (8 * length s) (omega arith)
+  module _ {z n : ℕ} (q : bits ((8 - at % 8) % 8) s at ≡ got z n) where
+    pub tail_dirty : (z ≡ 0 → ⊥) → Checks (tail x s at) (Err Tail)
+    unfolding tail
+    tail_dirty h = record { step = rw (q, ne_eqb z 0 h) }
 
-  pub past_end : n ≡ at + (8 - at % 8) % 8 → (n / 8 ≡ length s → ⊥) → eqb n (8 * length s) ≡ false
-  past_end e h = ne_eqb n (8 * length s) (λ z. h (omega arith))
+    pub tail_whole : z ≡ 0 → n / 8 ≡ length s → Checks (tail x s at) (Ok (record { at = n }))
+    unfolding tail
+    tail_whole h k =
+        let e = field_next _ _ _ q in
+        let l : n ≡ 8 * length s = omega arith in
+        record { step = rw (q, eq-eqb z 0 h, eq-eqb n (8 * length s) l) }
+
+    pub tail_more : z ≡ 0 → (n / 8 ≡ length s → ⊥) → Checks (tail x s at) (Err Tail)
+    unfolding tail
+    tail_more h k =
+        let e = field_next _ _ _ q in
+        record { step = rw (q, eq-eqb z 0 h, ne_eqb n (8 * length s) (λ l. k (omega arith))) }
 
 -- the tail keeps the value
 tail_keeps : {A : Type 0} (x : A) (s : List ℕ) (at : ℕ) {y : A} {m : ℕ} → tail x s at ≡ got y m → tail x s at ≡ got x m
@@ -86,29 +134,30 @@ tail_keeps {A} x s at {y} {m} e = by_field (bits ((8 - at % 8) % 8) s at) e
 -- ---- the item table
 
 module _ (s : List ℕ) (h d : Bool) (names : List Name) (at : ℕ) {b m₀ m₁ : List ℕ} where
-  pub items_cut : bits 8 s at ≡ fault CutSheet →
-      AnswersItems s names (behind_names h d names s at) (Refused CutSheet) b m₀ m₁
+  pub items_cut : {e : Refusal} {v : Result Outline Refusal} → IsErrAnd v (λ d. d ≡ e) → bits 8 s at ≡ fault e →
+      AnswersItems s names (behind_names h d names s at) v b m₀ m₁
   unfolding behind_names item_table
-  items_cut e = record { says = rw e }
+  items_cut i q = items_denied i (rw q)
 
-  module _ {k m : ℕ} (q : bits 8 s at ≡ got k m) {r : Step}
+  module _ {k m : ℕ} (q : bits 8 s at ≡ got k m) {r : Result Cursor Refusal}
       (f : Fills (many k (position_of (item names k)) s m) r k b ×
       Gathers (each mark_item) (many k (item names k) s m) m₀ r m₁) where
-    pub items_fault : {e : Refusal} → r ≡ Fault e → AnswersItems s names (behind_names h d names s at) (Refused e) b m₀ m₁
+    pub items_fault : {e : Refusal} {v : Result Outline Refusal} → IsErrAnd v (λ d. d ≡ e) → r ≡ Err e →
+        AnswersItems s names (behind_names h d names s at) v b m₀ m₁
     unfolding behind_names item_table
-    items_fault t =
-        record { says = rw (q, stopped (placed_checks (item names k) k s m (fills_checks f.0)) t) }
+    items_fault i t = items_denied i (rw (q, stopped (placed_checks (item names k) k s m (fills_checks f.0)) t))
 
-    module _ {c : Cursor} (t : r ≡ At c) {u : Step} (g : (x : Sheet) → Checks (tail x s c.at) u) where
-      pub tail_fault : {e : Refusal} → u ≡ Fault e → AnswersItems s names (behind_names h d names s at) (Refused e) b m₀ m₁
+    module _ {c : Cursor} (t : r ≡ Ok c) {u : Result Cursor Refusal} (g : (x : Sheet) → Checks (tail x s c.at) u) where
+      pub tail_fault : {e : Refusal} {v : Result Outline Refusal} → IsErrAnd v (λ d. d ≡ e) → u ≡ Err e →
+          AnswersItems s names (behind_names h d names s at) v b m₀ m₁
       unfolding behind_names item_table
-      tail_fault w =
+      tail_fault i w =
           let l = located (item names k) s k m f.0 t in
-          record { says = rw (q, l.decoded, stopped (g (record { header = h; doxygen = d; items = l.values })) w) }
+          items_denied i (rw (q, l.decoded, stopped (g (record { header = h; doxygen = d; items = l.values })) w))
 
-      pub items_whole : {n : ℕ} {c' : Cursor} → length names ≡ n → u ≡ At c' →
+      pub items_whole : {n : ℕ} {c' : Cursor} → length names ≡ n → u ≡ Ok c' →
           AnswersItems s names (behind_names h d names s at)
-          (Whole (record { header = h; doxygen = d; names = n; items = k })) b m₀ m₁
+          (Ok (record { header = h; doxygen = d; names = n; items = k })) b m₀ m₁
       unfolding behind_names item_table
       items_whole {n} {c'} e w =
           let l = located (item names k) s k m f.0 t in
@@ -145,9 +194,9 @@ unfolding behind_bits name_table
 behind_is words s h d at q e = rw (q, e)
 
 -- what the names are known to be before the items are read
-pub names_ready : (e : ℕ) (s : List ℕ) (at n m : ℕ) {b g : List ℕ} {r : Step} {c : Cursor} → bits 10 s at ≡ got n m →
+pub names_ready : (e : ℕ) (s : List ℕ) (at n m : ℕ) {b g : List ℕ} {r : Result Cursor Refusal} {c : Cursor} → bits 10 s at ≡ got n m →
     Fills (many n (position_of (name_in e)) s m) r n b ×
-    Fills (many n (digest_of (name_in e)) s m) r n g → r ≡ At c → Limited s → n ≤ length b →
+    Fills (many n (digest_of (name_in e)) s m) r n g → r ≡ Ok c → Limited s → n ≤ length b →
     Named s (take n b) × (take n g ≡ digests_at s (take n b))
 names_ready e s at n m q f t l room =
     let k = located (name_in e) s n m f.0 t in (
@@ -156,28 +205,30 @@ names_ready e s at n m q f t l room =
     )
 
 module _ (e : ℕ) (s : List ℕ) (h d : Bool) (at : ℕ) {b i g m₀ m₁ : List ℕ} where
-  pub tables_cut : bits 10 s at ≡ fault CutSheet → Answers s (behind_bits (table_of e) h d s at) (Refused CutSheet) b i g m₀ m₁
+  pub tables_cut : {x : Refusal} {v : Result Outline Refusal} → IsErrAnd v (λ y. y ≡ x) → bits 10 s at ≡ fault x →
+      Answers s (behind_bits (table_of e) h d s at) v b i g m₀ m₁
   unfolding behind_bits name_table
-  tables_cut q = record { says = rw q }
+  tables_cut j q = denied j (rw q)
 
-  module _ {n m : ℕ} (q : bits 10 s at ≡ got n m) {r : Step}
+  module _ {n m : ℕ} (q : bits 10 s at ≡ got n m) {r : Result Cursor Refusal}
       (f : Fills (many n (position_of (name_in e)) s m) r n b × Fills (many n (digest_of (name_in e)) s m) r n g) where
-    pub tables_fault : {x : Refusal} → r ≡ Fault x → Answers s (behind_bits (table_of e) h d s at) (Refused x) b i g m₀ m₁
+    pub tables_fault : {x : Refusal} {v : Result Outline Refusal} → IsErrAnd v (λ y. y ≡ x) → r ≡ Err x →
+        Answers s (behind_bits (table_of e) h d s at) v b i g m₀ m₁
     unfolding behind_bits name_table
-    tables_fault t = record { says = rw (q, stopped (placed_checks (name_in e) n s m (fills_checks f.0)) t) }
+    tables_fault j t = denied j (rw (q, stopped (placed_checks (name_in e) n s m (fills_checks f.0)) t))
 
-    pub tables_rest : {c : Cursor} {u : Decoded} → r ≡ At c → n ≤ length b →
+    pub tables_rest : {c : Cursor} {u : Result Outline Refusal} → r ≡ Ok c → n ≤ length b →
         AnswersItems s (names_at s (take n b)) (behind_names h d (names_at s (take n b)) s c.at) u i m₀ m₁ →
         Answers s (behind_bits (table_of e) h d s at) u b i g m₀ m₁
     tables_rest {c} {u} t room a =
         let l = located (name_in e) s n m f.0 t in
         by_answer u l (rw (table_names (base e l.table) room) at a)
       where
-        by_answer : (u : Decoded) (l : Located (name_in e) s n m b c.at) →
+        by_answer : (u : Result Outline Refusal) (l : Located (name_in e) s n m b c.at) →
             AnswersItems s l.values (behind_names h d l.values s c.at) u i m₀ m₁ →
             Answers s (behind_bits (table_of e) h d s at) u b i g m₀ m₁
-        by_answer (Refused x) l a = record { says = behind_is (table_of e) s h d at q l.decoded ∙ a.says }
-        by_answer (Whole o) l a =
+        by_answer (Err x) l a = record { says = behind_is (table_of e) s h d at q l.decoded ∙ a.says }
+        by_answer (Ok o) l a =
             let z : n ≡ o.names = sym l.table.count ∙ sym a.says.named in
             record {
               says = record {

@@ -1,5 +1,6 @@
 -- What is promised of a decoded sheet: its value, where its names and its items stand, and the digests of its names.
-use Rattle.std.specs.Prelude.{◌≡◌, List, map, Bool, ℕ, ◌≤◌, length, take}
+use Rattle.std.specs.Prelude.{◌≡◌, List, map, Bool, ℕ, ◌≤◌, length, take, Result, Ok, Err}
+use Rattle.refusal.specs.declared.Refusal.{Refusal}
 use Rattle.format.specs.declared.Outline.{Outline}
 use Rattle.format.specs.Limits.{most_names, most_items}
 use Rattle.format.specs.Decode.{Got, fault, got, Dec, ◌>>◌}
@@ -8,8 +9,6 @@ use Rattle.format.specs.Decoding.{name, item, name_table, item_table, tail}
 use Rattle.cursor.specs.Checking.{Table}
 use Rattle.names.specs.Digests.{digest}
 use Rattle.marks.specs.Marking.{mark_items}
-use Rattle.decode.specs.declared.Decoded.{Decoded}
-use Rattle.decode.specs.declared.Decoded.TheVariants.{Whole, Refused}
 
 -- what stands behind the name table, in a sheet with the header bit h and the Doxygen bit d
 unfoldable pub behind_names : Bool → Bool → List Name → Dec Sheet
@@ -42,16 +41,16 @@ pub record Tables (s : List ℕ) (p : Got Sheet) (o : Outline) (name_offsets ite
   pub items : Items s names p o item_offsets u v
 
 -- what an answer says of the decoder's p, where a decoded sheet is to be as P says
-abbrev pub says_of : (Outline → Type 0) → Got Sheet → Decoded → Type 0
-says_of P p (Whole o) = P o
-says_of P p (Refused e) = p ≡ fault e
+abbrev pub says_of : (Outline → Type 0) → Got Sheet → Result Outline Refusal → Type 0
+says_of P p (Ok o) = P o
+says_of P p (Err e) = p ≡ fault e
 
 -- the answer to what stands behind the names
-pub record AnswersItems (s : List ℕ) (names : List Name) (p : Got Sheet) (r : Decoded) (offsets u v : List ℕ)
-    : Type 0 where
+pub record AnswersItems (s : List ℕ) (names : List Name) (p : Got Sheet) (r : Result Outline Refusal)
+    (offsets u v : List ℕ) : Type 0 where
   pub says : says_of (λ o. Items s names p o offsets u v) p r
 
 -- the answer to a sheet: its refusal, or the three tables of the decoded sheet and its marks
-pub record Answers (s : List ℕ) (p : Got Sheet) (r : Decoded) (name_offsets item_offsets digests u v : List ℕ)
-    : Type 0 where
+pub record Answers (s : List ℕ) (p : Got Sheet) (r : Result Outline Refusal)
+    (name_offsets item_offsets digests u v : List ℕ) : Type 0 where
   pub says : says_of (λ o. Tables s p o name_offsets item_offsets digests u v) p r

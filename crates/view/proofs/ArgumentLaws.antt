@@ -1,11 +1,12 @@
 -- Laws of the arguments of a function by number.
-use mathlib.Core.Path.{◌≡◌, sym, ap, subst, ◌∙◌}
+use mathlib.Core.Path.{◌≡◌, refl, sym, ap, subst, ◌∙◌}
 use mathlib.Core.List.{List, [], ◌∷◌}
-use mathlib.Core.Bool.{Bool}
+use mathlib.Core.Bool.{Bool, true, false}
 use Prim.Native.Nat.{ℕ, suc, ◌+◌, ◌*◌, ◌-◌, ◌/◌, ◌%◌, ◌<◌, ◌≤◌}
 use native.Mathlib.Omega.{arith}
 use native.Mathlib.Numerals.{add-one}
 use lib.Dec.{eqb}
+use mir.Val.{bool_byte}
 use lib.ListN.{length, get_or, drop, set}
 use lib.Seq.{drop-cons, get_or-set_same, get_or-set_other}
 use borrow.Author.Tests.{eqb-true, eqb-false}
@@ -32,6 +33,11 @@ use Rattle.view.specs.Views.{owner_of, kind_of_type}
 
 last_bit : (x k : ℕ) → k < 2 → (x * 2 + k) % 2 ≡ k
 last_bit x k h = omega arith
+
+-- a test as a bit
+pub bit_of : (b : Bool) {n : ℕ} → n ≡ bool_byte b → (n < 2) × (eqb n 1 ≡ b)
+bit_of true e = rw e (omega arith, refl)
+bit_of false e = rw e (omega arith, refl)
 
 pub packed : (name : ℕ) (of : Cursor) (owner : ℕ) {indirect string : Bool} (low high : ℕ) → name ≤ most_names →
     owner < 4 → (low < 2) × (eqb low 1 ≡ indirect) → (high < 2) × (eqb high 1 ≡ string) →

@@ -3,7 +3,7 @@ use Rattle.std.specs.Prelude.{◌≡◌, List, Bool, true, false, ℕ, ◌/◌, 
 use Rattle.format.specs.Limits.{most_bits, most_namespaces, most_arguments}
 use Rattle.format.specs.Decode.{Got, got, Dec, pick, ◌>>◌, pure, many}
 use Rattle.format.specs.Bits.{bits}
-use Rattle.format.specs.Types.{Ty, named, Ret, none, gives}
+use Rattle.format.specs.Types.{Ty, Ret, none, gives}
 use Rattle.format.specs.Sheet.{Form, Argument, Function, Body, struct, enum, cxx_type, rust_type, function, Item}
 use Rattle.format.specs.Decoding.{name_of, type, line, argument, form_of, item_body}
 use Rattle.format.specs.declared.Template.{Template}

@@ -2,14 +2,14 @@
 // tables of the positions of its names and items, cut to their lengths.
 #![tactic(auto)]
 
-ghost use Rattle.std.specs.Prelude.{◌≡◌, [], ◌≤◌, ◌<◌, eqb, length, get_or};
+ghost use Rattle.std.specs.Prelude.{◌≡◌, [], ◌≤◌, ◌<◌, length, get_or};
 ghost use Rattle.format.specs.Limits.{most_names, most_bits};
 ghost use Rattle.format.specs.Bits.{bits_at};
 ghost use Rattle.format.specs.Sheet.{free};
 ghost use Rattle.format.specs.Decoding.{kind_of, type as type_of, form};
 ghost use Rattle.format.specs.declared.ItemKind.TheVariants.{RustFunction};
 ghost use Rattle.syntax.specs.Items.{item_at};
-ghost use Rattle.syntax.specs.Types.{pointer_bit, is_indirect_template, needs_indirect_abi};
+ghost use Rattle.syntax.specs.Types.{pointer_bit, needs_indirect_abi};
 ghost use Rattle.cursor.specs.Checking.{Limited};
 ghost use Rattle.view.specs.Values.{value_or, next_of, Yields, name_at, items_at, type_here};
 ghost use Rattle.view.specs.Values.{Named, Whole};
@@ -18,10 +18,10 @@ ghost use Rattle.view.specs.Views.{return_of, return_here, is_function_kind, kin
 ghost use Rattle.view.specs.Views.{is_indirect_kind, prefix_of, owner_of};
 
 use cursor::fields::field;
-use cursor::{Cursor, Step, extract, width};
-use format::{ItemKind, Template, TypeKind};
+use cursor::{Cursor, extract, width};
+use format::{ItemKind, TypeKind};
 use items::part_of;
-use types::check_type;
+use types::{check_type, is_indirect_template};
 
 // ---- items
 
@@ -98,14 +98,7 @@ pub fn namespace(s: &[u8], names: &[u32], items: &[u32], v: ItemView, d: u32) ->
 pub fn is_function(kind: ItemKind) -> bool
     ensures { result ≡ is_function_kind kind }
 {
-    match kind {
-        ItemKind::RustFunction => true,
-        ItemKind::Struct => false,
-        ItemKind::Enum => false,
-        ItemKind::CxxType => false,
-        ItemKind::RustType => false,
-        ItemKind::Bad => false,
-    }
+    matches!(kind, ItemKind::RustFunction)
 }
 
 // The pointer bit of item i.
@@ -115,13 +108,7 @@ pub fn pointer_bit(s: &[u8], names: &[u32], items: &[u32], i: u32) -> bool
         (item_at (items_at s.now names.now items.now) i).body }
 {
     let v = item(s, names, items, i);
-    let kind = v.kind;
-    let function = is_function(kind);
-    if function {
-        return false;
-    }
-    let b = extract(s, v.body.at, 1);
-    b == 1
+    !is_function(v.kind) && extract(s, v.body.at, 1) == 1
 }
 
 // ---- functions
@@ -161,10 +148,9 @@ pub fn past_type(s: &[u8], c: Cursor, items: u32) -> Cursor
     ensures { result.at ≡ next_of (type_of items s.now c.at) }
 {
     let mut none = [0u8; 1];
-    let r = check_type(s, c, items, &mut none[..0]);
-    match r {
-        Step::At(next) => next,
-        Step::Fault(_) => Cursor::new(0),
+    match check_type(s, c, items, &mut none[..0]) {
+        Ok(next) => next,
+        Err(_) => Cursor::new(0),
     }
 }
 
@@ -284,15 +270,6 @@ pub struct ArgumentView {
     pub string: bool,
 }
 
-fn one_if(b: bool) -> u32
-    ensures { (result < 2) × (eqb result 1 ≡ b) }
-{
-    if b {
-        return 1;
-    }
-    0
-}
-
 // What an argument's view says of a kind, by its number.
 fn owner_of(k: u32) -> u32
     ensures { result ≡ owner_of (kind_of k) }
@@ -310,8 +287,8 @@ fn pack(name: u32, of: Cursor, owner: u32, indirect: bool, string: bool) -> u32
     ensures { unpacked result ≡
         record { name = name; of = of; owner = owner; indirect = indirect; string = string } }
 {
-    let low = one_if(indirect);
-    let high = one_if(string);
+    let low = u32::from(indirect);
+    let high = u32::from(string);
     of.at * 16384 + name * 16 + owner * 4 + high * 2 + low
 }
 
@@ -327,8 +304,7 @@ pub fn argument_entry(s: &[u8], names: &[u32], items: &[u32], name: u32, c: Curs
         return pack(name, c, 0, 14 <= a, a == 15);
     }
     let indirect = is_indirect_other(s, names, items, c, k);
-    let owner = owner_of(k);
-    pack(name, c, owner, indirect, false)
+    pack(name, c, owner_of(k), indirect, false)
 }
 
 // Argument j of a table of entries.
@@ -363,29 +339,7 @@ pub fn type_kind(s: &[u8], items: &[u32], c: Cursor) -> TypeKind
 pub fn is_named(kind: TypeKind) -> bool
     ensures { result ≡ is_named_kind kind }
 {
-    match kind {
-        TypeKind::Named => true,
-        TypeKind::Atom => false,
-        TypeKind::Template(_) => false,
-        TypeKind::Pointer(_) => false,
-        TypeKind::Str => false,
-        TypeKind::Fn => false,
-        TypeKind::Array => false,
-        TypeKind::Bad => false,
-    }
-}
-
-fn is_indirect_template(k: Template) -> bool
-    ensures { result ≡ is_indirect_template k }
-{
-    match k {
-        Template::RustBox => false,
-        Template::RustVec => true,
-        Template::UniquePtr => false,
-        Template::SharedPtr => true,
-        Template::WeakPtr => true,
-        Template::CxxVector => true,
-    }
+    matches!(kind, TypeKind::Named)
 }
 
 fn is_indirect_kind(kind: TypeKind) -> bool
@@ -394,12 +348,7 @@ fn is_indirect_kind(kind: TypeKind) -> bool
     match kind {
         TypeKind::Array => true,
         TypeKind::Template(k) => is_indirect_template(k),
-        TypeKind::Atom => false,
-        TypeKind::Named => false,
-        TypeKind::Pointer(_) => false,
-        TypeKind::Str => false,
-        TypeKind::Fn => false,
-        TypeKind::Bad => false,
+        _ => false,
     }
 }
 

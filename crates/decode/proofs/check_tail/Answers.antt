@@ -1,34 +1,16 @@
-use mathlib.Core.Path.{refl}
-use borrow.Author.Tests.{eq-eqb}
-use Rattle.format.specs.Decoding.{tail}
-use Rattle.cursor.proofs.FieldLaws.{value, cut, field_next}
-use Rattle.decode.proofs.SheetLaws.{not_zero, at_end_lem, past_end}
+use Rattle.cursor.proofs.FieldLaws.{value, cut}
+use Rattle.decode.proofs.SheetLaws.{tail_cut, tail_dirty, tail_whole, tail_more}
 use Rattle.decode.proofs.check_tail.Goals as goal
 
-pub returns-then-z-ne0 : goal.returns-then-z-ne0
-unfolding tail
-returns-then-z-ne0 c = λ x. rw (value c.read-f.ensures c.in-Value.is, not_zero c.if-z-ne0.true) record { step = refl }
+pub returns-in_err-zeros : goal.returns-in_err-zeros
+returns-in_err-zeros c = λ x. tail_cut x _ _ c.from_residual.ensures.1 (cut c.read.ensures c.in_err-zeros.was)
+
+pub returns-then-zeros-ne0 : goal.returns-then-zeros-ne0
+returns-then-zeros-ne0 c = λ x. tail_dirty x _ _ (value c.read.ensures c.in_ok-zeros.was) c.if-zeros-ne0.true
 
 pub returns-then-bytes-s : goal.returns-then-bytes-s
-unfolding tail
 returns-then-bytes-s c =
-    λ x. rw (
-      value c.read-f.ensures c.in-Value.is,
-      eq-eqb _ _ c.if-z-ne0.false,
-      at_end_lem _ _ (field_next _ _ _
-          (value c.read-f.ensures c.in-Value.is)) c.if-bytes-s.true,
-    ) record { step = refl }
+    λ x. tail_whole x _ _ (value c.read.ensures c.in_ok-zeros.was) c.if-zeros-ne0.false c.if-bytes-s.true
 
-pub returns-in-Cut : goal.returns-in-Cut
-unfolding tail
-returns-in-Cut c = λ x. rw (cut _ _ _ c.read-f.ensures c.in-Cut.is) record { step = refl }
-
-pub returns-else-bytes-s : goal.returns-else-bytes-s
-unfolding tail
-returns-else-bytes-s c =
-    λ x. rw (
-      value c.read-f.ensures c.in-Value.is,
-      eq-eqb _ _ c.if-z-ne0.false,
-      past_end _ _ (field_next _ _ _
-          (value c.read-f.ensures c.in-Value.is)) c.if-bytes-s.false,
-    ) record { step = refl }
+pub returns : goal.returns
+returns c = λ x. tail_more x _ _ (value c.read.ensures c.in_ok-zeros.was) c.if-zeros-ne0.false c.if-bytes-s.false

@@ -1,57 +1,36 @@
-use Rattle.format.specs.Decoding.{edition, behind_edition, sheet}
+use mathlib.Core.Path.{◌∙◌}
+use mathlib.Core.Logic.{inl, inr}
 use Rattle.cursor.proofs.FieldLaws.{value, cut, bit_value, bit_cut}
-use Rattle.decode.specs.Tables.{behind_names, behind_bits}
-use Rattle.decode.proofs.SheetLaws.{edition_none, edition_later, edition_known}
+use Rattle.decode.proofs.SheetLaws.{denied, sheet_cut, edition_none, edition_later, edition_known, header_cut, doxygen_cut, both_bits}
 use Rattle.decode.proofs.decode_fields.Goals as goal
 
+pub returns-in_err-edition : goal.returns-in_err-edition
+returns-in_err-edition c = denied c.from_residual.ensures.1 (sheet_cut _ _ (cut c.read.ensures c.in_err-edition.was))
+
+pub returns-in_err-header : goal.returns-in_err-header
+returns-in_err-header c =
+    denied c.from_residual-in_err-header.ensures.1 (edition_known _ _ (value c.read.ensures c.in_ok-edition.was)
+    c.if-edition-eq0.false c.if-edition-gt-LAST_EDITION.false ∙ header_cut _ _ _ (bit_cut _ _ c.read-2.ensures
+    c.in_err-header.was))
+
+pub returns-in_err-doxygen : goal.returns-in_err-doxygen
+returns-in_err-doxygen c =
+    denied c.from_residual-in_err-doxygen.ensures.1 (edition_known _ _ (value c.read.ensures c.in_ok-edition.was)
+    c.if-edition-eq0.false c.if-edition-gt-LAST_EDITION.false ∙ doxygen_cut _ _ _ (bit_value _ _ c.read-2.ensures
+    c.in_ok-header.was) (bit_cut _ _ c.read-3.ensures c.in_err-doxygen.was))
+
+pub returns : goal.returns
+returns c =
+    rw (edition_known _ _ (value c.read.ensures c.in_ok-edition.was) c.if-edition-eq0.false
+    c.if-edition-gt-LAST_EDITION.false ∙ both_bits _ _ _ (bit_value _ _ c.read-2.ensures c.in_ok-header.was)
+    (bit_value _ _ c.read-3.ensures c.in_ok-doxygen.was)) c.decode_tables.ensures
+
 pub returns-then-edition-eq0 : goal.returns-then-edition-eq0
-unfolding edition sheet
 returns-then-edition-eq0 c =
-    record { says = rw (value c.read-f.ensures c.in-Value.is, edition_none _ c.if-edition-eq0.true) }
-
-pub returns-then-edition-gt-LAST_EDITION : goal.returns-then-edition-gt-LAST_EDITION
-unfolding edition sheet
-returns-then-edition-gt-LAST_EDITION c =
-    record { says = rw (value c.read-f.ensures c.in-Value.is, edition_later _ c.if-edition-gt-LAST_EDITION.true) }
-
-pub returns-in-Cut : goal.returns-in-Cut
-unfolding edition sheet
-returns-in-Cut c = record { says = rw (cut _ _ _ c.read-f.ensures c.in-Cut.is) }
-
-pub returns-in-Cut-g : goal.returns-in-Cut-g
-unfolding edition behind_edition sheet
-returns-in-Cut-g c =
+    let q = value c.read.ensures c.in_ok-edition.was in
     record {
-      says = rw (
-        value c.read-f.ensures c.in-Value.is,
-        edition_known _ c.if-edition-eq0.false
-            c.if-edition-gt-LAST_EDITION.false,
-        bit_cut _ _ c.read-g.ensures c.in-Cut-g.is,
-      );
+      says = elim c.then-edition-eq0.either [
+        | inl h ↦ edition_none _ _ q h
+        | inr h ↦ edition_later _ _ q h.1
+      ];
     }
-
-pub returns-in-Cut-k : goal.returns-in-Cut-k
-unfolding edition behind_edition sheet
-returns-in-Cut-k c =
-    record {
-      says = rw (
-        value c.read-f.ensures c.in-Value.is,
-        edition_known _ c.if-edition-eq0.false
-            c.if-edition-gt-LAST_EDITION.false,
-        bit_value _ _ c.read-g.ensures c.in-Value-g.is,
-        bit_cut _ _
-            c.read-k.ensures c.in-Cut-k.is,
-      );
-    }
-
-pub returns-in-Value-k : goal.returns-in-Value-k
-unfolding edition behind_edition sheet behind_names behind_bits
-returns-in-Value-k c =
-    rw (
-      value c.read-f.ensures c.in-Value.is,
-      edition_known _ c.if-edition-eq0.false
-          c.if-edition-gt-LAST_EDITION.false,
-      bit_value _ _ c.read-g.ensures c.in-Value-g.is,
-      bit_value _ _
-          c.read-k.ensures c.in-Value-k.is,
-    ) c.decode_tables.ensures

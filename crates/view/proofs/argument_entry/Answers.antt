@@ -32,11 +32,11 @@ pack-requires-2 c = (
   c.requires.1,
   omega (arith, c.requires.0.named.limited, kind_room _ _ _ c.requires.2),
   owner_low
-      c.extract-k.result c.owner_of-owner.ensures,
+      c.extract-k.result c.owner_of.ensures,
 )
 
 pub returns : goal.returns
 returns c =
     entry_of c.pack-2.result c.pack-2.ensures (owner_is _ _ _ c.requires.2 c.extract-k.ensures
-    c.owner_of-owner.ensures) c.is_indirect_other-indirect.ensures (string_other _ _ _ c.requires.2
+    c.owner_of.ensures) c.is_indirect_other-indirect.ensures (string_other _ _ _ c.requires.2
     c.extract-k.ensures c.if-k-eq0.false)
