@@ -37,15 +37,12 @@ fn same_namespace(
     if v.depth != w.depth {
         return false;
     }
-    let mut d: u32 = 0;
-    while d < v.depth {
+    for d in 0..v.depth {
         let a = namespace(s, names, items, v, d);
         let b = namespace(s, names, items, w, d);
-        let equal = same_name(s, names, digests, a, b);
-        if !equal {
+        if !same_name(s, names, digests, a, b) {
             return false;
         }
-        d = d + 1;
     }
     true
 }
@@ -64,11 +61,7 @@ fn same_full_name(
     ensures { result ≡ same (full_name (item_no s.now names.now items.now v.number))
         (full_name (item_no s.now names.now items.now w.number)) }
 {
-    let beside = same_namespace(s, names, items, digests, v, w);
-    if !beside {
-        return false;
-    }
-    same_name(s, names, digests, v.name, w.name)
+    same_namespace(s, names, items, digests, v, w) && same_name(s, names, digests, v.name, w.name)
 }
 
 // Whether two functions have self types of the same C++ name, or none.
@@ -117,17 +110,12 @@ fn same_symbol(
         (item_symbol (items_at s.now names.now items.now)
         (item_no s.now names.now items.now w.number)) }
 {
-    let near = same_namespace(s, names, items, digests, v, w);
-    if !near {
+    if !same_namespace(s, names, items, digests, v, w) {
         return false;
     }
     let f = function(s, names, items, v);
     let g = function(s, names, items, w);
-    let alike = same_name(s, names, digests, f.rust, g.rust);
-    if !alike {
-        return false;
-    }
-    same_owner(s, names, items, digests, f, g)
+    same_name(s, names, digests, f.rust, g.rust) && same_owner(s, names, items, digests, f, g)
 }
 
 // Whether item j takes the name that v has; unequal keys tell them apart.
@@ -153,20 +141,12 @@ fn clash(
         return false;
     }
     let w = item(s, names, items, j);
-    let kind = v.kind;
-    let first = is_function(kind);
-    let other = w.kind;
-    let second = is_function(other);
-    if first {
-        if second {
-            return same_symbol(s, names, items, digests, v, w);
-        }
-        return false;
+    match (is_function(v.kind), is_function(w.kind)) {
+        (true, true) => same_symbol(s, names, items, digests, v, w),
+        (true, false) => false,
+        (false, true) => false,
+        (false, false) => same_full_name(s, names, items, digests, v, w),
     }
-    if second {
-        return false;
-    }
-    same_full_name(s, names, items, digests, v, w)
 }
 
 // ---- all items
@@ -188,13 +168,10 @@ fn clash_behind(
         (drop (v.number + 1) (items_at s.now names.now items.now)) }
 {
     let n = items.len() as u32;
-    let mut j = v.number + 1;
-    while j < n {
-        let found = clash(s, names, items, digests, keys, v, j);
-        if found {
+    for j in v.number + 1..n {
+        if clash(s, names, items, digests, keys, v, j) {
             return true;
         }
-        j = j + 1;
     }
     false
 }
@@ -207,14 +184,11 @@ fn clashing(s: &[u8], names: &[u32], items: &[u32], digests: &[u32], keys: &[u32
         (items_at s.now names.now items.now) }
 {
     let n = items.len() as u32;
-    let mut i: u32 = 0;
-    while i < n {
+    for i in 0..n {
         let v = item(s, names, items, i);
-        let found = clash_behind(s, names, items, digests, keys, v);
-        if found {
+        if clash_behind(s, names, items, digests, keys, v) {
             return true;
         }
-        i = i + 1;
     }
     false
 }
@@ -228,9 +202,7 @@ fn own_name(s: &[u8], names: &[u32], items: &[u32], i: u32) -> u32
         own_name (item_no s.now names.now items.now i)) }
 {
     let v = item(s, names, items, i);
-    let kind = v.kind;
-    let callable = is_function(kind);
-    if callable {
+    if is_function(v.kind) {
         let rust = field(s, v.body, width(names.len() as u32));
         return rust.value;
     }
@@ -242,13 +214,9 @@ fn fill_keys(s: &[u8], names: &[u32], items: &[u32], digests: &[u32], keys: &mut
     requires { Ready s.now names.now items.now digests.now × (length items.now ≤ length keys.old) }
     ensures { Keyed s.now names.now items.now keys.new }
 {
-    let n = items.len() as u32;
-    let mut i: u32 = 0;
-    while i < n {
-        let name = own_name(s, names, items, i) as usize;
-        let k = i as usize;
-        keys[k] = digests[name];
-        i = i + 1;
+    for i in 0..items.len() {
+        let name = own_name(s, names, items, i as u32);
+        keys[i] = digests[name as usize];
     }
 }
 
@@ -264,9 +232,5 @@ pub fn name_clash(s: &[u8], names: &[u32], items: &[u32], digests: &[u32]) -> bo
     let n = items.len();
     let mut keys = [0u32; Outline::ITEMS];
     fill_keys(s, names, items, digests, &mut keys);
-    let some = repeats(&keys[..n]);
-    if some {
-        return clashing(s, names, items, digests, &keys);
-    }
-    false
+    repeats(&keys[..n]) && clashing(s, names, items, digests, &keys)
 }

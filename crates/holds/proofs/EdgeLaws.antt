@@ -8,6 +8,7 @@ use native.Mathlib.Numerals.{add-one}
 use lib.ListN.{length, get_or, set, take, drop, length-set, length-map, get_or-eq_default, drop_of_length-le}
 use lib.Dec.{eqb, ltb}
 use lib.Seq.{get_or-set_same, get_or-set_other, drop-cons}
+use mir.Val.{bool_byte}
 use borrow.Author.Tests.{ltb-true, ltb-false}
 use Rattle.format.specs.Limits.{most_items, most_fields}
 use Rattle.format.specs.Decode.{pick}
@@ -20,6 +21,8 @@ use Rattle.rules.proofs.RingRule.{sheet_structs}
 use Rattle.view.specs.Values.{one_item_at, items_at}
 use Rattle.holds.specs.Edges.{Flags, counted, Puts, Edges, StructNumbers}
 use Rattle.holds.proofs.PutLaws.{put_nothing, part_kept, part_new}
+use Rattle.holds.proofs.FieldLaws.{counted_some}
+use Rattle.std.specs.Bool.{then_some}
 
 -- an item that is not there holds nothing
 pub holds_none : (items : List Item) (i : ℕ) → length items ≤ i → [] ≡ held_structs items i
@@ -68,13 +71,13 @@ pub flag_none : {items : List Item} {structs : List ℕ} → length structs ≡ 
 flag_none e = record { size = e; each = λ j h. absurd (omega arith) }
 
 pub flag_next : {items : List Item} {i v : ℕ} {b : Bool} {structs : List ℕ} → Flagging items i structs → i < item_numbers →
-    b ≡ is_struct (item_at items i).body → v ≡ pick b 1 0 → Flagging items (i + 1) (set structs i v)
+    b ≡ is_struct (item_at items i).body → v ≡ bool_byte b → Flagging items (i + 1) (set structs i v)
 flag_next {items} {i} {v} {b} {structs} f h e z = record {
   size = length-set structs i v ∙ f.size;
   each = λ j k. one j k (ltb j i) refl;
 }
   where
-    told : (b : Bool) → eqb (pick b 1 0) 1 ≡ b
+    told : (b : Bool) → eqb (bool_byte b) 1 ≡ b
     told true = refl
     told false = refl
 
@@ -192,18 +195,18 @@ pub list_none : {items : List Item} {numbers : List ℕ} → Listing items 0 0 n
 list_none = record { few = omega arith; inside = omega arith; left = refl }
 
 pub list_next : {items : List Item} {i n r : ℕ} {b : Bool} {numbers after : List ℕ} → Listing items i n numbers →
-    n < length numbers → i < length items → b ≡ is_struct (item_at items i).body → Puts (counted b i) n numbers r after →
+    n < length numbers → i < length items → b ≡ is_struct (item_at items i).body → Puts (counted (then_some b i)) n numbers r after →
     Listing items (i + 1) r after
 unfolding structs_from
 list_next {items} {i} {n} {r} {b} {numbers} {after} l room h e p = record {
   few = omega (arith, l.few, p.end, one b);
   inside = omega (arith, p.end, p.kept, one b);
   left =
-      rw (p.front, e) (append_assoc (take n numbers) (pick (is_struct (item_at items i).body) (i ∷ []) []) (structs_from (i + 1) (drop (i + 1) items))
+      rw (p.front, counted_some b i, e) (append_assoc (take n numbers) (pick (is_struct (item_at items i).body) (i ∷ []) []) (structs_from (i + 1) (drop (i + 1) items))
       ∙ ap (λ (k : List ℕ). take n numbers ++ k) step ∙ l.left);
 }
   where
-    one : (b : Bool) → length (counted b i) ≤ 1
+    one : (b : Bool) → length (counted (then_some b i)) ≤ 1
     one true = omega arith
     one false = omega arith
 

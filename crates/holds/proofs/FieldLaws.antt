@@ -2,11 +2,13 @@
 use mathlib.Core.Path.{◌≡◌, refl, sym, ap, ◌∙◌}
 use mathlib.Core.List.{List, [], ◌∷◌, ◌++◌, append_assoc, append-nil}
 use mathlib.Core.Bool.{Bool, true, false}
+use Rattle.std.specs.Prelude.{Option, None}
+use Rattle.std.specs.Bool.{then_some}
 use Prim.Native.Nat.{ℕ, suc, ◌+◌, ◌-◌, ◌<◌, ◌≤◌}
 use native.Mathlib.Omega.{arith}
 use lib.ListN.{length, length-append}
 use Rattle.format.specs.Limits.{most_fields}
-use Rattle.format.specs.Decode.{got, Dec, after, many}
+use Rattle.format.specs.Decode.{got, pick, Dec, many}
 use Rattle.format.specs.Bits.{bits, bit, width_of, index}
 use Rattle.format.specs.Types.{Ty, atom, named, template, pointer, str, fn, array}
 use Rattle.format.specs.Sheet.{Name, Body, struct, enum, cxx_type, rust_type, function, Item}
@@ -27,6 +29,10 @@ use Rattle.cursor.proofs.YieldLaws.{in_turn, found, got_value, got_next}
 use Rattle.holds.specs.declared.FieldView.{FieldView}
 use Rattle.holds.specs.Edges.{is_struct_kind, counted, named_at, fields_here, Tells, Puts}
 use Rattle.holds.proofs.PutLaws.{put_both, put_nothing}
+
+pub counted_some : (b : Bool) (i : ℕ) → counted (then_some b i) ≡ pick b (i ∷ []) []
+counted_some true i = refl
+counted_some false i = refl
 
 -- ---- one field
 
@@ -79,7 +85,7 @@ module _ (n : ℕ) (s : List ℕ) (at : ℕ) (y : Yields (type n s at) (type_her
   tells_by_name e b t = rw (type_named e b) t
 
   pub tells_other : (items : List Item) {k : TypeKind} {c : Cursor} → k ≡ kind_of f.value → is_named_kind k ≡ false →
-      c.at ≡ next_of (type n s at) → Tells items (type n s at) (record { found = false; number = 0; next = c })
+      c.at ≡ next_of (type n s at) → Tells items (type n s at) (record { held = None; next = c })
   unfolding type_here
   tells_other items {k} e b c = record {
     held =
@@ -100,9 +106,12 @@ module _ (n : ℕ) (s : List ℕ) (at : ℕ) (y : Yields (named_at n s at) (valu
   pub found_there : f.value < n
   found_there = index_lt n s at index_found
 
-  pub tells_named : (items : List Item) {b : Bool} → b ≡ is_struct (item_at items f.value).body →
-      Tells items (named_at n s at) (record { found = b; number = f.value; next = f.next })
-  tells_named items e = record { held = rw (index_found, e); next = rw index_found }
+  pub tells_named : (items : List Item) {b : Bool} {o : Option ℕ} → b ≡ is_struct (item_at items f.value).body →
+      o ≡ then_some b f.value → Tells items (named_at n s at) (record { held = o; next = f.next })
+  tells_named items {b} e h = record {
+    held = ap counted h ∙ counted_some b f.value ∙ rw (index_found, e);
+    next = rw index_found;
+  }
 
 -- ---- fields in a row
 
@@ -133,7 +142,7 @@ few_held items [] = omega arith
 few_held items (t ∷ ts) =
     omega (arith, one t, few_held items ts, length-append (held_by items t) (gather (held_by items) ts))
   where
-    by_test : (b : Bool) (i : ℕ) → length (counted b i) ≤ 1
+    by_test : (b : Bool) (i : ℕ) → length (pick b (i ∷ []) []) ≤ 1
     by_test true i = omega arith
     by_test false i = omega arith
 
@@ -198,10 +207,10 @@ module _ (items : List Item) (n : ℕ) (s : List ℕ) (all : List Ty) (start : �
       walk_type = record { is = rw next_field.reads }
 
       pub walk_next : {f : FieldView} {r : ℕ} {after : List ℕ} → Tells items (type n s at) f →
-          Puts (counted f.found f.number) end held r after → Walking j f.next.at r after
+          Puts (counted f.held) end held r after → Walking j f.next.at r after
       walk_next {f} {r} {after} t p =
           let a = next_field in
-          let e : counted f.found f.number ≡ held_by items a.field = t.held ∙ rw a.reads in
+          let e : counted f.held ≡ held_by items a.field = t.held ∙ rw a.reads in
           let m : f.next.at ≡ a.next = t.next ∙ rw a.reads in
           let q : Puts (gather (held_by items) w.done ++ held_by items a.field) start before r after =
           rw (← e) (put_both w.puts p) in

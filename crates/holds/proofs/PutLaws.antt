@@ -1,7 +1,7 @@
 -- Laws of a list in front of an array.
 use mathlib.Core.Path.{◌≡◌, refl, sym, ap, ◌∙◌}
 use mathlib.Core.List.{List, [], ◌∷◌, ◌++◌, append-nil, append_assoc}
-use mathlib.Core.Bool.{Bool, true, false}
+use Rattle.std.specs.Prelude.{Option, Some, None}
 use Prim.Native.Nat.{ℕ, zero, suc, ◌+◌, ◌-◌, ◌<◌, ◌≤◌}
 use native.Mathlib.Omega.{arith}
 use native.Mathlib.Numerals.{add-one}
@@ -9,11 +9,11 @@ use lib.ListN.{length, take, drop, set, length-append, length-set}
 use lib.Seq.{take-suc-set, take-take, take-nil, take-append_seam, length-take-le, take-length, drop_at}
 use Rattle.holds.specs.Edges.{counted, Puts}
 
-pub put_one : {b : Bool} (l : List ℕ) (at i : ℕ) → at < length l → b ≡ true → Puts (counted b i) at l (at + 1) (set l at i)
+pub put_one : {o : Option ℕ} (l : List ℕ) (at i : ℕ) → at < length l → o ≡ Some i → Puts (counted o) at l (at + 1) (set l at i)
 put_one l at i h e = rw e record { front = rw add-one (take-suc-set l at i h); end = refl; kept = length-set l at i }
 
-pub put_none : {b : Bool} (l : List ℕ) (at i : ℕ) → b ≡ false → Puts (counted b i) at l at l
-put_none l at i e = rw e record { front = sym (append-nil (take at l)); end = omega arith; kept = refl }
+pub put_none : {o : Option ℕ} (l : List ℕ) (at : ℕ) → o ≡ None → Puts (counted o) at l at l
+put_none l at e = rw e record { front = sym (append-nil (take at l)); end = omega arith; kept = refl }
 
 -- one list behind another
 pub put_both : {xs ys l m n : List ℕ} {at r e : ℕ} → Puts xs at l r m → Puts ys r m e n → Puts (xs ++ ys) at l e n

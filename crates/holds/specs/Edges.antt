@@ -1,6 +1,6 @@
 -- What is promised of the table of held structs that is filled from a sheet.
-use Rattle.std.specs.Prelude.{◌≡◌, List, [], ◌∷◌, ◌++◌, Bool, true, false, ℕ, ◌+◌, ◌<◌, ◌≤◌, length, get_or, take, eqb}
-use Rattle.format.specs.Decode.{Got, Dec, pick, ◌>>◌, pure, many}
+use Rattle.std.specs.Prelude.{◌≡◌, List, [], ◌∷◌, Option, Some, None, ◌++◌, Bool, true, false, ℕ, ◌+◌, ◌<◌, ◌≤◌, length, get_or, take, eqb}
+use Rattle.format.specs.Decode.{Got, Dec, ◌>>◌, pure, many}
 use Rattle.format.specs.Bits.{index}
 use Rattle.format.specs.Types.{Ty, named, str}
 use Rattle.format.specs.Sheet.{Item}
@@ -26,9 +26,10 @@ pub record Flags (items : List Item) (structs : List ℕ) : Type 0 where
   pub size : length structs ≡ item_numbers
   pub each : (i : ℕ) → i < length items → eqb (get_or structs i 0) 1 ≡ is_struct (item_at items i).body
 
--- a number, if it counts
-abbrev pub counted : Bool → ℕ → List ℕ
-counted b i = pick b (i ∷ []) []
+-- a number, if there is one
+abbrev pub counted : Option ℕ → List ℕ
+counted None = []
+counted (Some i) = i ∷ []
 
 -- xs were put behind the first `at` of a list; the answer r is where they end
 pub record Puts (xs : List ℕ) (at : ℕ) (before : List ℕ) (r : ℕ) (after : List ℕ) : Type 0 where
@@ -38,7 +39,7 @@ pub record Puts (xs : List ℕ) (at : ℕ) (before : List ℕ) (r : ℕ) (after 
 
 -- f tells of a field that is the decoder's p: the struct that it holds by its name, and the position behind it
 pub record Tells (items : List Item) (p : Got Ty) (f : FieldView) : Type 0 where
-  pub held : counted f.found f.number ≡ held_by items (value_or str p)
+  pub held : counted f.held ≡ held_by items (value_or str p)
   pub next : f.next.at ≡ next_of p
 
 -- a named type, behind its kind, in a sheet of n items

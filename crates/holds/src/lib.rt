@@ -4,7 +4,7 @@
 
 ghost use Rattle.std.specs.Prelude.{◌≡◌, ◌+◌, ◌*◌, ◌≤◌, ◌<◌, length};
 ghost use Rattle.format.specs.Limits.{most_fields};
-ghost use Rattle.format.specs.Decode.{pick, many};
+ghost use Rattle.format.specs.Decode.{many};
 ghost use Rattle.format.specs.Types.{str};
 ghost use Rattle.format.specs.Decoding.{type};
 ghost use Rattle.format.specs.declared.ItemKind.TheVariants.{Struct};
@@ -23,11 +23,10 @@ use toposort::Traversal;
 use types::kind_of;
 use view::{ItemView, is_named, item, kind_at, past_type};
 
-// What a field holds by its name: a struct's number if it is one, and the position behind the field.
+// The struct that a field holds by its name, by number, and the position behind the field.
 #[derive(Clone, Copy)]
 pub struct FieldView {
-    pub found: bool,
-    pub number: u8,
+    pub held: Option<u8>,
     pub next: Cursor,
 }
 
@@ -36,14 +35,7 @@ pub struct FieldView {
 fn is_struct(k: ItemKind) -> bool
     ensures { result ≡ is_struct_kind k }
 {
-    match k {
-        ItemKind::Struct => true,
-        ItemKind::Enum => false,
-        ItemKind::CxxType => false,
-        ItemKind::RustType => false,
-        ItemKind::RustFunction => false,
-        ItemKind::Bad => false,
-    }
+    matches!(k, ItemKind::Struct)
 }
 
 // Whether item i is a struct.
@@ -52,18 +44,7 @@ fn struct_at(s: &[u8], names: &[u32], items: &[u32], i: u32) -> bool
     ensures { result ≡ is_struct
         (item_at (items_at s.now names.now items.now) i).body }
 {
-    let kind = kind_at(s, names, items, i);
-    is_struct(kind)
-}
-
-// A 1 for true.
-fn flag(b: bool) -> u8
-    ensures { result ≡ pick b 1 0 }
-{
-    if b {
-        return 1;
-    }
-    0
+    is_struct(kind_at(s, names, items, i))
 }
 
 // Writes for each item whether it is a struct: a 1 at its number.
@@ -72,27 +53,25 @@ fn flag_structs(s: &[u8], names: &[u32], items: &[u32], structs: &mut [u8; Trave
     ensures { Flags (items_at s.now names.now items.now)
         structs.new }
 {
-    let mut i: usize = 0;
-    while i < items.len() {
-        let found = struct_at(s, names, items, i as u32);
-        structs[i] = flag(found);
-        i = i + 1;
+    for i in 0..items.len() {
+        structs[i] = u8::from(struct_at(s, names, items, i as u32));
     }
 }
 
 // ---- lists in front of an array
 
-// Puts a number behind the first `at`, if it counts.
-fn put(list: &mut [u8], at: usize, counts: bool, number: u8) -> usize
+// Puts a number behind the first `at`, if there is one.
+fn put(list: &mut [u8], at: usize, number: Option<u8>) -> usize
     requires { at < length list.old }
-    ensures { Puts (counted counts number) at list.old result list.new }
+    ensures { Puts (counted number) at list.old result list.new }
 {
-    if counts {
-        list[at] = number;
-        let end = at + 1;
-        return end;
+    match number {
+        Some(n) => {
+            list[at] = n;
+            at + 1
+        }
+        None => at,
     }
-    at
 }
 
 // ---- fields
@@ -115,13 +94,9 @@ fn named_at(
     let index = field(s, c, w);
     let i = index.value;
     let mark = structs[i as usize];
-    let found = mark == 1;
-    let number = i as u8;
-    let next = index.next;
     FieldView {
-        found,
-        number,
-        next,
+        held: (mark == 1).then_some(i as u8),
+        next: index.next,
     }
 }
 
@@ -140,16 +115,12 @@ fn held_at(
         (type (length items.now) s.now c.at) result }
 {
     let f = field(s, c, 4);
-    let kind = kind_of(f.value);
-    let by_name = is_named(kind);
-    if by_name {
+    if is_named(kind_of(f.value)) {
         return named_at(s, names, items, structs, f.next);
     }
-    let next = past_type(s, c, items.len() as u32);
     FieldView {
-        found: false,
-        number: 0,
-        next,
+        held: None,
+        next: past_type(s, c, items.len() as u32),
     }
 }
 
@@ -173,12 +144,10 @@ fn put_fields(
 {
     let mut next = c;
     let mut end = at;
-    let mut i: u32 = 0;
-    while i < n {
+    for _ in 0..n {
         let f = held_at(s, names, items, structs, next);
-        end = put(held, end, f.found, f.number);
+        end = put(held, end, f.held);
         next = f.next;
-        i = i + 1;
     }
     end
 }
@@ -225,9 +194,7 @@ fn put_item(
         return at;
     }
     let v = item(s, names, items, i as u32);
-    let kind = v.kind;
-    let found = is_struct(kind);
-    if found {
+    if is_struct(v.kind) {
         return put_struct(s, names, items, structs, v, held, at);
     }
     at
@@ -252,11 +219,9 @@ fn fill_rows(
 {
     starts[0] = 0;
     let mut end: usize = 0;
-    let mut i: usize = 0;
-    while i < Traversal::NUMBERS {
+    for i in 0..Traversal::NUMBERS {
         end = put_item(s, names, items, structs, i, held, end);
-        i = i + 1;
-        starts[i] = end as u16;
+        starts[i + 1] = end as u16;
     }
 }
 
@@ -289,11 +254,9 @@ pub fn list_structs(
         numbers.new }
 {
     let mut n: usize = 0;
-    let mut i: usize = 0;
-    while i < items.len() {
-        let found = struct_at(s, names, items, i as u32);
-        n = put(numbers, n, found, i as u8);
-        i = i + 1;
+    for i in 0..items.len() {
+        let number = struct_at(s, names, items, i as u32).then_some(i as u8);
+        n = put(numbers, n, number);
     }
     n
 }

@@ -1,7 +1,7 @@
 -- Laws by which a sheet's table of marks decides rules 9 to 11.
 use mathlib.Core.Path.{◌≡◌, refl, sym, ap, ap₂, ◌∙◌}
 use mathlib.Core.List.{List}
-use mathlib.Core.Bool.{Bool, true, false, ◌&&◌, ◌||◌}
+use mathlib.Core.Bool.{Bool, true, ◌&&◌, ◌||◌}
 use Prim.Native.Nat.{ℕ, ◌+◌, ◌-◌, ◌≤◌}
 use native.Mathlib.Omega.{arith}
 use lib.ListN.{length, get_or, length-map}
@@ -26,8 +26,8 @@ module _ (u : List ℕ) (k : ℕ) (test : Bool) where
   mark_there : {r : Bool} → get_or u k 0 ≡ 1 → r ≡ test → r ≡ (test && marked u k)
   mark_there h e = rw (eq-eqb (get_or u k 0) 1 h) (e ∙ sym (and-true test))
 
-  mark_missing : (get_or u k 0 ≡ 1 → ⊥) → false ≡ (test && marked u k)
-  mark_missing h = sym (and-false test (marked u k) (ne_eqb (get_or u k 0) 1 h))
+  mark_missing : (get_or u k 0 ≡ 1 → ⊥) → eqb (get_or u k 0) 1 ≡ (test && marked u k)
+  mark_missing h = let e = ne_eqb (get_or u k 0) 1 h in e ∙ sym (and-false test (marked u k) e)
 
 function_kind : (b : Body) → is_function_kind (kind_of_body b) ≡ is_function b
 function_kind (struct p ts) = refl
@@ -45,13 +45,15 @@ module _ (s names items marks : List ℕ) (i : ℕ) where
   function_marked m h e =
       mark_there marks (258 + i) (is_function body) m (e ∙ (ap is_function_kind h ∙ function_kind body))
 
-  pub function_unmarked : (get_or marks (258 + i) 0 ≡ 1 → ⊥) → false ≡ named_function s names items marks i
+  pub function_unmarked : (get_or marks (258 + i) 0 ≡ 1 → ⊥) →
+      eqb (get_or marks (258 + i) 0) 1 ≡ named_function s names items marks i
   function_unmarked m = mark_missing marks (258 + i) (is_function body) m
 
   pub error_marked : {r : Bool} → get_or marks (2 + i) 0 ≡ 1 → r ≡ pointer_bit body → r ≡ indirect_error s names items marks i
   error_marked m e = mark_there marks (2 + i) (pointer_bit body) m e
 
-  pub error_unmarked : (get_or marks (2 + i) 0 ≡ 1 → ⊥) → false ≡ indirect_error s names items marks i
+  pub error_unmarked : (get_or marks (2 + i) 0 ≡ 1 → ⊥) →
+      eqb (get_or marks (2 + i) 0) 1 ≡ indirect_error s names items marks i
   error_unmarked m = mark_missing marks (2 + i) (pointer_bit body) m
 
 -- ---- the rules

@@ -25,11 +25,7 @@ fn named_function(
         named_function s.now names.now items.now marks.now i }
 {
     let k = Mark::NAMED + i as usize;
-    if marks[k] == 1 {
-        let kind = kind_at(s, names, items, i);
-        return is_function(kind);
-    }
-    false
+    marks[k] == 1 && is_function(kind_at(s, names, items, i))
 }
 
 // Rule 9.
@@ -38,13 +34,10 @@ pub fn wrong_part(s: &[u8], names: &[u32], items: &[u32], marks: &[u8; Mark::PLA
     ensures { result ≡ wrong_part (items_at s.now names.now items.now) }
 {
     let n = items.len() as u32;
-    let mut i: u32 = 0;
-    while i < n {
-        let wrong = named_function(s, names, items, marks, i);
-        if wrong {
+    for i in 0..n {
+        if named_function(s, names, items, marks, i) {
             return true;
         }
-        i = i + 1;
     }
     false
 }
@@ -74,10 +67,7 @@ fn indirect_error(
         indirect_error s.now names.now items.now marks.now i }
 {
     let k = Mark::ERRORS + i as usize;
-    if marks[k] == 1 {
-        return pointer_bit(s, names, items, i);
-    }
-    false
+    marks[k] == 1 && pointer_bit(s, names, items, i)
 }
 
 // Rule 11.
@@ -89,13 +79,10 @@ pub fn unfit_argument(s: &[u8], names: &[u32], items: &[u32], marks: &[u8; Mark:
         return true;
     }
     let n = items.len() as u32;
-    let mut i: u32 = 0;
-    while i < n {
-        let bad = indirect_error(s, names, items, marks, i);
-        if bad {
+    for i in 0..n {
+        if indirect_error(s, names, items, marks, i) {
             return true;
         }
-        i = i + 1;
     }
     false
 }

@@ -2,11 +2,10 @@
 // leader, and a depth: its members need a forward declaration and lie in the leader's first so many namespaces.
 #![tactic(auto)]
 
-ghost use Rattle.std.specs.Prelude.{◌≡◌, ◌<◌, ◌≤◌, length, get_or};
-ghost use Rattle.lexical.specs.Bytes.{same};
+ghost use Rattle.std.specs.Prelude.{◌≡◌, ◌<◌, ◌≤◌, length};
 ghost use Rattle.format.specs.declared.ItemKind.TheVariants.{Enum};
 ghost use Rattle.bridge.specs.Write.{needs_forward_declaration};
-ghost use Rattle.view.specs.Values.{name_at, items_at, item_no, Named, Whole};
+ghost use Rattle.view.specs.Values.{items_at, item_no, Whole};
 ghost use Rattle.names.specs.Digests.{digests_at};
 ghost use Rattle.view.specs.Views.{ItemAt};
 ghost use Rattle.nested.specs.Groups.{EnumOf, shared, belongs, is_direct, is_first, Next};
@@ -47,35 +46,18 @@ pub fn needs_forward_declaration(s: &[u8], names: &[u32], items: &[u32], i: u32)
     ensures { result ≡ needs_forward_declaration
         (item_no s.now names.now items.now i).body }
 {
-    let kind = kind_at(s, names, items, i);
-    match kind {
-        ItemKind::Struct => true,
+    match kind_at(s, names, items, i) {
+        ItemKind::Struct | ItemKind::CxxType | ItemKind::RustType => true,
         ItemKind::Enum => {
             let v = item(s, names, items, i);
             let e = enum_of(s, names, items, v);
             !e.owned
         }
-        ItemKind::CxxType => true,
-        ItemKind::RustType => true,
-        ItemKind::RustFunction => false,
-        ItemKind::Bad => false,
+        ItemKind::RustFunction | ItemKind::Bad => false,
     }
 }
 
 // ---- shared namespaces
-
-// Whether names i and j are the same.
-fn alike(s: &[u8], names: &[u32], digests: &[u32], i: u32, j: u32) -> bool
-    requires { Named s.now names.now × (digests.now ≡ digests_at s.now names.now) ×
-        (i < length names.now) × (j < length names.now) }
-    ensures { result ≡ same (name_at s.now (get_or names.now i 0))
-        (name_at s.now (get_or names.now j 0)) }
-{
-    if i == j {
-        return true;
-    }
-    same_name(s, names, digests, i, j)
-}
 
 // Whether two items share so many namespaces.
 fn shares(
@@ -93,21 +75,15 @@ fn shares(
         (item_no s.now names.now items.now v.number).namespace
         (item_no s.now names.now items.now w.number).namespace }
 {
-    if v.depth < depth {
+    if v.depth < depth || w.depth < depth {
         return false;
     }
-    if w.depth < depth {
-        return false;
-    }
-    let mut d: u32 = 0;
-    while d < depth {
+    for d in 0..depth {
         let a = namespace(s, names, items, v, d);
         let b = namespace(s, names, items, w, d);
-        let equal = alike(s, names, digests, a, b);
-        if !equal {
+        if !same_name(s, names, digests, a, b) {
             return false;
         }
-        d = d + 1;
     }
     true
 }
@@ -130,8 +106,7 @@ fn is_member(
         (item_no s.now names.now items.now leader.number) depth
         (item_no s.now names.now items.now i) }
 {
-    let needed = needs_forward_declaration(s, names, items, i);
-    if !needed {
+    if !needs_forward_declaration(s, names, items, i) {
         return false;
     }
     let v = item(s, names, items, i);
@@ -154,12 +129,10 @@ pub fn is_direct(
         (item_no s.now names.now items.now leader.number) depth
         (item_no s.now names.now items.now i) }
 {
-    let own = depth_at(s, names, items, i);
-    if own != depth {
+    if depth_at(s, names, items, i) != depth {
         return false;
     }
-    let needed = needs_forward_declaration(s, names, items, i);
-    if !needed {
+    if !needs_forward_declaration(s, names, items, i) {
         return false;
     }
     let v = item(s, names, items, i);
@@ -180,14 +153,10 @@ fn is_first(
     ensures { result ≡ is_first (items_at s.now names.now items.now) depth
         v.number }
 {
-    let n = v.number;
-    let mut k: u32 = 0;
-    while k < n {
-        let found = is_member(s, names, items, digests, v, depth, k);
-        if found {
+    for k in 0..v.number {
+        if is_member(s, names, items, digests, v, depth, k) {
             return false;
         }
-        k = k + 1;
     }
     true
 }
@@ -207,21 +176,15 @@ fn opens(
     ensures { result ≡ opens_of (items_at s.now names.now items.now)
         (item_no s.now names.now items.now leader.number) depth i }
 {
-    let own = depth_at(s, names, items, i);
-    if own <= depth {
+    if depth_at(s, names, items, i) <= depth {
         return false;
     }
-    let needed = needs_forward_declaration(s, names, items, i);
-    if !needed {
+    if !needs_forward_declaration(s, names, items, i) {
         return false;
     }
     let v = item(s, names, items, i);
-    let inside = shares(s, names, items, digests, leader, v, depth);
-    if !inside {
-        return false;
-    }
-    let deeper = depth + 1;
-    is_first(s, names, items, digests, v, deeper)
+    shares(s, names, items, digests, leader, v, depth)
+        && is_first(s, names, items, digests, v, depth + 1)
 }
 
 // The first item from one on that opens an inner namespace of the group, or the number of all items.
@@ -240,13 +203,10 @@ pub fn next_namespace(
         (item_no s.now names.now items.now leader.number) depth from result }
 {
     let n = items.len() as u32;
-    let mut i = from;
-    while i < n {
-        let found = opens(s, names, items, digests, leader, depth, i);
-        if found {
+    for i in from..n {
+        if opens(s, names, items, digests, leader, depth, i) {
             return i;
         }
-        i = i + 1;
     }
     n
 }

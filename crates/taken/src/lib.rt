@@ -25,11 +25,7 @@ fn reserved_at(s: &[u8], names: &[u32], items: &[u32], digests: &[u32], i: u32) 
         return false;
     }
     let first = namespace(s, names, items, v, 0);
-    let standard = name_is(s, names, digests, first, b"std");
-    if standard {
-        return true;
-    }
-    name_is(s, names, digests, first, b"rust")
+    name_is(s, names, digests, first, b"std") || name_is(s, names, digests, first, b"rust")
 }
 
 // Whether some item's first namespace is.
@@ -39,13 +35,10 @@ fn any_reserved(s: &[u8], names: &[u32], items: &[u32], digests: &[u32]) -> bool
         (items_at s.now names.now items.now) }
 {
     let n = items.len() as u32;
-    let mut i: u32 = 0;
-    while i < n {
-        let found = reserved_at(s, names, items, digests, i);
-        if found {
+    for i in 0..n {
+        if reserved_at(s, names, items, digests, i) {
             return true;
         }
-        i = i + 1;
     }
     false
 }
@@ -64,13 +57,7 @@ pub fn taken(
         Marked s.now names.now items.now marks.now }
     ensures { result ≡ taken_of (items_at s.now names.now items.now) }
 {
-    let outside = any_reserved(s, names, items, digests);
-    if outside {
-        return true;
-    }
-    let clashes = name_clash(s, names, items, digests);
-    if clashes {
-        return true;
-    }
-    repeated_name(s, names, items, marks)
+    any_reserved(s, names, items, digests)
+        || name_clash(s, names, items, digests)
+        || repeated_name(s, names, items, marks)
 }

@@ -30,6 +30,7 @@ fn walk_word(t: &[u16; Words::SIZE], word: u8, matched: u8, x: u64, bits: u32) -
     let mut w = word;
     let mut m = matched;
     let mut down = bits;
+    // No count: down by a character's bits, and no further than there is a word.
     while 0 < down && w < Words::NONE {
         down = down - 7;
         w = step_word(t, w, m, char_in(x, down));
@@ -46,14 +47,7 @@ fn walk_word(t: &[u16; Words::SIZE], word: u8, matched: u8, x: u64, bits: u32) -
 fn is_settled(shape: Shape) -> bool
     ensures { result ≡ settled shape }
 {
-    match shape {
-        Shape::Empty => false,
-        Shape::Leading => false,
-        Shape::Plain => true,
-        Shape::Underscore => true,
-        Shape::Reserved => true,
-        Shape::Broken => true,
-    }
+    !matches!(shape, Shape::Empty | Shape::Leading)
 }
 
 // Eight characters of 7 bits in one number: 1 in each.
@@ -74,21 +68,12 @@ fn shape_behind(shape: Shape, x: u64, bits: u32) -> Shape
     if good != (64 * ONES) >> (56 - bits) {
         return Shape::Broken;
     }
-    let mut score: u64 = 0;
-    match shape {
-        Shape::Empty => {}
-        Shape::Leading => {}
-        Shape::Plain => {}
-        Shape::Underscore => {
-            score = 64;
-        }
-        Shape::Reserved => {
-            return Shape::Reserved;
-        }
-        Shape::Broken => {
-            return Shape::Broken;
-        }
-    }
+    let score: u64 = match shape {
+        Shape::Empty | Shape::Leading | Shape::Plain => 0,
+        Shape::Underscore => 64,
+        Shape::Reserved => return Shape::Reserved,
+        Shape::Broken => return Shape::Broken,
+    };
     let u = (scores & x & (64 * ONES)) + (score << bits);
     if u & (u >> 7) != 0 {
         return Shape::Reserved;
@@ -108,6 +93,7 @@ fn walk_shape(shape: Shape, x: u64, bits: u32) -> Shape
     let mut q = shape;
     let mut low = bits;
     let mut rest = x;
+    // No count: down by a character's bits, until the shape is settled.
     while 0 < low && !is_settled(q) {
         low = low - 7;
         q = step_shape(q, char_in(x, low));
@@ -125,11 +111,9 @@ pub fn walk(t: &[u16; Words::SIZE], q: State, x: u64, bits: u32) -> State
     ensures { result ≡ walk_of (words_in t.now) q (chars_in (bits / 7) x) }
 {
     let p = walk_word(t, q.word, q.matched, x, bits);
-    let before = q.shape;
-    let shape = walk_shape(before, x, bits);
     State {
         word: p.word,
         matched: p.matched,
-        shape,
+        shape: walk_shape(q.shape, x, bits),
     }
 }

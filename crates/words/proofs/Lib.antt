@@ -1,4 +1,3 @@
-pub mod ByteLoops
 pub mod OrderLaws
 pub mod ShapeLaws
 pub mod WalkLaws

@@ -1,7 +1,7 @@
 -- Laws of sorted words: beginnings, and what stands behind a word.
 use mathlib.Core.Path.{◌≡◌, refl, sym, ap, ap₂}
 use mathlib.Core.List.{List, [], ◌∷◌, ◌++◌}
-use mathlib.Core.Bool.{Bool, true, false, false≢true, ◌&&◌, and-false}
+use mathlib.Core.Bool.{true, false, false≢true, ◌&&◌, and-false}
 use Prim.Native.Nat.{ℕ, zero, suc, ◌<◌, ◌≤◌}
 use native.Mathlib.Omega.{arith}
 use lib.Dec.{ltb, eqb}

@@ -18,37 +18,20 @@ mod keywords;
 pub fn in_range(lo: u8, hi: u8, c: u8) -> bool
     ensures { result ≡ within lo hi c }
 {
-    if c < lo {
-        return false;
-    }
-    c <= hi
+    lo <= c && c <= hi
 }
 
 // Whether two lists of bytes are the same.
 pub fn equal(a: &[u8], b: &[u8]) -> bool
     ensures { result ≡ same a.now b.now }
 {
-    if a.len() != b.len() {
-        return false;
-    }
-    let mut i: usize = 0;
-    while i < a.len() {
-        if a[i] != b[i] {
-            return false;
-        }
-        i = i + 1;
-    }
-    true
+    a == b
 }
 
 fn is_letter(c: u8) -> bool
     ensures { result ≡ letter c }
 {
-    let lower = in_range(97, 122, c);
-    if lower {
-        return true;
-    }
-    in_range(65, 90, c)
+    in_range(b'a', b'z', c) || in_range(b'A', b'Z', c)
 }
 
 // ---- the table of words
@@ -119,12 +102,7 @@ impl State {
 fn behind(plain: Shape, score: Shape, c: u8) -> Shape
     ensures { result ≡ behindOf plain score c }
 {
-    let letter = is_letter(c);
-    if letter {
-        return plain;
-    }
-    let digit = in_range(48, 57, c);
-    if digit {
+    if is_letter(c) || in_range(b'0', b'9', c) {
         return plain;
     }
     if c == b'_' {
@@ -137,8 +115,7 @@ fn behind(plain: Shape, score: Shape, c: u8) -> Shape
 fn begin(c: u8) -> Shape
     ensures { result ≡ step_shape Empty c }
 {
-    let letter = is_letter(c);
-    if letter {
+    if is_letter(c) {
         return Shape::Plain;
     }
     if c == b'_' {
@@ -153,8 +130,7 @@ fn follow(shape: Shape, c: u8) -> Shape
     match shape {
         Shape::Empty => begin(c),
         Shape::Leading => {
-            let capital = in_range(65, 90, c);
-            if capital {
+            if in_range(b'A', b'Z', c) {
                 return Shape::Reserved;
             }
             behind(Shape::Plain, Shape::Reserved, c)
@@ -178,19 +154,6 @@ pub fn step_shape(shape: Shape, c: u8) -> Shape
 
 // ---- words of the table
 
-fn to_index(n: u16) -> usize
-    ensures { result ≡ n }
-{
-    n as usize
-}
-
-fn to_u8(n: u16) -> u8
-    requires { n < 256 }
-    ensures { result ≡ n }
-{
-    n as u8
-}
-
 // How long a word is.
 fn word_length(t: &[u16; Words::SIZE], w: usize) -> u16
     requires { Right t.now × (w < 92) }
@@ -204,7 +167,7 @@ fn word_char(t: &[u16; Words::SIZE], w: usize, k: usize) -> u16
     requires { Right t.now × (w < 92) × (k < length (get_or (words_in t.now) w [])) }
     ensures { result ≡ get_or (get_or (words_in t.now) w []) k 0 }
 {
-    let start = to_index(t[Words::STARTS + w]);
+    let start = t[Words::STARTS + w] as usize;
     t[Words::CHARS + start + k]
 }
 
@@ -216,19 +179,8 @@ fn shared_by(t: &[u16; Words::SIZE], w: usize) -> u16
     t[Words::SHARED + w]
 }
 
-fn to_usize(b: u8) -> usize
-    ensures { (result ≡ b) × (result < 256) }
-{
-    b as usize
-}
-
-fn to_u16(b: u8) -> u16
-    ensures { (result ≡ b) × (result < 256) }
-{
-    b as u16
-}
-
-// What a word has behind its first characters, as many as matched: c, a larger character, or neither.
+// What a word has behind its first characters, as many as matched: c, a larger character, or neither. std's Ordering has
+// no variant for the last, which a smaller character and the end of the word share.
 #[derive(Clone, Copy)]
 pub enum Compared {
     Same,
@@ -240,11 +192,11 @@ fn compare(t: &[u16; Words::SIZE], w: usize, matched: u8, c: u8) -> Compared
     requires { Right t.now × (w < 92) }
     ensures { result ≡ compared_of (char_behind (get_or (words_in t.now) w []) matched) c }
 {
-    if word_length(t, w) <= to_u16(matched) {
+    if word_length(t, w) <= matched as u16 {
         return Compared::Other;
     }
-    let d = word_char(t, w, to_usize(matched));
-    let e = to_u16(c);
+    let d = word_char(t, w, matched as usize);
+    let e = c as u16;
     if d == e {
         return Compared::Same;
     }
@@ -259,23 +211,15 @@ fn seek(t: &[u16; Words::SIZE], word: u8, matched: u8, c: u8) -> u8
     requires { Right t.now × (word < 92) × (matched ≤ length (get_or (words_in t.now) word [])) }
     ensures { result ≡ step_word (words_in t.now) word matched c }
 {
-    let mut w = to_usize(word);
-    while w < 92 {
-        let r = compare(t, w, matched, c);
-        match r {
-            Compared::Same => {
-                return w as u8;
-            }
-            Compared::Larger => {
-                return Words::NONE;
-            }
+    for w in word as usize..92 {
+        match compare(t, w, matched, c) {
+            Compared::Same => return w as u8,
+            Compared::Larger => return Words::NONE,
             Compared::Other => {}
         }
-        w = w + 1;
-        if w < 92 {
-            if shared_by(t, w) < to_u16(matched) {
-                return Words::NONE;
-            }
+        let next = w + 1;
+        if next < 92 && shared_by(t, next) < matched as u16 {
+            return Words::NONE;
         }
     }
     Words::NONE
@@ -286,13 +230,10 @@ fn first_word(t: &[u16; Words::SIZE], c: u8) -> u8
     requires { Right t.now }
     ensures { result ≡ first_with (c ∷ []) (words_in t.now) }
 {
-    if c < b'a' {
+    if c < b'a' || b'z' < c {
         return Words::NONE;
     }
-    if b'z' < c {
-        return Words::NONE;
-    }
-    to_u8(t[Words::FIRST + to_usize(c - b'a')])
+    t[Words::FIRST + (c - b'a') as usize] as u8
 }
 
 // The word with one character more.
@@ -300,10 +241,8 @@ pub fn step_word(t: &[u16; Words::SIZE], word: u8, matched: u8, c: u8) -> u8
     requires { Right t.now × (word < 92) × (matched ≤ length (get_or (words_in t.now) word [])) }
     ensures { result ≡ step_word (words_in t.now) word matched c }
 {
-    if matched == 0 {
-        if word == 0 {
-            return first_word(t, c);
-        }
+    if matched == 0 && word == 0 {
+        return first_word(t, c);
     }
     seek(t, word, matched, c)
 }
@@ -313,14 +252,7 @@ pub fn step_word(t: &[u16; Words::SIZE], word: u8, matched: u8, c: u8) -> u8
 fn is_free(shape: Shape) -> bool
     ensures { result ≡ free shape }
 {
-    match shape {
-        Shape::Empty => false,
-        Shape::Leading => true,
-        Shape::Plain => true,
-        Shape::Underscore => true,
-        Shape::Reserved => false,
-        Shape::Broken => false,
-    }
+    matches!(shape, Shape::Leading | Shape::Plain | Shape::Underscore)
 }
 
 // Whether the characters are a name of a sheet of that edition.
@@ -328,20 +260,15 @@ pub fn verdict(t: &[u16; Words::SIZE], q: State, edition: u32) -> bool
     requires { Right t.now }
     ensures { result ≡ verdictOf (words_in t.now) (added_in t.now) edition q }
 {
-    let shape = q.shape;
-    let good = is_free(shape);
-    if !good {
+    if !is_free(q.shape) {
         return false;
     }
     if Words::NONE <= q.word {
         return true;
     }
-    let w = to_usize(q.word);
-    if word_length(t, w) != to_u16(q.matched) {
+    let w = q.word as usize;
+    if word_length(t, w) != q.matched as u16 {
         return true;
     }
-    if edition < 2 {
-        return t[Words::ADDED + w] != 0;
-    }
-    false
+    edition < 2 && t[Words::ADDED + w] != 0
 }

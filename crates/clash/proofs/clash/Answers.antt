@@ -1,4 +1,4 @@
-use mathlib.Core.Path.{sym, ◌∙◌}
+use mathlib.Core.Path.{sym}
 use Rattle.clash.proofs.ViewLaws.{keys_apart, clash_functions, clash_types, function_type, type_function}
 use Rattle.clash.proofs.clash.Goals as goal
 
@@ -10,28 +10,26 @@ same_symbol-requires c = (
   c.requires.0,
   c.requires.2,
   c.item-w.ensures.1,
-  sym c.is_function-first.ensures ∙ c.if-first.true,
-  sym
-      c.is_function-second.ensures ∙ c.if-second.true,
+  sym c.in-true-true.ensures,
+  sym c.in-true-true.ensures',
 )
 
-pub returns-then-second : goal.returns-then-second
-returns-then-second c =
+pub returns-in-true-true : goal.returns-in-true-true
+returns-in-true-true c =
     clash_functions c.requires.0.whole c.requires.2 c.item-w.ensures.1 c.item-w.ensures.0
-    (sym c.is_function-first.ensures ∙ c.if-first.true) (sym c.is_function-second.ensures ∙ c.if-second.true)
-    c.same_symbol.ensures
+    (sym c.in-true-true.ensures) (sym c.in-true-true.ensures') c.same_symbol.ensures
 
-pub returns-then-first : goal.returns-then-first
-returns-then-first c =
+pub returns-in-true-false : goal.returns-in-true-false
+returns-in-true-false c =
     function_type c.requires.0.whole c.requires.2 c.item-w.ensures.1 c.item-w.ensures.0
-    (sym c.is_function-first.ensures ∙ c.if-first.true) (sym c.is_function-second.ensures ∙ c.if-second.false)
+    (sym c.in-true-false.ensures) (sym c.in-true-false.ensures')
 
-pub returns-then-second-2 : goal.returns-then-second-2
-returns-then-second-2 c =
+pub returns-in-false-true : goal.returns-in-false-true
+returns-in-false-true c =
     type_function c.requires.0.whole c.requires.2 c.item-w.ensures.1 c.item-w.ensures.0
-    (sym c.is_function-first.ensures ∙ c.if-first.false) (sym c.is_function-second.ensures ∙ c.if-second-2.true)
+    (sym c.in-false-true.ensures) (sym c.in-false-true.ensures')
 
-pub returns : goal.returns
-returns c =
-    clash_types c.requires.0.whole c.requires.2 c.item-w.ensures.1 c.item-w.ensures.0 (sym c.is_function-first.ensures
-    ∙ c.if-first.false) (sym c.is_function-second.ensures ∙ c.if-second-2.false) c.same_full_name.ensures
+pub returns-in-false-false : goal.returns-in-false-false
+returns-in-false-false c =
+    clash_types c.requires.0.whole c.requires.2 c.item-w.ensures.1 c.item-w.ensures.0
+    (sym c.in-false-false.ensures) (sym c.in-false-false.ensures') c.same_full_name.ensures

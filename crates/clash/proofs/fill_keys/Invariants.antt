@@ -1,5 +1,5 @@
 use mathlib.Core.Path.{◌≡◌}
-use Prim.Native.Nat.{ℕ, ◌≤◌, ◌<◌, ◌-◌}
+use Prim.Native.Nat.{ℕ, ◌<◌}
 use lib.ListN.{length, get_or}
 use Rattle.names.specs.Digests.{digest}
 use Rattle.view.specs.Values.{item_no}
@@ -8,8 +8,5 @@ use Rattle.clash.proofs.fill_keys.Given as goal
 
 abbrev pub invariant-loop-i : goal.invariant-loop-i
 invariant-loop-i l =
-    (l.i ≤ length l.items) × (length l.keys ≡ length l.initial.keys) × ((k : ℕ) → k < l.i → get_or l.keys k 0 ≡ digest
+    (length l.keys ≡ length l.initial.keys) × ((k : ℕ) → k < l.i → get_or l.keys k 0 ≡ digest
     (own_name (item_no l.s l.names l.items k)))
-
-abbrev pub decreases-loop-i : goal.decreases-loop-i
-decreases-loop-i l = length l.items - l.i

@@ -1,5 +1,4 @@
 use mathlib.Core.Path.{◌≡◌}
-use Prim.Native.Nat.{◌≤◌, ◌-◌}
 use lib.ListN.{drop}
 use Rattle.clash.specs.Clashes.{same_names}
 use Rattle.view.specs.Values.{item_no}
@@ -7,9 +6,6 @@ use Rattle.clash.proofs.same_namespace.Given as goal
 
 abbrev pub invariant-loop-d : goal.invariant-loop-d
 invariant-loop-d l =
-    (l.d ≤ l.v.depth) × (same_names (item_no l.s l.names l.items l.v.number).namespace (item_no l.s l.names l.items
+    same_names (item_no l.s l.names l.items l.v.number).namespace (item_no l.s l.names l.items
     l.w.number).namespace ≡ same_names (drop l.d (item_no l.s l.names l.items l.v.number).namespace)
-    (drop l.d (item_no l.s l.names l.items l.w.number).namespace))
-
-abbrev pub decreases-loop-d : goal.decreases-loop-d
-decreases-loop-d l = l.v.depth - l.d
+    (drop l.d (item_no l.s l.names l.items l.w.number).namespace)

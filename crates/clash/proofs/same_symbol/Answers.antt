@@ -1,14 +1,14 @@
 use Rattle.lexical.proofs.BoolLaws.{not-true, not-false}
 use Rattle.clash.proofs.ItemLaws.{function_kind}
 use Rattle.clash.proofs.ViewLaws.{symbol_apart, symbol_unlike, symbol_alike}
-use mathlib.Core.Path.{ap}
+use mathlib.Core.Path.{ap, ◌∙◌}
 use mathlib.Core.Bool.{not}
 use Rattle.clash.proofs.same_symbol.Goals as goal
 
-pub returns-then-not-near : goal.returns-then-not-near
-returns-then-not-near c =
-    symbol_apart c.requires.0.whole c.requires.1 c.requires.2 c.same_namespace-near.ensures c.requires.3 c.requires.4
-    (not-true _ (ap not c.if-not-near.true))
+pub returns-then-not-same_namespace : goal.returns-then-not-same_namespace
+returns-then-not-same_namespace c =
+    symbol_apart c.requires.0.whole c.requires.1 c.requires.2 c.same_namespace.ensures c.requires.3 c.requires.4
+    (not-true _ (ap not c.if-not-same_namespace.true))
 
 pub function-f-requires : goal.function-f-requires
 function-f-requires c = (c.requires.0.whole, c.requires.1, function_kind _ c.requires.3)
@@ -16,23 +16,23 @@ function-f-requires c = (c.requires.0.whole, c.requires.1, function_kind _ c.req
 pub function-g-requires : goal.function-g-requires
 function-g-requires c = (c.requires.0.whole, c.requires.2, function_kind _ c.requires.4)
 
-pub same_name-alike-requires : goal.same_name-alike-requires
-same_name-alike-requires c = (
+pub same_name-requires : goal.same_name-requires
+same_name-requires c = (
   c.requires.0.whole.named,
   c.requires.0.digested,
   c.function-f.ensures.1.view.named,
   c.function-g.ensures.1.view.named,
 )
 
-pub returns-then-not-alike : goal.returns-then-not-alike
-returns-then-not-alike c =
-    symbol_unlike c.requires.0.whole c.requires.1 c.requires.2 c.same_namespace-near.ensures c.requires.3 c.requires.4
+pub returns-then-same_name : goal.returns-then-same_name
+returns-then-same_name c =
+    symbol_alike c.requires.0.whole c.requires.1 c.requires.2 c.same_namespace.ensures c.requires.3 c.requires.4
     c.function-f.ensures.0 c.function-g.ensures.0 c.function-f.ensures.1 c.function-g.ensures.1
-    c.same_name-alike.ensures (not-false _ (ap not c.if-not-near.false)) (not-true _ (ap not c.if-not-alike.true))
+    c.same_name.ensures (not-false _ (ap not c.if-not-same_namespace.false)) c.if-same_name.true c.same_owner.ensures
 
-pub returns : goal.returns
-returns c =
-    symbol_alike c.requires.0.whole c.requires.1 c.requires.2 c.same_namespace-near.ensures c.requires.3 c.requires.4
-    c.function-f.ensures.0 c.function-g.ensures.0 c.function-f.ensures.1 c.function-g.ensures.1
-    c.same_name-alike.ensures (not-false _ (ap not c.if-not-near.false)) (not-false _
-    (ap not c.if-not-alike.false)) c.same_owner.ensures
+pub returns-else-same_name : goal.returns-else-same_name
+returns-else-same_name c =
+    c.if-same_name.false ∙ symbol_unlike c.requires.0.whole c.requires.1 c.requires.2 c.same_namespace.ensures
+    c.requires.3 c.requires.4 c.function-f.ensures.0 c.function-g.ensures.0 c.function-f.ensures.1
+    c.function-g.ensures.1 c.same_name.ensures (not-false _ (ap not c.if-not-same_namespace.false))
+    c.if-same_name.false

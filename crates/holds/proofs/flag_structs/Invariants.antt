@@ -1,11 +1,6 @@
-use Prim.Native.Nat.{◌-◌, ◌≤◌}
-use lib.ListN.{length}
 use Rattle.view.specs.Values.{items_at}
 use Rattle.holds.proofs.EdgeLaws.{Flagging}
 use Rattle.holds.proofs.flag_structs.Given as goal
 
 abbrev pub invariant-loop-i : goal.invariant-loop-i
-invariant-loop-i l = (l.i ≤ length l.items) × Flagging (items_at l.s l.names l.items) l.i l.structs
-
-abbrev pub decreases-loop-i : goal.decreases-loop-i
-decreases-loop-i l = length l.items - l.i
+invariant-loop-i l = Flagging (items_at l.s l.names l.items) l.i l.structs

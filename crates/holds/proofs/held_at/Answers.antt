@@ -6,16 +6,16 @@ pub named_at-requires : goal.named_at-requires
 named_at-requires c = (
   c.requires.0,
   c.requires.1,
-  yields_named _ _ _ c.requires.2 c.field-f.ensures c.kind_of-kind.ensures
-      (known c.is_named-by_name.ensures c.if-by_name.true),
+  yields_named _ _ _ c.requires.2 c.field-f.ensures c.kind_of.ensures
+      (known c.is_named.ensures c.if-is_named.true),
 )
 
-pub returns-then-by_name : goal.returns-then-by_name
-returns-then-by_name c =
-    tells_by_name _ _ _ c.requires.2 c.field-f.ensures c.kind_of-kind.ensures (known c.is_named-by_name.ensures
-    c.if-by_name.true) c.named_at.ensures
+pub returns-then-is_named : goal.returns-then-is_named
+returns-then-is_named c =
+    tells_by_name _ _ _ c.requires.2 c.field-f.ensures c.kind_of.ensures (known c.is_named.ensures
+    c.if-is_named.true) c.named_at.ensures
 
 pub returns : goal.returns
 returns c =
-    tells_other _ _ _ c.requires.2 c.field-f.ensures _ c.kind_of-kind.ensures (known c.is_named-by_name.ensures
-    c.if-by_name.false) c.past_type-next.ensures
+    tells_other _ _ _ c.requires.2 c.field-f.ensures _ c.kind_of.ensures (known c.is_named.ensures
+    c.if-is_named.false) c.past_type.ensures

@@ -17,11 +17,11 @@ bounds-structs-i c =
           c.field-index.ensures,
     )
 
-pub overflow_cast-number : goal.overflow_cast-number
-overflow_cast-number c =
+pub overflow_cast-i : goal.overflow_cast-i
+overflow_cast-i c =
     omega (arith, c.requires.0.few, found_there _ _ _ c.requires.2 c.width-w.ensures c.field-index.ensures)
 
 pub returns : goal.returns
 returns c =
     tells_named _ _ _ c.requires.2 c.width-w.ensures c.field-index.ensures _ (c.requires.1.each _ (items_there _ _ _
-    (found_there _ _ _ c.requires.2 c.width-w.ensures c.field-index.ensures)))
+    (found_there _ _ _ c.requires.2 c.width-w.ensures c.field-index.ensures))) c.then_some.ensures

@@ -1,8 +1,8 @@
 use Rattle.holds.proofs.PutLaws.{put_one, put_none}
 use Rattle.holds.proofs.put.Goals as goal
 
-pub returns-then-counts : goal.returns-then-counts
-returns-then-counts c = put_one _ _ _ c.requires c.if-counts.true
+pub returns-in-Some : goal.returns-in-Some
+returns-in-Some c = put_one _ _ _ c.requires c.in-Some.is
 
-pub returns : goal.returns
-returns c = put_none _ _ _ c.if-counts.false
+pub returns-in-None : goal.returns-in-None
+returns-in-None c = put_none _ _ c.in-None.is

@@ -14,12 +14,12 @@ put_struct-requires c = (
   c.requires.0,
   c.requires.1,
   c.item-v.ensures.1,
-  struct_kind _ (known c.is_struct-found.ensures c.if-found.true),
+  struct_kind _ (known c.is_struct.ensures c.if-is_struct.true),
   omega (arith, c.requires.0.few, c.if-items-i.false),
 )
 
-pub returns-then-found : goal.returns-then-found
-returns-then-found c =
+pub returns-then-is_struct : goal.returns-then-is_struct
+returns-then-is_struct c =
     let p = c.put_struct.ensures in (
       puts_item _ c.item-v.ensures.0 p.0,
       p.1,
@@ -32,8 +32,8 @@ returns-then-found c =
 
 pub returns : goal.returns
 returns c = (
-  puts_item _ c.item-v.ensures.0 (puts_none _ _ (holds_other _ _ (sym (struct_told _ _ c.is_struct-found.ensures
-      c.item-v.ensures.1.view.kind) ∙ c.if-found.false))),
+  puts_item _ c.item-v.ensures.0 (puts_none _ _ (holds_other _ _ (sym (struct_told _ _ c.is_struct.ensures
+      c.item-v.ensures.1.view.kind) ∙ c.if-is_struct.false))),
   omega arith,
   omega arith,
 )

@@ -10,6 +10,6 @@ returns-then-marks-k-eq1 c =
     error_marked c.args.s.now c.args.names.now c.args.items.now c.args.marks.now c.args.i c.if-marks-k-eq1.true
     c.pointer_bit.ensures
 
-pub returns : goal.returns
-returns c =
+pub returns-else-marks-k-eq1 : goal.returns-else-marks-k-eq1
+returns-else-marks-k-eq1 c =
     error_unmarked c.args.s.now c.args.names.now c.args.items.now c.args.marks.now c.args.i c.if-marks-k-eq1.false

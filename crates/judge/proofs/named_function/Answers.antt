@@ -8,8 +8,8 @@ overflow_add-k c = omega (arith, c.requires.0.few)
 pub returns-then-marks-k-eq1 : goal.returns-then-marks-k-eq1
 returns-then-marks-k-eq1 c =
     function_marked c.args.s.now c.args.names.now c.args.items.now c.args.marks.now c.args.i c.if-marks-k-eq1.true
-    c.kind_at-kind.ensures c.is_function.ensures
+    c.kind_at.ensures c.is_function.ensures
 
-pub returns : goal.returns
-returns c =
+pub returns-else-marks-k-eq1 : goal.returns-else-marks-k-eq1
+returns-else-marks-k-eq1 c =
     function_unmarked c.args.s.now c.args.names.now c.args.items.now c.args.marks.now c.args.i c.if-marks-k-eq1.false

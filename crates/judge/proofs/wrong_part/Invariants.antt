@@ -1,5 +1,5 @@
 use mathlib.Core.Path.{◌≡◌}
-use Prim.Native.Nat.{◌≤◌, ◌-◌}
+use Prim.Native.Nat.{◌-◌}
 use lib.ListN.{length}
 use Rattle.rules.specs.Rules.{wrong_part}
 use Rattle.view.specs.Values.{items_at}
@@ -9,8 +9,5 @@ use Rattle.judge.proofs.wrong_part.Given as goal
 
 abbrev pub invariant-loop-i : goal.invariant-loop-i
 invariant-loop-i l =
-    (l.i ≤ length l.items) × (wrong_part (items_at l.s l.names l.items) ≡ some_from (named_function l.s l.names
-    l.items l.marks) l.i (length l.items - l.i))
-
-abbrev pub decreases-loop-i : goal.decreases-loop-i
-decreases-loop-i l = length l.items - l.i
+    wrong_part (items_at l.s l.names l.items) ≡ some_from (named_function l.s l.names
+    l.items l.marks) l.i (length l.items - l.i)

@@ -1,6 +1,5 @@
 use mathlib.Core.Path.{◌≡◌}
 use mathlib.Core.Bool.{false}
-use Prim.Native.Nat.{◌≤◌, ◌-◌}
 use lib.ListN.{take}
 use Rattle.rules.specs.Rules.{any}
 use Rattle.view.specs.Values.{items_at, item_no}
@@ -9,8 +8,5 @@ use Rattle.nested.proofs.is_first.Given as goal
 
 abbrev pub invariant-loop-k : goal.invariant-loop-k
 invariant-loop-k l =
-    (l.k ≤ l.v.number) × (any (belongs (item_no l.s l.names l.items l.v.number) l.depth) (take l.k (items_at l.s
-    l.names l.items)) ≡ false)
-
-abbrev pub decreases-loop-k : goal.decreases-loop-k
-decreases-loop-k l = l.v.number - l.k
+    any (belongs (item_no l.s l.names l.items l.v.number) l.depth) (take l.k (items_at l.s
+    l.names l.items)) ≡ false

@@ -1,5 +1,5 @@
 use mathlib.Core.Path.{◌≡◌}
-use Prim.Native.Nat.{◌≤◌, ◌-◌}
+use Prim.Native.Nat.{◌-◌}
 use lib.ListN.{drop}
 use Rattle.view.specs.Values.{item_no}
 use Rattle.nested.specs.Groups.{shared}
@@ -7,9 +7,6 @@ use Rattle.nested.proofs.shares.Given as goal
 
 abbrev pub invariant-loop-d : goal.invariant-loop-d
 invariant-loop-d l =
-    (l.d ≤ l.depth) × (shared l.depth (item_no l.s l.names l.items l.v.number).namespace (item_no l.s l.names l.items
+    shared l.depth (item_no l.s l.names l.items l.v.number).namespace (item_no l.s l.names l.items
     l.w.number).namespace ≡ shared (l.depth - l.d) (drop l.d (item_no l.s l.names l.items l.v.number).namespace)
-    (drop l.d (item_no l.s l.names l.items l.w.number).namespace))
-
-abbrev pub decreases-loop-d : goal.decreases-loop-d
-decreases-loop-d l = l.depth - l.d
+    (drop l.d (item_no l.s l.names l.items l.w.number).namespace)

@@ -1,14 +1,10 @@
 use mathlib.Core.Path.{◌≡◌}
-use Prim.Native.Nat.{◌≤◌, ◌-◌}
-use lib.ListN.{length, drop}
+use lib.ListN.{drop}
 use Rattle.rules.specs.Rules.{any, reserved_namespace}
 use Rattle.view.specs.Values.{items_at}
 use Rattle.taken.proofs.any_reserved.Given as goal
 
 abbrev pub invariant-loop-i : goal.invariant-loop-i
 invariant-loop-i l =
-    (l.i ≤ length l.items) × (any (λ x. reserved_namespace x.namespace) (items_at l.s l.names l.items) ≡ any
-    (λ x. reserved_namespace x.namespace) (drop l.i (items_at l.s l.names l.items)))
-
-abbrev pub decreases-loop-i : goal.decreases-loop-i
-decreases-loop-i l = length l.items - l.i
+    any (λ x. reserved_namespace x.namespace) (items_at l.s l.names l.items) ≡ any
+    (λ x. reserved_namespace x.namespace) (drop l.i (items_at l.s l.names l.items))

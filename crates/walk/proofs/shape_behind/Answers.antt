@@ -4,9 +4,9 @@ use Prim.Native.Nat.{◌≤◌}
 use Rattle.words.proofs.ShapeLaws.{broken_stays}
 use lib.Bits.{and_le_r}
 use Rattle.lexical.proofs.LaneLaws.{lanes, name_marks, score_marks}
-use Rattle.walk.proofs.WindowLaws.{Score, score_empty, score_leading, score_plain, score_under, all_here, none_here, sum_room, window_broken, window_reserved, window_double, window_score, window_plain}
+use Rattle.walk.proofs.WindowLaws.{Score, score_none, score_under, all_here, none_here, sum_room, window_broken, window_reserved, window_double, window_score, window_plain}
 use Rattle.walk.proofs.shape_behind.Goals as goal
-use Rattle.walk.proofs.shape_behind.Goals.{in-Empty, in-Leading, in-Plain, in-Underscore}
+use Rattle.walk.proofs.shape_behind.Goals.{in-Empty, in-Underscore}
 
 pub overflow_add-letters : goal.overflow_add-letters
 unfolding lanes
@@ -53,8 +53,6 @@ overflow_add-u c =
     let low : c.match-shape.score ≤ 64 =
     elim c.match-shape.branch [
       | in-Empty w ↦ omega arith
-      | in-Leading w ↦ omega arith
-      | in-Plain w ↦ omega arith
       | in-Underscore w ↦ omega arith
     ] in
     record { fits = sum_room c.args.x c.args.bits c.requires.1 c.requires.2 c.requires.3 _ low }
@@ -64,9 +62,7 @@ unfolding lanes name_marks score_marks
 returns-then-u-ne0 c =
     let s : Score c.args.shape c.match-shape.score =
     elim c.match-shape.branch [
-      | in-Empty w ↦ score_empty c.requires.0 w.in-Empty.is
-      | in-Leading w ↦ score_leading c.requires.0 w.in-Leading.is
-      | in-Plain w ↦ score_plain w.in-Plain.is w.score-is
+      | in-Empty w ↦ score_none c.requires.0 w.in-Empty.is w.score-is
       | in-Underscore w ↦ score_under w.in-Underscore.is w.score-is
     ] in
     window_double c.args.x c.args.bits c.requires.1 c.requires.2 c.requires.3 s refl (all_here c.args.x c.args.bits
@@ -77,9 +73,7 @@ unfolding lanes name_marks score_marks
 returns-then-u-ne0-2 c =
     let s : Score c.args.shape c.match-shape.score =
     elim c.match-shape.branch [
-      | in-Empty w ↦ score_empty c.requires.0 w.in-Empty.is
-      | in-Leading w ↦ score_leading c.requires.0 w.in-Leading.is
-      | in-Plain w ↦ score_plain w.in-Plain.is w.score-is
+      | in-Empty w ↦ score_none c.requires.0 w.in-Empty.is w.score-is
       | in-Underscore w ↦ score_under w.in-Underscore.is w.score-is
     ] in
     window_score c.args.x c.args.bits c.requires.1 c.requires.2 c.requires.3 s refl (all_here c.args.x c.args.bits
@@ -90,9 +84,7 @@ unfolding lanes name_marks score_marks
 returns c =
     let s : Score c.args.shape c.match-shape.score =
     elim c.match-shape.branch [
-      | in-Empty w ↦ score_empty c.requires.0 w.in-Empty.is
-      | in-Leading w ↦ score_leading c.requires.0 w.in-Leading.is
-      | in-Plain w ↦ score_plain w.in-Plain.is w.score-is
+      | in-Empty w ↦ score_none c.requires.0 w.in-Empty.is w.score-is
       | in-Underscore w ↦ score_under w.in-Underscore.is w.score-is
     ] in
     window_plain c.args.x c.args.bits c.requires.1 c.requires.2 c.requires.3 s refl (all_here c.args.x c.args.bits

@@ -1,5 +1,5 @@
 use mathlib.Core.Path.{◌≡◌}
-use Prim.Native.Nat.{◌-◌, ◌≤◌, ◌%◌, ◌/◌, ◌^◌}
+use Prim.Native.Nat.{◌≤◌, ◌%◌, ◌/◌, ◌^◌}
 use Rattle.lexical.specs.Bytes.{chars_in}
 use Rattle.words.specs.Walking.{walk_shape}
 use Rattle.walk.proofs.walk_shape.Given as goal

@@ -1,21 +1,18 @@
-use native.Mathlib.Omega.{arith}
-use mathlib.Core.Path.{refl, sym, ◌∙◌}
-use Prim.Native.Nat.{◌-◌}
-use Rattle.words.proofs.ByteLoops.{same_length_lem, same_turn, same_no, same_end}
+use mathlib.Core.Path.{◌≡◌, refl, ap, ◌∙◌}
+use mathlib.Core.List.{List, [], ◌∷◌}
+use mathlib.Core.Bool.{Bool, ◌&&◌}
+use Prim.Native.Nat.{ℕ}
+use lib.Dec.{eqb}
+use lib.Pointwise.{pointwise}
+use Rattle.lexical.specs.Bytes.{same}
 use Rattle.words.proofs.equal.Goals as goal
 
-pub returns-then-a-b : goal.returns-then-a-b
-returns-then-a-b c = sym (same_length_lem _ _ c.if-a-b.true)
-
-pub loop-i-init : goal.loop-i-init
-loop-i-init c = (omega arith, refl)
-
-pub returns-then-a-i : goal.returns-then-a-i
-returns-then-a-i c = sym (c.loop-i.invariant.1 ∙ same_no _ _ _ c.loop-i-test.true (omega arith) c.if-a-i.true)
-
-pub loop-i-preserved : goal.loop-i-preserved
-loop-i-preserved c =
-    (omega arith, c.loop-i.invariant.1 ∙ same_turn _ _ _ c.loop-i-test.true (omega arith) c.if-a-i.false)
+pointwise_same : (a b : List ℕ) → pointwise eqb a b ≡ same a b
+unfolding same
+pointwise_same [] [] = refl
+pointwise_same [] (y ∷ b) = refl
+pointwise_same (x ∷ a) [] = refl
+pointwise_same (x ∷ a) (y ∷ b) = ap (λ (r : Bool). eqb x y && r) (pointwise_same a b)
 
 pub returns : goal.returns
-returns c = sym (c.loop-i.invariant.1 ∙ same_end _ _ _ c.loop-i-test.false (omega arith))
+returns c = c.eq.ensures ∙ pointwise_same _ _

@@ -1,8 +1,8 @@
 use borrow.Author.Tests.{le-leb, lt-leb}
 use Rattle.words.proofs.in_range.Goals as goal
 
-pub returns-then-c-lo : goal.returns-then-c-lo
-returns-then-c-lo c = rw (lt-leb _ _ c.if-c-lo.true)
+pub returns-then-lo-c : goal.returns-then-lo-c
+returns-then-lo-c c = rw (le-leb _ _ c.if-lo-c.true)
 
-pub returns : goal.returns
-returns c = rw (le-leb _ _ c.if-c-lo.false)
+pub returns-else-lo-c : goal.returns-else-lo-c
+returns-else-lo-c c = rw (lt-leb _ _ c.if-lo-c.false)

@@ -1,9 +1,5 @@
-use Prim.Native.Nat.{◌-◌, ◌≤◌}
 use Rattle.words.proofs.TableLaws.{Passed, Front}
 use Rattle.words.proofs.seek.Given as goal
 
 abbrev pub invariant-loop-w : goal.invariant-loop-w
-invariant-loop-w l = (l.w ≤ 92) × Passed l.t l.word l.matched l.c l.w × Front l.t l.word l.matched l.c l.w
-
-abbrev pub decreases-loop-w : goal.decreases-loop-w
-decreases-loop-w l = 92 - l.w
+invariant-loop-w l = Passed l.t l.word l.matched l.c l.w × Front l.t l.word l.matched l.c l.w
