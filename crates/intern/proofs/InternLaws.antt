@@ -5,6 +5,7 @@ use Prim.Native.Nat.{ℕ, ◌+◌, ◌*◌, ◌/◌, ◌<◌, ◌≤◌, ◌^◌
 use native.Mathlib.Omega.{arith}
 use lib.ListN.{length, get_or, set, take}
 use lib.Seq.{length-take-le}
+use Rattle.std.proofs.lemmas.List.{get_or-take, length-take}
 use Rattle.format.specs.Types.{Ty, str}
 use Rattle.format.specs.Decoding.{type}
 use Rattle.format.proofs.LocalLaws.{type_body_local, type_at_local}
@@ -40,17 +41,21 @@ spelled {s} {t} {pool} {after} {l} {b} {end} {k} {count} {r} at lent p long few 
 
 -- ---- the entries of a function's arguments, where more types are kept
 
-pub record Entries (s t : List ℕ) (n : ℕ) (entries : List ℕ) : Type 0 where
-  pub each : (j : ℕ) → j < n →
+pub record Entries (s t entries : List ℕ) : Type 0 where
+  pub each : (j : ℕ) → j < length entries →
       Typed s t (get_or entries j 0 / 16384) × FactsOf s (names_in t) (items_in t) (unpacked (get_or entries j 0))
 
 pub entries_of_lem : {s t : List ℕ} {f : FunctionView} {entries : List ℕ} → Arguments s t f entries →
-    Entries s t f.arguments entries
+    Entries s t (take f.arguments entries)
 unfolding type_here
-entries_of_lem a = record { each = λ j h. let y = (a.each j h).0.of in (rw (yielded str y) y, (a.each j h).1) }
+entries_of_lem {f = f} {entries} a = record {
+  each = λ j l.
+      let h : j < f.arguments = omega (arith, l, length-take f.arguments entries) in
+      let y = (a.each j h).0.of in rw (get_or-take f.arguments entries j 0 h) (rw (yielded str y) y, (a.each j h).1);
+}
 
-module _ {s before t pool : List ℕ} {end : ℕ} (d : Filled s before t pool end) {n : ℕ} {entries : List ℕ}
-    (a : Entries s before n entries) {j : ℕ} (h : j < n) where
+module _ {s before t pool : List ℕ} {end : ℕ} (d : Filled s before t pool end) {entries : List ℕ}
+    (a : Entries s before entries) {j : ℕ} (h : j < length entries) where
   pub entry_typed : Typed s t (get_or entries j 0 / 16384)
   entry_typed = rw d.same_items (a.each j h).0
 

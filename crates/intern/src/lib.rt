@@ -106,8 +106,7 @@ fn intern_type(
         Typed s.now t.old (entry / 16384) × FactsOf s.now (names_in t.old) (items_in t.old) (unpacked entry) }
     ensures { Filled s.now t.old t.new pool.new result }
 {
-    let kept = keep_type(s, t, pool, entry, end);
-    if kept {
+    if keep_type(s, t, pool, entry, end) {
         return spell_type(s, t, pool, Cursor::new(entry / 16384), end);
     }
     end
@@ -131,10 +130,8 @@ fn intern_arguments(
     fill_arguments(s, t, f, &mut entries);
     let n = f.arguments as usize;
     let mut end = from;
-    let mut j: usize = 0;
-    while j < n {
-        end = intern_type(s, t, pool, entries[j], end);
-        j = j + 1;
+    for &entry in &entries[..n] {
+        end = intern_type(s, t, pool, entry, end);
     }
     end
 }
@@ -150,17 +147,12 @@ fn intern_item(
     requires { Lent s.now t.old (take end pool.old) × (end ≤ length pool.old) × Item s.now t.old v }
     ensures { Filled s.now t.old t.new pool.new result }
 {
-    let kind = v.kind;
-    match kind {
+    match v.kind {
         ItemKind::RustFunction => {
             let f = function(s, t, v);
             intern_arguments(s, t, pool, f, end)
         }
-        ItemKind::Struct => end,
-        ItemKind::Enum => end,
-        ItemKind::CxxType => end,
-        ItemKind::RustType => end,
-        ItemKind::Bad => end,
+        _ => end,
     }
 }
 
@@ -172,8 +164,7 @@ fn idle_after(kind: ItemKind, end: usize, next: usize, idle: u32) -> u32
     if end < next {
         return 0;
     }
-    let function = is_function(kind);
-    if function {
+    if is_function(kind) {
         return idle + 1;
     }
     idle
@@ -196,17 +187,14 @@ pub fn intern_types(
     }
     let mut end = from;
     let mut idle: u32 = 0;
-    let mut i: u32 = 0;
-    while i < n {
+    for i in 0..n {
         if IDLE <= idle {
             return end;
         }
         let v = item(s, t, i);
         let next = intern_item(s, t, pool, v, end);
-        let kind = v.kind;
-        idle = idle_after(kind, end, next, idle);
+        idle = idle_after(v.kind, end, next, idle);
         end = next;
-        i = i + 1;
     }
     end
 }

@@ -1,7 +1,7 @@
 -- Laws of the names and symbols of items, from what was written of them.
 use mathlib.Core.Path.{◌≡◌, refl, sym}
 use mathlib.Core.List.{List, [], ◌∷◌, ◌++◌, map, append-nil}
-use Prim.Native.Nat.{ℕ, zero, suc, ◌+◌, ◌<◌, ◌≤◌}
+use Prim.Native.Nat.{ℕ, zero, suc, ◌+◌, ◌<◌}
 use lib.ListN.{get_or, take}
 use Rattle.lexical.specs.Bytes.{bytes}
 use Rattle.format.specs.Sheet.{Name, Function, Item}
@@ -16,7 +16,7 @@ use Rattle.view.specs.declared.FunctionView.{FunctionView}
 use Rattle.view.specs.Values.{name_at, items_at, function_at}
 use Rattle.view.specs.Views.{ItemAt, FunctionAt}
 use Rattle.mangle.specs.Segments.{each_between}
-use Rattle.mangle.proofs.SegmentLaws.{segments_turn, segments_all, path_end, join_version, push_two, push_three}
+use Rattle.mangle.proofs.SegmentLaws.{segments_turn, path_end, join_version, push_two, push_three}
 
 -- ---- one segment more
 
@@ -44,10 +44,6 @@ module _ {s names items : List ℕ} {v : ItemView} (a : ItemAt s names items v) 
           Wrote r (each_between before behind (take d spaces)) t → Wrote t before u → Wrote u x w → Wrote w behind z →
           Wrote r (each_between before behind (take (d + 1) spaces)) z
       spaces_turn h e p q x y = segments_turn before behind spaces (rw (← a.view.depth) h) e p q x y
-
-      pub spaces_all : v.depth ≤ d → Wrote r (each_between before behind (take d spaces)) t →
-          Wrote r (each_between before behind spaces) t
-      spaces_all h p = segments_all before behind spaces {d = d} (rw (← a.view.depth) h) p
 
   module _ {r t : Sink} where
     -- its C++ name

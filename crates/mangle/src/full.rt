@@ -28,8 +28,7 @@ fn fill_full_name(
     ensures { Filled s.now t.old t.new pool.new result }
 {
     let v = item(s, t, i);
-    let kind = v.kind;
-    if is_function(kind) {
+    if is_function(v.kind) {
         return end;
     }
     let count = write_full_name(s, t, pool, i, text, 0);
@@ -61,10 +60,8 @@ pub fn fill_full_names(
     let n = t[Table::ITEMS];
     let mut text = [0u8; LONGEST];
     let mut end = from;
-    let mut i: u32 = 0;
-    while i < n {
+    for i in 0..n {
         end = fill_full_name(s, t, pool, i, end, &mut text);
-        i = i + 1;
     }
     end
 }

@@ -25,13 +25,11 @@ pub fn write_namespace(
         (sink out.new result) }
 {
     let mut here = at;
-    let mut d: u32 = 0;
-    while d < v.depth {
+    for d in 0..v.depth {
         let name = namespace(s, t, v, d);
         here = put_bytes(out, here, before);
         here = put_name_of(s, t, pool, name, out, here);
         here = put_bytes(out, here, behind);
-        d = d + 1;
     }
     here
 }

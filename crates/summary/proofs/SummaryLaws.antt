@@ -13,7 +13,7 @@ use Rattle.cursor.proofs.CheckLaws.{many_length}
 use Rattle.view.specs.declared.FunctionView.{FunctionView}
 use Rattle.view.specs.Values.{Yields}
 use Rattle.view.specs.Views.{comment_lines}
-use Rattle.tables.specs.Tables.{items_in, items_of, function_of, Function, Arguments, behind_arguments}
+use Rattle.tables.specs.Tables.{items_of, function_of, Function, Arguments, behind_arguments}
 use Rattle.count_type.specs.Counts.{Counts}
 use Rattle.summary.specs.Summaries.{Summary, Summaries, Keeping}
 
@@ -172,17 +172,6 @@ summary_view x y e w = record {
 -- ---- all functions
 
 module _ {s t kept : List ℕ} {i end : ℕ} (k : Keeping s t i end kept) where
-  pub keeping_none : i < 255 → Keeping s t (i + 1) end kept
-  keeping_none h = record {
-    first = k.first;
-    near = k.near;
-    small = k.small;
-    each = λ f x l z. by_cases (ℕ_discrete f.number i)
-        (λ e. absurd (z (k.later f.number (omega (arith, e)) (omega (arith, e, h)))))
-        (λ e. k.each f x (omega (arith, l, e)) z);
-    later = λ j l m. k.later j (omega (arith, l)) m;
-  }
-
   module _ {f : FunctionView} (x : Function s t f) (n : f.number ≡ i) (small : i < 255) (room : end + 36 ≤ length kept)
       {words : List ℕ} (w : Summary s t f words)
       (long : length words ≡ length (take (length kept - end) (drop end kept))) where
@@ -281,9 +270,6 @@ keeping_begins {kept = kept} e =
       later = λ j m n. rw e (get_or-replicate 3744 j 0 0 (omega (arith, n)));
     }
 
-pub keeping_ends : {s t kept : List ℕ} {i end : ℕ} → Keeping s t i end kept → length (items_in t) ≤ i → Summaries s t kept
-keeping_ends k h = record { each = λ f x z. (k.each f x (omega (arith, h, x.there)) z).2 }
-
 -- ---- one of them
 
 module _ {s t kept : List ℕ} (words : List ℕ) {f : FunctionView} (x : Function s t f) (k : Summaries s t kept) {from : ℕ}
@@ -299,9 +285,6 @@ module _ {s t kept : List ℕ} (words : List ℕ) {f : FunctionView} (x : Functi
 
   room_in : m ≤ length words
   room_in = omega (arith, h, x.view.few)
-
-  pub kept_room : from + m ≤ length kept
-  kept_room = omega (arith, own_kept.room, length-drop from kept)
 
   part_long : length part ≡ m
   part_long = length-take-le (from + m - from) (drop from kept) (omega (arith, own_kept.room)) ∙ omega arith

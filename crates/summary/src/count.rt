@@ -32,10 +32,7 @@ use view::{ArgumentView, FunctionView, argument};
 fn comma_length(comma: bool) -> usize
     ensures { result ≡ length (pick_text comma (bytes ", ") []) }
 {
-    if comma {
-        return 2;
-    }
-    0
+    if comma { 2 } else { 0 }
 }
 
 // The star of an argument that is passed by its address, and the sign before its operand.
@@ -43,10 +40,7 @@ fn star_length(indirect: bool) -> usize
     ensures { (result ≡ length (pick_text indirect (bytes "*") [])) ×
         (result ≡ length (pick_text indirect (bytes "&") [])) }
 {
-    if indirect {
-        return 1;
-    }
-    0
+    if indirect { 1 } else { 0 }
 }
 
 fn name_length(s: &[u8], t: &[u32; Table::PLACES], pool: &[u8; Pool::BYTES], i: u32) -> usize
@@ -112,10 +106,7 @@ fn declared_type(
 pub fn is_held(a: ArgumentView) -> bool
     ensures { result ≡ (not a.string && a.indirect) }
 {
-    if a.string {
-        return false;
-    }
-    a.indirect
+    !a.string && a.indirect
 }
 
 // The place behind the local of an argument, where it has one; n and name are the lengths of its type and of its name.
@@ -134,10 +125,7 @@ fn behind_local(held: bool, n: usize, name: usize, at: usize) -> usize
 fn value_length(held: bool) -> usize
     ensures { result ≡ length (pick_text held (bytes "$.value") []) }
 {
-    if held {
-        return 7;
-    }
-    0
+    if held { 7 } else { 0 }
 }
 
 // What stands behind an operand's name.
@@ -251,8 +239,7 @@ fn count_arguments(
         operands: 1,
     };
     let mut comma = false;
-    let mut j: u32 = 0;
-    while j < f.arguments {
+    for j in 0..f.arguments {
         let gap = comma_length(comma);
         let q = behind_gap(p, gap);
         p = count_argument(s, t, pool, f, words, j, q);
@@ -260,25 +247,18 @@ fn count_arguments(
             return p;
         }
         comma = true;
-        j = j + 1;
     }
     p
 }
 
 // ---- summaries
 
-fn widened(word: u32) -> usize
-    ensures { result ≡ word }
-{
-    word as usize
-}
-
 // Word i, which may be a length or a place.
 pub fn kept_length(words: &[u32], i: usize) -> usize
     requires { i < length words.now }
     ensures { result ≡ slice_index words.now i }
 {
-    widened(words[i])
+    words[i] as usize
 }
 
 // The length of a text from place 1 on up to a place, as a word; 0 where it is too long.

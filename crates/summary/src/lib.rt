@@ -14,7 +14,7 @@ use crate::count::count_summary;
 pub use count::{is_held, kept_length};
 use cursor::Cursor;
 use format::{ItemKind, Outline};
-use tables::{Pool, Table, copy_words, fill_arguments, function, item};
+use tables::{Pool, Table, fill_arguments, function, item};
 use view::{FunctionView, ItemView};
 
 // The summary of one function: a word for each argument and five more.
@@ -101,14 +101,9 @@ fn keep_item(
         return end;
     }
     let v = item(s, t, i);
-    let kind = v.kind;
-    match kind {
+    match v.kind {
         ItemKind::RustFunction => keep(s, t, pool, v, end, kept),
-        ItemKind::Struct => end,
-        ItemKind::Enum => end,
-        ItemKind::CxxType => end,
-        ItemKind::RustType => end,
-        ItemKind::Bad => end,
+        _ => end,
     }
 }
 
@@ -124,10 +119,8 @@ pub fn fill_summaries(
 {
     let n = t[Table::ITEMS];
     let mut end = Outline::ITEMS;
-    let mut i: u32 = 0;
-    while i < n {
+    for i in 0..n {
         end = keep_item(s, t, pool, i, end, kept);
-        i = i + 1;
     }
 }
 
@@ -150,6 +143,6 @@ pub fn load_summary(s: &[u8], t: &[u32], f: FunctionView, kept: &[u32], words: &
     }
     let n = f.arguments as usize + 5;
     let end = start + n;
-    copy_words(&kept[start..end], &mut words[..n]);
+    words[..n].copy_from_slice(&kept[start..end]);
     Cursor::new(words[n - 1])
 }

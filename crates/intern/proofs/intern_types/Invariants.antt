@@ -1,9 +1,6 @@
-use Prim.Native.Nat.{◌≤◌, ◌-◌}
+use Prim.Native.Nat.{◌≤◌}
 use Rattle.tables.specs.Tables.{Filled}
 use Rattle.intern.proofs.intern_types.Given as goal
 
 abbrev pub invariant-loop-i : goal.invariant-loop-i
-invariant-loop-i l = (l.i ≤ l.n) × (l.idle ≤ 8) × Filled l.s l.initial.t l.t l.pool l.end
-
-abbrev pub decreases-loop-i : goal.decreases-loop-i
-decreases-loop-i l = l.n - l.i
+invariant-loop-i l = (l.idle ≤ 8) × Filled l.s l.initial.t l.t l.pool l.end

@@ -1,4 +1,3 @@
-use Prim.Native.Nat.{◌≤◌, ◌-◌}
 use lib.ListN.{take}
 use Rattle.syntax.specs.Items.{item_at}
 use Rattle.sink.specs.Sink.{sink, Wrote}
@@ -8,8 +7,5 @@ use Rattle.mangle.proofs.namespace.write_namespace.Given as goal
 
 abbrev pub invariant-loop-d : goal.invariant-loop-d
 invariant-loop-d l =
-    (l.d ≤ l.v.depth) × Wrote (sink l.initial.out l.initial.here) (each_between l.before l.behind
+    Wrote (sink l.initial.out l.initial.here) (each_between l.before l.behind
     (take l.d (item_at (items_of l.s l.t) l.v.number).namespace)) (sink l.out l.here)
-
-abbrev pub decreases-loop-d : goal.decreases-loop-d
-decreases-loop-d l = l.v.depth - l.d

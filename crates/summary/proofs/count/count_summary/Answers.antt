@@ -1,13 +1,7 @@
-use Rattle.std.proofs.Common.{arith, length-set}
+use Rattle.std.proofs.Common.{arith}
 use Rattle.summary.proofs.LengthLaws.{later, counted_word}
 use Rattle.summary.proofs.SummaryLaws.{summary_stored}
 use Rattle.summary.proofs.count.count_summary.Goals as goal
-
-pub returns-then-p-eq0 : goal.returns-then-p-eq0
-returns-then-p-eq0 c = c.requires.2
-
-pub length_word-requires : goal.length_word-requires
-length_word-requires c = later (c.count_arguments-p.ensures.declared_to c.if-p-eq0.false) (omega arith) (omega arith)
 
 pub length_word-requires-2 : goal.length_word-requires-2
 length_word-requires-2 c = later (c.count_arguments-p.ensures.defined_to c.if-p-eq0.false) (omega arith) (omega arith)
@@ -18,18 +12,6 @@ length_word-requires-3 c = later (c.count_arguments-p.ensures.held_to c.if-p-eq0
 pub length_word-requires-4 : goal.length_word-requires-4
 length_word-requires-4 c =
     later (c.count_arguments-p.ensures.operands_to c.if-p-eq0.false) (omega arith) (omega arith)
-
-pub bounds-words-n : goal.bounds-words-n
-bounds-words-n c = omega (arith, c.requires.2.room)
-
-pub bounds-words-n-2 : goal.bounds-words-n-2
-bounds-words-n-2 c = simp length-set (omega (arith, c.requires.2.room))
-
-pub bounds-words-n-3 : goal.bounds-words-n-3
-bounds-words-n-3 c = simp length-set (omega (arith, c.requires.2.room))
-
-pub bounds-words-n-4 : goal.bounds-words-n-4
-bounds-words-n-4 c = simp length-set (omega (arith, c.requires.2.room))
 
 pub returns : goal.returns
 returns c =

@@ -1,7 +1,0 @@
-use Rattle.summary.proofs.count.is_held.Goals as goal
-
-pub returns-then-a : goal.returns-then-a
-returns-then-a c = rw c.if-a.true
-
-pub returns : goal.returns
-returns c = rw c.if-a.false
