@@ -63,9 +63,7 @@ fn write_call_begin(
         (type_of s.now t.now c.at)
         (shape_of (type_of s.now t.now c.at))) (sink out.new result) }
 {
-    let v = shape(s, t, c);
-    let kind = v.kind;
-    match kind {
+    match shape(s, t, c).kind {
         ShapeKind::RustBox => {
             let typed = write_outermost(s, t, pool, c, out, at);
             put_bytes(out, typed, b"::from_raw(")
@@ -114,14 +112,10 @@ pub fn write_return(
 fn is_closed(kind: ShapeKind) -> bool
     ensures { result ≡ is_closed kind }
 {
-    match kind {
-        ShapeKind::RustBox => true,
-        ShapeKind::UniquePtr => true,
-        ShapeKind::Ref => false,
-        ShapeKind::Str => true,
-        ShapeKind::SliceRef => true,
-        ShapeKind::Other => false,
-    }
+    matches!(
+        kind,
+        ShapeKind::RustBox | ShapeKind::UniquePtr | ShapeKind::Str | ShapeKind::SliceRef
+    )
 }
 
 // What closes the function that takes the call's result, where the return is direct.
@@ -139,9 +133,7 @@ pub fn put_call_end(
         (sink out.new result) }
 {
     if direct {
-        let v = shape(s, t, c);
-        let kind = v.kind;
-        let closed = is_closed(kind);
+        let closed = is_closed(shape(s, t, c).kind);
         return put_when(out, at, closed, b")");
     }
     at
@@ -176,9 +168,7 @@ pub fn put_slot_return(
         (sink out.new result) }
 {
     if indirect {
-        let v = shape(s, t, c);
-        let kind = v.kind;
-        let reference = is_ref(kind);
+        let reference = is_ref(shape(s, t, c).kind);
         let a = put_bytes(out, at, b"  return ");
         let b = put_slot_value(reference, out, a);
         return put_bytes(out, b, b";\n");

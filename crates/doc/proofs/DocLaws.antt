@@ -2,7 +2,7 @@
 use mathlib.Core.Path.{◌≡◌, refl, sym, ap, ◌∙◌}
 use mathlib.Core.List.{List, [], ◌∷◌, ◌++◌, append_assoc, append-nil}
 use mathlib.Core.Bool.{Bool, ◌&&◌}
-use Prim.Native.Nat.{ℕ, zero, suc, ◌+◌, ◌-◌, ◌*◌, ◌<◌, ◌≤◌}
+use Prim.Native.Nat.{ℕ, zero, suc, ◌+◌, ◌*◌, ◌<◌, ◌≤◌}
 use native.Mathlib.Omega.{arith}
 use lib.Dec.{eqb}
 use lib.ListN.{length}
@@ -76,9 +76,10 @@ pub record Writing (f : List ℕ → List ℕ) (s : List ℕ) (n at left here : 
   pub wrote : Wrote before (gather f done) now
 
 module _ (f : List ℕ → List ℕ) (s : List ℕ) (n at : ℕ) where
-  pub writing_none : (r : Sink) → Yields (many n line s at) (value_or [] (many n line s at)) → Writing f s n at n at r r
+  pub writing_none : (left : ℕ) (r : Sink) → left ≡ n → Yields (many n line s at) (value_or [] (many n line s at)) →
+      Writing f s n at left at r r
   unfolding gather
-  writing_none r y = record {
+  writing_none left r e y = rw e record {
     done = [];
     rest = value_or [] (many n line s at);
     end = next_of (many n line s at);
@@ -96,16 +97,14 @@ module _ (f : List ℕ → List ℕ) (s : List ℕ) (n at : ℕ) where
       rw a.first record { is = refl }
 
   -- and is written
-  pub writing_one : (left : ℕ) {here next : ℕ} {r t u : Sink} → 0 < left → Writing f s n at left here r t →
-      Wrote t (f (value_or [] (line s here))) u → next ≡ next_of (line s here) → Writing f s n at (left - 1) next r u
-  writing_one zero h w p e = absurd (omega arith)
-  writing_one (suc left) {here} {next} h w p e =
-      let a = row line s left here w.more in
-      let z : suc left - 1 ≡ left = omega arith in
+  pub writing_one : {left rest : ℕ} {here next : ℕ} {r t u : Sink} → left ≡ suc rest → Writing f s n at left here r t →
+      Wrote t (f (value_or [] (line s here))) u → next ≡ next_of (line s here) → Writing f s n at rest next r u
+  writing_one {left} {rest} {here} {next} h w p e =
+      let a = row line s rest here (rw h at w.more) in
       let m : next ≡ a.next = e ∙ ap next_of a.first in
       let x : value_or [] (line s here) ≡ a.head = rw a.first in
       let q = a.whole in
-      rw (z, m)
+      rw m
       record {
         done = w.done ++ (a.head ∷ []);
         rest = a.tail;

@@ -61,12 +61,10 @@ fn write_lines(s: &[u8], doxygen: bool, c: Cursor, n: u32, out: &mut [u8], at: u
 {
     let mut here = at;
     let mut next = c;
-    let mut left = n;
-    while 0 < left {
+    for _ in 0..n {
         let w = write_line(s, doxygen, next, out, here);
         here = w.at;
         next = w.next;
-        left = left - 1;
     }
     here
 }
@@ -75,10 +73,7 @@ fn write_lines(s: &[u8], doxygen: bool, c: Cursor, n: u32, out: &mut [u8], at: u
 fn is_alone(doxygen: bool, n: u32) -> bool
     ensures { result ≡ doxygen && eqb n 1 }
 {
-    if doxygen {
-        return n == 1;
-    }
-    false
+    doxygen && n == 1
 }
 
 // The comment whose number of lines stands at c.

@@ -2,6 +2,7 @@
 use mathlib.Core.Path.{◌≡◌, refl, sym, ◌∙◌}
 use mathlib.Core.List.{List, [], ◌∷◌, ◌++◌, map}
 use mathlib.Core.Bool.{Bool, true, false, not, ◌&&◌, and-false}
+use mathlib.Core.Logic.{◌⊎◌, inl, inr}
 use Prim.Native.Nat.{ℕ, zero, suc}
 use native.Mathlib.Omega.{arith}
 use lib.Dec.{eqb}
@@ -43,14 +44,15 @@ const_is (suc zero) i = refl
 const_is (suc (suc zero)) i = refl
 const_is (suc (suc (suc k))) i = sym (ne_eqb (suc (suc (suc k))) 1 (omega arith))
 
--- the first of six asked last, and the fourth first
-name_last : (n d g a r t : Bool) → (n && d && g && a && r && t) ≡ (a && d && g && r && t && n)
-name_last false d g a r t = sym (and-false (a && d && g && r && t))
-name_last true false g true r t = refl
+-- the first of six asked last, and the second and third behind the fourth
+name_last : (n d g a r t : Bool) → (n && d && g && a && r && t) ≡ (a && g && d && r && t && n)
+name_last false d g a r t = sym (and-false (a && g && d && r && t))
+name_last true false true true r t = refl
+name_last true false false true r t = refl
 name_last true false g false r t = refl
+name_last true true true false r t = refl
 name_last true true false true r t = refl
 name_last true true false false r t = refl
-name_last true true true false r t = refl
 name_last true true true true false t = refl
 name_last true true true true true false = refl
 name_last true true true true true true = refl
@@ -70,21 +72,19 @@ module _ {s names items : List ℕ} {f : FunctionView} (a : FunctionAt s names i
       by_bit true e = rw (returned a e).0
       by_bit false e = rw (returned_none a e)
 
-  -- what is asked before the name, in the order of the code
-  module _ {v : ItemView} {b₁ b₂ b₃ b₄ : Bool} (x : ItemAt s names items v)
-      (e₁ : b₁ ≡ eqb f.arguments 0 && eqb v.depth 0) (e₂ : b₂ ≡ b₁ && eqb f.form 0)
-      (e₃ : b₃ ≡ b₂ && not f.returns) (e₄ : b₄ ≡ b₃ && not f.throws) where
+  -- what is asked, in the order of the code
+  module _ {v : ItemView} (x : ItemAt s names items v) where
     abbrev named : Bool
     named = same (name_at s (get_or names v.name 0)) (bytes "main")
 
-    main_is : is_cxx_main (item_at (items_at s names items) v.number) this ≡ b₄ && named
+    abbrev main : Bool
+    main = is_cxx_main (item_at (items_at s names items) v.number) this
+
+    main_is : main ≡
+        (eqb f.arguments 0 && eqb f.form 0 && eqb v.depth 0 && not f.returns && not f.throws && named)
     unfolding is_cxx_main
     main_is =
         rw (
-          e₄,
-          e₃,
-          e₂,
-          e₁,
           ← x.view.cxx,
           root_is (item_at (items_at s names items) v.number).namespace,
           ← x.view.depth,
@@ -97,12 +97,21 @@ module _ {s names items : List ℕ} {f : FunctionView} (a : FunctionAt s names i
         (name_last named (eqb v.depth 0) (eqb f.form 0) (eqb f.arguments 0) (not f.returns)
         (not f.throws))
 
-    pub main_named : {r : Bool} → b₄ ≡ true → r ≡ named →
-        r ≡ is_cxx_main (item_at (items_at s names items) v.number) this
-    main_named h q = q ∙ sym (main_is ∙ rw h)
+    pub main_named : {r : Bool} → (f.arguments ≡ 0) × (f.form ≡ 0) × (v.depth ≡ 0) → not f.returns ≡ true →
+        not f.throws ≡ true → r ≡ named → r ≡ main
+    main_named h p q e = e ∙ sym (main_is ∙ rw (h.0, h.1, h.2, p, q))
 
-    pub main_other : b₄ ≡ false → false ≡ is_cxx_main (item_at (items_at s names items) v.number) this
-    main_other h = sym (main_is ∙ rw h)
+    pub main_more : (f.arguments ≡ 0 × (f.form ≡ 0) × (v.depth ≡ 0 → ⊥)) ⊎ (f.arguments ≡ 0 × (f.form ≡ 0 → ⊥)) ⊎
+        (f.arguments ≡ 0 → ⊥) → false ≡ main
+    main_more (inl h) = sym (main_is ∙ rw (h.0, h.1, ne_eqb v.depth 0 h.2))
+    main_more (inr (inl h)) = sym (main_is ∙ rw (h.0, ne_eqb f.form 0 h.1))
+    main_more (inr (inr h)) = sym (main_is ∙ rw (ne_eqb f.arguments 0 h))
+
+    pub main_returns : not f.returns ≡ false → false ≡ main
+    main_returns h = sym (main_is ∙ simp (h, and-false))
+
+    pub main_throws : not f.throws ≡ false → false ≡ main
+    main_throws h = sym (main_is ∙ simp (h, and-false))
 
   -- ---- the type that it returns
 

@@ -18,15 +18,6 @@ use summary::kept_length;
 use tables::{Pool, Table, put_name_of, reads};
 use view::{FunctionView, ItemView, argument};
 
-fn both(a: bool, b: bool) -> bool
-    ensures { result ≡ a && b }
-{
-    if a {
-        return b;
-    }
-    false
-}
-
 // Whether the function is the program's `main`. Its name is read last, and only if the rest holds.
 fn is_main(s: &[u8], t: &[u32; Table::PLACES], v: ItemView, f: FunctionView) -> bool
     requires { Tabled s.now t.now × Item s.now t.now v ×
@@ -34,15 +25,12 @@ fn is_main(s: &[u8], t: &[u32; Table::PLACES], v: ItemView, f: FunctionView) -> 
     ensures { result ≡ is_cxx_main (item_at (items_of s.now t.now)
         v.number) (function_of s.now t.now f.number) }
 {
-    let bare = f.arguments == 0;
-    let root = both(bare, v.depth == 0);
-    let free = both(root, f.form == 0);
-    let void = both(free, !f.returns);
-    let calm = both(void, !f.throws);
-    if calm {
-        return reads(s, t, v.name, b"main");
-    }
-    false
+    f.arguments == 0
+        && f.form == 0
+        && v.depth == 0
+        && !f.returns
+        && !f.throws
+        && reads(s, t, v.name, b"main")
 }
 
 // The type that the shim returns: that of the function, but for `main`.
@@ -64,8 +52,7 @@ fn write_shim_type(
         (function_of s.now t.now f.number).return))
         (sink out.new result) }
 {
-    let main = is_main(s, t, v, f);
-    if main {
+    if is_main(s, t, v, f) {
         return put_bytes(out, at, b"int ");
     }
     if f.returns {
@@ -147,12 +134,10 @@ fn write_parameters(
     }
     let mut here = at;
     let mut comma = false;
-    let mut j: u32 = 0;
-    while j < f.arguments {
+    for j in 0..f.arguments {
         let behind = put_when(out, here, comma, b", ");
         here = write_parameter(s, t, pool, f, offsets, j, out, behind);
         comma = true;
-        j = j + 1;
     }
     here
 }

@@ -36,8 +36,7 @@ fn write_held_local(
         (sink out.new result) }
 {
     let a = argument(offsets, j);
-    let held = is_held(a);
-    if held {
+    if is_held(a) {
         let begun = put_bytes(out, at, b"  ::rust::ManuallyDrop<");
         let typed = write_outermost(s, t, pool, a.of, out, begun);
         let closed = put_bytes(out, typed, b"> ");
@@ -73,10 +72,8 @@ pub fn write_held_locals(
         }
     }
     let mut here = at;
-    let mut j: u32 = 0;
-    while j < f.arguments {
+    for j in 0..f.arguments {
         here = write_held_local(s, t, pool, f, offsets, j, out, here);
-        j = j + 1;
     }
     here
 }
@@ -145,12 +142,10 @@ fn write_arguments(
     }
     let mut here = at;
     let mut comma = others;
-    let mut j: u32 = 0;
-    while j < f.arguments {
+    for j in 0..f.arguments {
         let behind = put_when(out, here, comma, b", ");
         here = write_operand(s, t, pool, f, offsets, j, out, behind);
         comma = true;
-        j = j + 1;
     }
     here
 }

@@ -36,8 +36,7 @@ fn write_receiver(
         (function_of s.now t.now f.number).form))
         (sink out.new result) }
 {
-    let method = is_method(f);
-    if method {
+    if is_method(f) {
         let named = write_full_name(s, t, pool, f.owner, out, at);
         let shared = f.form == 1;
         let qualified = put_when(out, named, shared, b" const");
@@ -123,12 +122,10 @@ fn write_extern_args(
     }
     let mut here = at;
     let mut comma = before;
-    let mut j: u32 = 0;
-    while j < f.arguments {
+    for j in 0..f.arguments {
         let next = put_when(out, here, comma, b", ");
         here = write_extern_arg(s, t, pool, f, offsets, j, out, next);
         comma = true;
-        j = j + 1;
     }
     here
 }

@@ -28,10 +28,7 @@ use view::{FunctionView, ItemView};
 fn is_direct(returns: bool, indirect: bool) -> bool
     ensures { result ≡ (returns && not indirect) }
 {
-    if returns {
-        return !indirect;
-    }
-    false
+    returns && !indirect
 }
 
 // The body of the function's shim.

@@ -1,4 +1,4 @@
-use Rattle.std.proofs.Common.{◌-◌, arith}
+use Rattle.std.proofs.Common.{arith}
 use Rattle.shape.proofs.CommaLaws.{listed_none}
 use Rattle.shape.proofs.ArgumentLaws.{listed_argument, listed_arguments}
 use Rattle.summary.proofs.LengthLaws.{kept, list_counted}
@@ -13,17 +13,15 @@ returns-then-n-gt0 c =
     c.requires.1.operands) c.if-n-gt0.true c.advance.ensures
 
 pub loop-j-init : goal.loop-j-init
-loop-j-init c = (omega arith, listed_none _ _ _ _)
+loop-j-init c = listed_none _ _ _ _
 
 pub write_operand-here-requires : goal.write_operand-here-requires
 write_operand-here-requires c = (c.requires.0, c.requires.1.arguments, omega arith, omega (arith, c.requires.1.room))
 
 pub loop-j-preserved : goal.loop-j-preserved
-loop-j-preserved c = (
-  omega arith,
-  listed_argument _ c.requires.1.arguments (omega arith) c.loop-j.invariant.1
-      c.put_when-behind.ensures c.write_operand-here.ensures,
-)
+loop-j-preserved c =
+    listed_argument _ c.requires.1.arguments (omega arith) c.loop-j.invariant
+    c.put_when-behind.ensures c.write_operand-here.ensures
 
 pub returns : goal.returns
-returns c = listed_arguments _ c.requires.1.arguments (omega arith) c.loop-j.invariant.1
+returns c = listed_arguments _ c.requires.1.arguments (omega arith) c.loop-j.invariant

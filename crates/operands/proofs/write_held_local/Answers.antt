@@ -19,10 +19,10 @@ put_name_of-held_name-requires c =
     let a = argument_at_lem c.requires.1 c.requires.2 c.argument-a.ensures in
     (c.requires.0, a.0.named)
 
-pub returns-then-held : goal.returns-then-held
-returns-then-held c =
+pub returns-then-is_held : goal.returns-then-is_held
+returns-then-is_held c =
     let a = argument_at_lem c.requires.1 c.requires.2 c.argument-a.ensures in
-    local_written _ a.0 (held_is a.1 c.is_held-held.ensures) c.if-held.true (c.put_bytes-begun.ensures ▷
+    local_written _ a.0 (held_is a.1 c.is_held.ensures) c.if-is_held.true (c.put_bytes-begun.ensures ▷
     c.write_outermost-typed.ensures ▷ c.put_bytes-closed.ensures ▷ c.put_name_of-named.ensures ▷
     c.put_bytes-moved.ensures ▷
     c.put_name_of-held_name.ensures ▷ c.put_bytes.ensures)
@@ -30,4 +30,4 @@ returns-then-held c =
 pub returns : goal.returns
 returns c =
     let a = argument_at_lem c.requires.1 c.requires.2 c.argument-a.ensures in
-    local_none _ a.0 (held_is a.1 c.is_held-held.ensures) _ c.if-held.false
+    local_none _ a.0 (held_is a.1 c.is_held.ensures) _ c.if-is_held.false

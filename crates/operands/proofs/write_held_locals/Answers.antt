@@ -1,4 +1,4 @@
-use Rattle.std.proofs.Common.{◌-◌, arith}
+use Rattle.std.proofs.Common.{arith}
 use Rattle.shape.proofs.CommaLaws.{gathered_none}
 use Rattle.count_type.proofs.CountLaws.{wrote_counted}
 use Rattle.shape.proofs.ArgumentLaws.{gathered_argument, gathered_arguments}
@@ -14,18 +14,16 @@ returns-then-n-gt0 c =
     c.advance.ensures
 
 pub loop-j-init : goal.loop-j-init
-loop-j-init c = (omega arith, gathered_none _ _ _)
+loop-j-init c = gathered_none _ _ _
 
 pub write_held_local-here-requires : goal.write_held_local-here-requires
 write_held_local-here-requires c =
     (c.requires.0, c.requires.1.arguments, omega arith, omega (arith, c.requires.1.room))
 
 pub loop-j-preserved : goal.loop-j-preserved
-loop-j-preserved c = (
-  omega arith,
-  gathered_argument _ c.requires.1.arguments (omega arith) c.loop-j.invariant.1
-      c.write_held_local-here.ensures,
-)
+loop-j-preserved c =
+    gathered_argument _ c.requires.1.arguments (omega arith) c.loop-j.invariant
+    c.write_held_local-here.ensures
 
 pub returns : goal.returns
-returns c = gathered_arguments _ c.requires.1.arguments (omega arith) c.loop-j.invariant.1
+returns c = gathered_arguments _ c.requires.1.arguments (omega arith) c.loop-j.invariant

@@ -1,4 +1,3 @@
-use Rattle.std.proofs.Common.{◌-◌, ◌≤◌}
 use Rattle.bridge.specs.Write.{held_local}
 use Rattle.sink.specs.Sink.{sink}
 use Rattle.shape.proofs.CommaLaws.{Gathered}
@@ -7,8 +6,5 @@ use Rattle.operands.proofs.write_held_locals.Given as goal
 
 abbrev pub invariant-loop-j : goal.invariant-loop-j
 invariant-loop-j l =
-    (l.j ≤ l.f.arguments) × Gathered (held_local (items_of l.s l.t)) (function_of l.s l.t l.f.number).arguments l.j
+    Gathered (held_local (items_of l.s l.t)) (function_of l.s l.t l.f.number).arguments l.j
     (sink l.initial.out l.initial.here) (sink l.out l.here)
-
-abbrev pub decreases-loop-j : goal.decreases-loop-j
-decreases-loop-j l = l.f.arguments - l.j

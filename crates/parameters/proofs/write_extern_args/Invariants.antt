@@ -1,4 +1,3 @@
-use Prim.Native.Nat.{◌≤◌, ◌-◌}
 use Rattle.bridge.specs.Write.{extern_arg}
 use Rattle.sink.specs.Sink.{sink}
 use Rattle.shape.proofs.CommaLaws.{Listed}
@@ -7,8 +6,5 @@ use Rattle.parameters.proofs.write_extern_args.Given as goal
 
 abbrev pub invariant-loop-j : goal.invariant-loop-j
 invariant-loop-j l =
-    (l.j ≤ l.f.arguments) × Listed (extern_arg (items_of l.s l.t)) l.before (function_of l.s l.t l.f.number).arguments
+    Listed (extern_arg (items_of l.s l.t)) l.before (function_of l.s l.t l.f.number).arguments
     l.j l.comma (sink l.initial.out l.at) (sink l.out l.here)
-
-abbrev pub decreases-loop-j : goal.decreases-loop-j
-decreases-loop-j l = l.f.arguments - l.j

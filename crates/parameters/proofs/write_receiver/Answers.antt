@@ -4,12 +4,12 @@ use Rattle.parameters.proofs.write_receiver.Goals as goal
 
 pub write_full_name-named-requires : goal.write_full_name-named-requires
 write_full_name-named-requires c =
-    (c.requires.0, c.requires.1.view.owner (receiver_owner c.requires.1 c.is_method-method.ensures c.if-method.true))
+    (c.requires.0, c.requires.1.view.owner (receiver_owner c.requires.1 c.is_method.ensures c.if-is_method.true))
 
-pub returns-then-method : goal.returns-then-method
-returns-then-method c =
+pub returns-then-is_method : goal.returns-then-is_method
+returns-then-is_method c =
     wrote_as (c.write_full_name-named.ensures ▷ c.put_when-qualified.ensures ▷ c.put_bytes.ensures) (receiver_some
-    c.requires.1 c.is_method-method.ensures c.if-method.true)
+    c.requires.1 c.is_method.ensures c.if-is_method.true)
 
 pub returns : goal.returns
-returns c = wrote_as (wrote_nil _) (receiver_none c.requires.1 c.is_method-method.ensures c.if-method.false)
+returns c = wrote_as (wrote_nil _) (receiver_none c.requires.1 c.is_method.ensures c.if-is_method.false)

@@ -1,4 +1,0 @@
-use Rattle.doc.proofs.is_alone.Goals as goal
-
-pub returns-then-doxygen : goal.returns-then-doxygen
-returns-then-doxygen c = rw c.if-doxygen.true
