@@ -9,7 +9,7 @@ ghost use Rattle.order.specs.Ordered.{Ordered};
 
 use format::Outline;
 use holds::{fill_edges, list_structs};
-use toposort::{Traversal, sort};
+use toposort::{Cycle, Traversal, sort};
 
 // Puts the structs in order in front of `out`, and answers where they end, or that there is a ring. What each struct
 // holds is put into `held`.
@@ -19,7 +19,7 @@ pub fn order_of(
     items: &[u32],
     held: &mut [u8; Traversal::HELD],
     out: &mut [u8; Traversal::NUMBERS],
-) -> Traversal
+) -> Result<usize, Cycle>
     requires { Whole s.now names.now items.now × (length out.old ≡ item_numbers) }
     ensures { Ordered (items_at s.now names.now items.now) result
         out.new }
@@ -27,7 +27,7 @@ pub fn order_of(
     let mut numbers = [0u8; Outline::ITEMS];
     let n = list_structs(s, names, items, &mut numbers);
     if n == 0 {
-        return Traversal::Done(0);
+        return Ok(0);
     }
     let mut starts = [0u16; Traversal::STARTS];
     let mut marks = [0u8; Traversal::NUMBERS];
@@ -41,11 +41,7 @@ pub fn ring_in(s: &[u8], names: &[u32], items: &[u32], held: &mut [u8; Traversal
     ensures { result ≡ ringOf (items_at s.now names.now items.now) }
 {
     let mut out = [0u8; Traversal::NUMBERS];
-    let r = order_of(s, names, items, held, &mut out);
-    match r {
-        Traversal::Cycle => true,
-        Traversal::Done(_) => false,
-    }
+    order_of(s, names, items, held, &mut out).is_err()
 }
 
 // The same with a table of its own, which a sheet without structs does not need.
@@ -57,7 +53,8 @@ pub fn ring(s: &[u8], names: &[u32], items: &[u32]) -> bool
     let n = list_structs(s, names, items, &mut numbers);
     if 0 < n {
         let mut held = [0u8; Traversal::HELD];
-        return ring_in(s, names, items, &mut held);
+        ring_in(s, names, items, &mut held)
+    } else {
+        false
     }
-    false
 }

@@ -36,22 +36,24 @@ pub enum Refusal {
 }
 
 // The number of a refusal.
-pub fn number(r: Refusal) -> u8
-    ensures { result ≡ number_of r }
-{
-    match r {
-        Refusal::CutSheet => 1,
-        Refusal::Edition => 2,
-        Refusal::BadName => 3,
-        Refusal::LooseIndex => 4,
-        Refusal::BadKind => 5,
-        Refusal::TooDeep => 6,
-        Refusal::BadComment => 7,
-        Refusal::Tail => 8,
-        Refusal::WrongPart => 9,
-        Refusal::Taken => 10,
-        Refusal::UnfitArgument => 11,
-        Refusal::Ring => 12,
-        Refusal::Overrun => 13,
+impl From<Refusal> for u8 {
+    ghost from_gives = { λ r n. n ≡ number_of r };
+
+    fn from(r: Refusal) -> u8 {
+        match r {
+            Refusal::CutSheet => 1,
+            Refusal::Edition => 2,
+            Refusal::BadName => 3,
+            Refusal::LooseIndex => 4,
+            Refusal::BadKind => 5,
+            Refusal::TooDeep => 6,
+            Refusal::BadComment => 7,
+            Refusal::Tail => 8,
+            Refusal::WrongPart => 9,
+            Refusal::Taken => 10,
+            Refusal::UnfitArgument => 11,
+            Refusal::Ring => 12,
+            Refusal::Overrun => 13,
+        }
     }
 }

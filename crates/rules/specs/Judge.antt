@@ -1,13 +1,11 @@
 -- What documents 01 and 02 say of any bytes: the value of an accepted sheet, or the refusal.
-use Rattle.std.specs.Prelude.{List, ℕ}
+use Rattle.std.specs.Prelude.{List, ℕ, Result, Ok, Err}
 use Rattle.refusal.specs.declared.Refusal.{Refusal}
 use Rattle.refusal.specs.declared.Refusal.TheVariants.{WrongPart, Taken, UnfitArgument, Ring}
 use Rattle.refusal.specs.Refusal.{number_of}
 use Rattle.format.specs.Decode.{Got, fault, got, pick}
 use Rattle.format.specs.Sheet.{Sheet}
 use Rattle.format.specs.Decoding.{decode}
-use Rattle.rules.specs.declared.Checked.{Checked}
-use Rattle.rules.specs.declared.Checked.TheVariants.{Accepted, Refused}
 use Rattle.rules.specs.Rules.{wrong_part, taken, unfit_argument, ring}
 
 pub data Judged : Type 0 where
@@ -30,14 +28,14 @@ unfoldable pub judge : List ℕ → Judged
 judge s = judged (decode s)
 
 -- the answer of a check
-abbrev pub checked_of : Judged → Checked
-checked_of (refused e) = Refused e
-checked_of (accepted x) = Accepted
+abbrev pub checked_of : Judged → Result Unit Refusal
+checked_of (refused e) = Err e
+checked_of (accepted x) = Ok tt
 
-unfoldable pub check : List ℕ → Checked
+unfoldable pub check : List ℕ → Result Unit Refusal
 check s = checked_of (judge s)
 
 -- its number: 0 if accepted
-abbrev pub checked_number : Checked → ℕ
-checked_number Accepted = 0
-checked_number (Refused e) = number_of e
+abbrev pub checked_number : Result Unit Refusal → ℕ
+checked_number (Ok u) = 0
+checked_number (Err e) = number_of e

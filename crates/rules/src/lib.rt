@@ -1,11 +1,3 @@
-// Rules 9 to 12 on a decoded sheet, and the answer of a check.
+// Rules 9 to 12 on a decoded sheet, and the answer of a check. Definitions alone: see specs/.
 
 #![tactic(auto)]
-
-use refusal::Refusal;
-
-#[derive(Clone, Copy)]
-pub enum Checked {
-    Accepted,
-    Refused(Refusal),
-}

@@ -8,8 +8,8 @@ use native.Mathlib.Omega.{arith}
 use native.Mathlib.Numerals.{add-one}
 use lib.ListN.{length, get_or, set, take, drop, replicate, length-set, length-replicate}
 use lib.Seq.{length-take-le, take-suc-set, drop-cons}
-use Rattle.toposort.specs.declared.Traversal.{Traversal}
-use Rattle.toposort.specs.declared.Traversal.TheVariants.{Done, Cycle}
+use Rattle.std.specs.Prelude.{Result, Ok, Err, IsErrAnd}
+use Rattle.toposort.specs.declared.Cycle.{Cycle}
 use Rattle.toposort.specs.Graph.{Graph, Within, Structs}
 use Rattle.toposort.specs.Sort.{Walk, cycle, done, and_then, finish, by_mark, visit_all, visit, sort, is_ring, sorted_of, ringed, order}
 use Rattle.toposort.specs.Adjacency.{item_numbers, graph_of, Adjacency, Room, Visited, VisitedAll, Sorted, unmarked}
@@ -19,11 +19,11 @@ use Rattle.toposort.proofs.MoreItems.{more_items}
 
 -- ---- the answer is known
 
-pub visited_as : {g : Graph} {levels i at : ℕ} {m o m₁ o₁ : List ℕ} {r s : Traversal} → r ≡ s →
+pub visited_as : {g : Graph} {levels i at : ℕ} {m o m₁ o₁ : List ℕ} {r s : Result ℕ Cycle} → r ≡ s →
     Visited g levels i m o at r m₁ o₁ → Visited g levels i m o at s m₁ o₁
 visited_as {g} {levels} {i} {at} {m} {o} {m₁} {o₁} {r} {s} e a = rw e at a
 
-pub all_as : {g : Graph} {levels at : ℕ} {js m o m₁ o₁ : List ℕ} {r s : Traversal} → r ≡ s →
+pub all_as : {g : Graph} {levels at : ℕ} {js m o m₁ o₁ : List ℕ} {r s : Result ℕ Cycle} → r ≡ s →
     VisitedAll g levels js m o at r m₁ o₁ → VisitedAll g levels js m o at s m₁ o₁
 all_as {g} {levels} {at} {js} {m} {o} {m₁} {o₁} {r} {s} e a = rw e at a
 
@@ -62,7 +62,7 @@ room_marked r h e = (room_inner r h e).0
 
 -- the place is free when those that the struct holds are visited
 pub place_free : {g : Graph} {levels i at x : ℕ} {m o m₁ o₁ : List ℕ} → Within g item_numbers → Room m o at → i < item_numbers →
-    get_or m i 0 ≡ 0 → VisitedAll g levels (g i) (set m i 1) o at (Done x) m₁ o₁ → x < item_numbers
+    get_or m i 0 ≡ 0 → VisitedAll g levels (g i) (set m i 1) o at (Ok x) m₁ o₁ → x < item_numbers
 place_free {g} {levels} {i} {at} {x} {m} {o} {m₁} {o₁} within r h e a =
     let inner = room_inner r h e in
     let after =
@@ -88,7 +88,7 @@ then_ring : {w : Walk} (v : Walk) (next : List ℕ → List ℕ → Walk) → cy
 then_ring {w} v next e h = rw (sym e) at h
 
 pub going_next : {g : Graph} {levels : ℕ} {w : Walk} {js m o m₁ o₁ : List ℕ} {j e x : ℕ} → Within g item_numbers → j < item_numbers →
-    Going g levels w (j ∷ js) m o e → Visited g levels j m o e (Done x) m₁ o₁ → Going g levels w js m₁ o₁ x
+    Going g levels w (j ∷ js) m o e → Visited g levels j m o e (Ok x) m₁ o₁ → Going g levels w js m₁ o₁ x
 unfolding visit_all
 going_next {g} {levels} {w} {js} {m} {o} {m₁} {o₁} {j} {e} {x} within h a b = record {
   left = then_done (visit g levels j m (take e o)) (λ m₂ o₂. visit_all (visit g levels) js m₂ o₂) b.same a.left;
@@ -97,8 +97,8 @@ going_next {g} {levels} {w} {js} {m} {o} {m₁} {o₁} {j} {e} {x} within h a b 
       (visit_moves g item_numbers within levels j m (take e o) h a.room.marks) b.inside b.kept).0;
 }
 
-at_ring : {g : Graph} {levels : ℕ} {w : Walk} {js m o m₁ o₁ : List ℕ} {j e : ℕ} → Going g levels w (j ∷ js) m o e →
-    Visited g levels j m o e Cycle m₁ o₁ → cycle ≡ w
+at_ring : {g : Graph} {levels : ℕ} {w : Walk} {js m o m₁ o₁ : List ℕ} {j e : ℕ} {c : Cycle} → Going g levels w (j ∷ js) m o e →
+    Visited g levels j m o e (Err c) m₁ o₁ → cycle ≡ w
 unfolding visit_all
 at_ring {g} {levels} {w} {js} {m} {o} {m₁} {o₁} {j} {e} a b =
     then_ring (visit g levels j m (take e o)) (λ m₂ o₂. visit_all (visit g levels) js m₂ o₂) b.same a.left
@@ -108,22 +108,26 @@ unfolding visit_all
 at_end_lem a = a.left
 
 module _ {g : Graph} {levels at : ℕ} {ks m₀ o₀ : List ℕ} (size : length o₀ ≡ item_numbers) where
-  pub all_ring : {js m o m₁ o₁ : List ℕ} {j e : ℕ} →
+  pub all_ring : {js m o m₁ o₁ : List ℕ} {j e : ℕ} {r : Result ℕ Cycle} {c : Cycle} → IsErrAnd r (λ d. d ≡ c) →
       Going g levels (visit_all (visit g levels) ks m₀ (take at o₀)) (j ∷ js) m o e →
-      Visited g levels j m o e Cycle m₁ o₁ → VisitedAll g levels ks m₀ o₀ at Cycle m₁ o₁
-  all_ring a b = record { same = at_ring a b; inside = omega arith; kept = b.kept ∙ a.room.order ∙ sym size }
+      Visited g levels j m o e (Err c) m₁ o₁ → VisitedAll g levels ks m₀ o₀ at r m₁ o₁
+  all_ring {r = Ok x} i a b = absurd i
+  all_ring {r = Err d} i a b =
+      record { same = at_ring a b; inside = omega arith; kept = b.kept ∙ a.room.order ∙ sym size }
 
   pub all_done : {m o : List ℕ} {e : ℕ} → Going g levels (visit_all (visit g levels) ks m₀ (take at o₀)) [] m o e →
-      VisitedAll g levels ks m₀ o₀ at (Done e) m o
+      VisitedAll g levels ks m₀ o₀ at (Ok e) m o
   all_done a =
       let r = a.room in record { same = at_end_lem a; inside = omega arith; kept = r.order ∙ sym size }
 
 module _ {g : Graph} {ks : List ℕ} where
-  pub sorted_ring : {js m o m₁ o₁ : List ℕ} {j e : ℕ} → Going g item_numbers (sort g item_numbers ks) (j ∷ js) m o e →
-      Visited g item_numbers j m o e Cycle m₁ o₁ → Sorted g ks Cycle m₁ o₁
-  sorted_ring a b = record { same = at_ring a b; inside = omega arith; kept = b.kept ∙ a.room.order }
+  pub sorted_ring : {js m o m₁ o₁ : List ℕ} {j e : ℕ} {r : Result ℕ Cycle} {c : Cycle} → IsErrAnd r (λ d. d ≡ c) →
+      Going g item_numbers (sort g item_numbers ks) (j ∷ js) m o e → Visited g item_numbers j m o e (Err c) m₁ o₁ →
+      Sorted g ks r m₁ o₁
+  sorted_ring {r = Ok x} i a b = absurd i
+  sorted_ring {r = Err d} i a b = record { same = at_ring a b; inside = omega arith; kept = b.kept ∙ a.room.order }
 
-  pub sorted_done : {m o : List ℕ} {e : ℕ} → Going g item_numbers (sort g item_numbers ks) [] m o e → Sorted g ks (Done e) m o
+  pub sorted_done : {m o : List ℕ} {e : ℕ} → Going g item_numbers (sort g item_numbers ks) [] m o e → Sorted g ks (Ok e) m o
   sorted_done a = let r = a.room in record { same = at_end_lem a; inside = omega arith; kept = r.order }
 
   pub sort_start : {m o : List ℕ} → m ≡ replicate item_numbers 0 → length o ≡ item_numbers → Going g item_numbers (sort g item_numbers ks) ks m o 0
@@ -152,7 +156,7 @@ inner_visit g zero i m o e some = absurd (some refl)
 inner_visit g (suc levels) i m o e some = let y : suc levels - 1 ≡ levels = omega arith in rw (y, e) refl
 
 module _ {g : Graph} {levels i : ℕ} {m o : List ℕ} {at : ℕ} where
-  pub visited_already : 1 < get_or m i 0 → at ≤ length o → Visited g levels i m o at (Done at) m o
+  pub visited_already : 1 < get_or m i 0 → at ≤ length o → Visited g levels i m o at (Ok at) m o
   unfolding visit
   visited_already h l = record { same = go levels; inside = l; kept = refl }
     where
@@ -161,7 +165,7 @@ module _ {g : Graph} {levels i : ℕ} {m o : List ℕ} {at : ℕ} where
       go (suc k) =
           marked_two (get_or m i 0) m (take at o) (finish i (visit_all (visit g k) (g i) (set m i 1) (take at o))) h
 
-  pub visited_ring : get_or m i 0 ≡ 1 → Visited g levels i m o at Cycle m o
+  pub visited_ring : {c : Cycle} → get_or m i 0 ≡ 1 → Visited g levels i m o at (Err c) m o
   unfolding visit
   visited_ring h = record { same = go levels; inside = omega arith; kept = refl }
     where
@@ -169,22 +173,23 @@ module _ {g : Graph} {levels i : ℕ} {m o : List ℕ} {at : ℕ} where
       go zero = rw h refl
       go (suc k) = rw h refl
 
-  pub visited_deep : get_or m i 0 ≡ 0 → levels ≡ 0 → Visited g levels i m o at Cycle m o
+  pub visited_deep : {c : Cycle} → get_or m i 0 ≡ 0 → levels ≡ 0 → Visited g levels i m o at (Err c) m o
   unfolding visit
   visited_deep e z = record { same = rw (z, e) refl; inside = omega arith; kept = refl }
 
   module _ (e : get_or m i 0 ≡ 0) (some : levels ≡ 0 → ⊥) where
-    pub visited_below : {m₁ o₁ : List ℕ} → VisitedAll g (levels - 1) (g i) (set m i 1) o at Cycle m₁ o₁ →
-        Visited g levels i m o at Cycle m₁ o₁
-    visited_below a = record {
+    pub visited_below : {m₁ o₁ : List ℕ} {r : Result ℕ Cycle} {c : Cycle} → IsErrAnd r (λ d. d ≡ c) →
+        VisitedAll g (levels - 1) (g i) (set m i 1) o at (Err c) m₁ o₁ → Visited g levels i m o at r m₁ o₁
+    visited_below {r = Ok x} j a = absurd j
+    visited_below {r = Err d} j a = record {
       same = ap (finish i) a.same ∙ inner_visit g levels i m (take at o) e some;
       inside = omega arith;
       kept = a.kept;
     }
 
     pub visited_done : {x : ℕ} {m₁ o₁ : List ℕ} → length o ≡ item_numbers →
-        VisitedAll g (levels - 1) (g i) (set m i 1) o at (Done x) m₁ o₁ → x < item_numbers →
-        Visited g levels i m o at (Done (x + 1)) (set m₁ i 2) (set o₁ x i)
+        VisitedAll g (levels - 1) (g i) (set m i 1) o at (Ok x) m₁ o₁ → x < item_numbers →
+        Visited g levels i m o at (Ok (x + 1)) (set m₁ i 2) (set o₁ x i)
     visited_done {x} {m₁} {o₁} size a l =
         let h : x < length o₁ = omega (arith, a.kept) in
         let t : take (x + 1) (set o₁ x i) ≡ take x o₁ ++ (i ∷ []) = rw add-one (take-suc-set o₁ x i h) in
@@ -222,11 +227,11 @@ module _ (starts held : List ℕ) (i : ℕ) {from to : ℕ} (a : from ≡ get_or
 -- ---- what a caller of `sort` learns
 
 module _ {g : Graph} {n : ℕ} {js m₁ o₁ : List ℕ} (among : Structs g n js) (few : n ≤ item_numbers) where
-  pub told_ring : Sorted g js Cycle m₁ o₁ → ringed g n js ≡ true
+  pub told_ring : {c : Cycle} → Sorted g js (Err c) m₁ o₁ → ringed g n js ≡ true
   unfolding ringed
   told_ring a = sym (more_items among item_numbers few).0 ∙ sym (ap is_ring a.same)
 
-  pub told_order : {e : ℕ} → Sorted g js (Done e) m₁ o₁ → (ringed g n js ≡ false) × (take e o₁ ≡ order g n js)
+  pub told_order : {e : ℕ} → Sorted g js (Ok e) m₁ o₁ → (ringed g n js ≡ false) × (take e o₁ ≡ order g n js)
   unfolding ringed order
   told_order a =
       (sym (more_items among item_numbers few).0 ∙ sym (ap is_ring a.same), ap sorted_of a.same ∙ (more_items among item_numbers few).1)

@@ -1,8 +1,8 @@
 -- The table of held structs that the code walks (adjacency lists in a row), and what its functions promise.
 use Rattle.std.specs.Prelude.{◌≡◌, List, [], ◌∷◌, ℕ, zero, suc, ◌+◌, ◌-◌, ◌*◌, ◌<◌, ◌≤◌, length, get_or, take, drop}
+use Rattle.std.specs.Prelude.{Result, Ok, Err}
 use Rattle.format.specs.Limits.{most_items, most_fields}
-use Rattle.toposort.specs.declared.Traversal.{Traversal}
-use Rattle.toposort.specs.declared.Traversal.TheVariants.{Done, Cycle}
+use Rattle.toposort.specs.declared.Cycle.{Cycle}
 use Rattle.toposort.specs.Graph.{Graph, Within}
 use Rattle.toposort.specs.Sort.{Walk, cycle, done, visit_all, visit, sort}
 
@@ -37,29 +37,30 @@ pub record Room (m o : List ℕ) (at : ℕ) : Type 0 where
   pub places : at + unmarked m ≤ item_numbers
 
 -- the walk that a traversal's end tells of, with the marks and the order as they are then
-abbrev pub walk_of : Traversal → List ℕ → List ℕ → Walk
-walk_of (Done end) marks order = done marks (take end order)
-walk_of Cycle marks order = cycle
+abbrev pub walk_of : Result ℕ Cycle → List ℕ → List ℕ → Walk
+walk_of (Ok end) marks order = done marks (take end order)
+walk_of (Err e) marks order = cycle
 
-abbrev pub end_of : Traversal → ℕ
-end_of (Done end) = end
-end_of Cycle = 0
+abbrev pub end_of : Result ℕ Cycle → ℕ
+end_of (Ok end) = end
+end_of (Err e) = 0
 
 -- struct i was visited: m, o and at are the marks, the order and its end before, r the answer, m₁ and o₁ what is left
-pub record Visited (g : Graph) (levels i : ℕ) (m o : List ℕ) (at : ℕ) (r : Traversal) (m₁ o₁ : List ℕ) : Type 0 where
+pub record Visited (g : Graph) (levels i : ℕ) (m o : List ℕ) (at : ℕ) (r : Result ℕ Cycle) (m₁ o₁ : List ℕ)
+    : Type 0 where
   pub same : walk_of r m₁ o₁ ≡ visit g levels i m (take at o)
   pub inside : end_of r ≤ length o₁
   pub kept : length o₁ ≡ length o
 
 -- the same of the structs js, one after the other
-pub record VisitedAll (g : Graph) (levels : ℕ) (js m o : List ℕ) (at : ℕ) (r : Traversal) (m₁ o₁ : List ℕ)
+pub record VisitedAll (g : Graph) (levels : ℕ) (js m o : List ℕ) (at : ℕ) (r : Result ℕ Cycle) (m₁ o₁ : List ℕ)
     : Type 0 where
   pub same : walk_of r m₁ o₁ ≡ visit_all (visit g levels) js m (take at o)
   pub inside : end_of r ≤ length o₁
   pub kept : length o₁ ≡ length o
 
 -- the structs js were sorted
-pub record Sorted (g : Graph) (js : List ℕ) (r : Traversal) (m₁ o₁ : List ℕ) : Type 0 where
+pub record Sorted (g : Graph) (js : List ℕ) (r : Result ℕ Cycle) (m₁ o₁ : List ℕ) : Type 0 where
   pub same : walk_of r m₁ o₁ ≡ sort g item_numbers js
   pub inside : end_of r ≤ length o₁
   pub kept : length o₁ ≡ item_numbers

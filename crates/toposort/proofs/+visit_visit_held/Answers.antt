@@ -1,7 +1,6 @@
 -- `visit` and `visit_held` meet their contracts. The number that falls: the levels, and a bit for which of the two runs.
 use native.Mathlib.Omega.{arith}
 use mathlib.Core.Path.{◌≡◌, refl}
-use Prim.Native.Nat.{◌-◌}
 use lib.ListN.{get_or}
 use Rattle.toposort.proofs.TableLaws.{visited_as, all_as, no_mark, room_marked, place_free, going_as, going_next, all_ring, all_done}
 use Rattle.toposort.proofs.TableLaws.{visited_already, visited_ring, visited_deep, visited_below, visited_done}
@@ -22,46 +21,40 @@ visit-returns-then-levels-eq0 t c =
     let e : get_or a.marks.now a.i 0 ≡ 0 = no_mark _ (omega arith) c.if-mark-eq1.false in
     visited_deep e c.if-levels-eq0.true
 
-pub visit-visit_held-r-requires : goal.visit-visit_held-r-requires
-visit-visit_held-r-requires t c =
+pub visit-visit_held-requires : goal.visit-visit_held-requires
+visit-visit_held-requires t c =
     let p = c.requires in
     let a = c.args in
     let e : get_or a.marks.now a.i 0 ≡ 0 = no_mark _ (omega arith) c.if-mark-eq1.false in
     (omega arith, (p.0, p.1, room_marked p.2 p.0 e))
 
-pub visit-bounds-order-e : goal.visit-bounds-order-e
-visit-bounds-order-e t c =
+pub visit-bounds-order-end : goal.visit-bounds-order-end
+visit-bounds-order-end t c =
     let p = c.requires in
     let a = c.args in
     let e : get_or a.marks.now a.i 0 ≡ 0 = no_mark _ (omega arith) c.if-mark-eq1.false in
-    place_free p.1.within p.2 p.0 e (all_as c.in-Done.is c.visit_held-r.ensures)
+    place_free p.1.within p.2 p.0 e (all_as c.in_ok-end.was c.visit_held.ensures)
 
-pub visit-overflow_add-end : goal.visit-overflow_add-end
-visit-overflow_add-end t c = let free = visit-bounds-order-e t c in omega arith
-
-pub visit-returns-in-Cycle : goal.visit-returns-in-Cycle
-visit-returns-in-Cycle t c =
+pub visit-returns-in_err-end : goal.visit-returns-in_err-end
+visit-returns-in_err-end t c =
     let a = c.args in
     let e : get_or a.marks.now a.i 0 ≡ 0 = no_mark _ (omega arith) c.if-mark-eq1.false in
-    visited_below e c.if-levels-eq0.false (all_as c.in-Cycle.is c.visit_held-r.ensures)
+    visited_below e c.if-levels-eq0.false c.from_residual.ensures.1 (all_as c.in_err-end.was c.visit_held.ensures)
 
-pub visit-returns-in-Done : goal.visit-returns-in-Done
-visit-returns-in-Done t c =
+pub visit-returns : goal.visit-returns
+visit-returns t c =
     let p = c.requires in
     let a = c.args in
     let e : get_or a.marks.now a.i 0 ≡ 0 = no_mark _ (omega arith) c.if-mark-eq1.false in
-    let inner = all_as c.in-Done.is c.visit_held-r.ensures in
-    visited_done e c.if-levels-eq0.false p.2.order inner (let p = c.requires in
-    let a = c.args in
-    let e : get_or a.marks.now a.i 0 ≡ 0 = no_mark _ (omega arith) c.if-mark-eq1.false in
-    place_free p.1.within p.2 p.0 e (all_as c.in-Done.is c.visit_held-r.ensures))
+    let inner = all_as c.in_ok-end.was c.visit_held.ensures in
+    visited_done e c.if-levels-eq0.false p.2.order inner (place_free p.1.within p.2 p.0 e inner)
 
 pub visit_held-loop-k-init : goal.visit_held-loop-k-init
 visit_held-loop-k-init t c =
     let p = c.requires in
     let a = c.args in
-    let from = c.start_to_usize-k.ensures in
-    let to = c.start_to_usize-end.ensures in (
+    let from = c.from-start.ensures in
+    let to = c.from-stop.ensures in (
       table_inside a.starts.now a.held.now a.i from to p.1 p.0,
       going_as (table_part a.starts.now a.held.now a.i from to) record { left = refl; room = p.2 },
     )
@@ -72,35 +65,35 @@ visit_held-bounds-held-k t c =
     let v = c.loop-k.invariant in
     omega (arith, p.1.size)
 
-pub visit_held-visit-r-requires : goal.visit_held-visit-r-requires
-visit_held-visit-r-requires t c = (omega arith, (c.to_usize-j.ensures.1, c.requires.1, c.loop-k.invariant.1.room))
+pub visit_held-bounds-marks-j : goal.visit_held-bounds-marks-j
+visit_held-bounds-marks-j t c =
+    let room = c.loop-k.invariant.1.room in
+    omega arith
 
-pub visit_held-returns-in-Cycle : goal.visit_held-returns-in-Cycle
-visit_held-returns-in-Cycle t c =
+pub visit_held-visit-requires : goal.visit_held-visit-requires
+visit_held-visit-requires t c = (omega arith, (omega arith, c.requires.1, c.loop-k.invariant.1.room))
+
+pub visit_held-returns-in_err-end : goal.visit_held-returns-in_err-end
+visit_held-returns-in_err-end t c =
     let v = c.loop-k.invariant in
-    let now = going_as (part_next _ _ _ c.loop-k-test.true v.0 c.to_usize-j.ensures.0) v.1 in
-    all_ring c.requires.2.order now (visited_as c.in-Cycle.is c.visit-r.ensures)
+    let now = going_as (part_next _ _ _ (omega arith) v.0 c.from-j.ensures) v.1 in
+    all_ring c.requires.2.order c.from_residual.ensures.1 now (visited_as c.in_err-end.was c.visit.ensures)
 
 pub visit_held-loop-k-preserved-then-marks-j-gt1 : goal.visit_held-loop-k-preserved-then-marks-j-gt1
 visit_held-loop-k-preserved-then-marks-j-gt1 t c =
     let v = c.loop-k.invariant in
     let within = c.requires.1.within in
-    let now = going_as (part_next _ _ _ c.loop-k-test.true v.0 c.to_usize-j.ensures.0) v.1 in
+    let now = going_as (part_next _ _ _ (omega arith) v.0 c.from-j.ensures) v.1 in
     let room = now.room in
-    (v.0, going_next within c.to_usize-j.ensures.1 now (visited_already c.if-marks-j-gt1.true (omega arith)))
+    (v.0, going_next within (omega arith) now (visited_already c.if-marks-j-gt1.true (omega arith)))
 
 pub visit_held-loop-k-preserved : goal.visit_held-loop-k-preserved
 visit_held-loop-k-preserved t c =
     let v = c.loop-k.invariant in
     let within = c.requires.1.within in
-    let now = going_as (part_next _ _ _ c.loop-k-test.true v.0 c.to_usize-j.ensures.0) v.1 in
-    (v.0, going_next within c.to_usize-j.ensures.1 now (visited_as c.in-Done.is c.visit-r.ensures))
+    let now = going_as (part_next _ _ _ (omega arith) v.0 c.from-j.ensures) v.1 in
+    (v.0, going_next within (omega arith) now (visited_as c.in_ok-end.was c.visit.ensures))
 
 pub visit_held-returns : goal.visit_held-returns
 visit_held-returns t c =
-    all_done c.requires.2.order (going_as (part_end _ _ _ c.loop-k-test.false) c.loop-k.invariant.1)
-
-pub visit_held-bounds-marks-j : goal.visit_held-bounds-marks-j
-visit_held-bounds-marks-j t c =
-    let room = c.loop-k.invariant.1.room in
-    omega (arith, c.to_usize-j.ensures.1)
+    all_done c.requires.2.order (going_as (part_end c.args.held.now c.loop-k.k c.from-stop.result (omega arith)) c.loop-k.invariant.1)

@@ -12,10 +12,7 @@ abbrev pub decreases-visit_held : goal.decreases-visit_held
 decreases-visit_held l = 2 * l.levels + 1
 
 abbrev pub invariant-visit_held-loop-k : goal.invariant-visit_held-loop-k
-invariant-visit_held-loop-k l = (l.end ≤ length l.held) × Going (graph_of l.starts l.held) l.levels
+invariant-visit_held-loop-k l = (l.stop ≤ length l.held) × Going (graph_of l.starts l.held) l.levels
     (visit_all (visit·spec (graph_of l.starts l.held) l.levels) (graph_of l.starts l.held l.i) l.initial.marks
     (take l.at l.initial.order))
-    (take (l.end - l.k) (drop l.k l.held)) l.marks l.order l.e
-
-abbrev pub decreases-visit_held-loop-k : goal.decreases-visit_held-loop-k
-decreases-visit_held-loop-k l = l.end - l.k
+    (take (l.stop - l.k) (drop l.k l.held)) l.marks l.order l.end
