@@ -15,7 +15,6 @@ use Rattle.lexical.specs.Bytes.{within, every}
 use Rattle.lexical.proofs.BoolLaws.{both, not-true}
 use Rattle.refusal.specs.declared.Refusal.TheVariants.{BadKind}
 use Rattle.format.specs.declared.Atom.{Atom}
-use Rattle.format.specs.declared.Atom.TheVariants as Atom
 use Rattle.format.specs.declared.ItemKind.{ItemKind}
 use Rattle.format.specs.declared.ItemKind.TheVariants as Part
 use Rattle.format.specs.declared.Template.TheVariants as Template

@@ -3,7 +3,7 @@ use Rattle.std.specs.Prelude.{◌≡◌, List, [], map, false, ℕ, ◌<◌, ◌
 use Rattle.format.specs.Limits.{most_items}
 use Rattle.format.specs.Types.{str, none}
 use Rattle.format.specs.Sheet.{free, Argument, Function, Body, struct, enum, cxx_type, rust_type, function, Item}
-use Rattle.format.specs.Decoding.{item, type}
+use Rattle.format.specs.Decoding.{item}
 use Rattle.syntax.specs.Items.{item_at}
 pub use Rattle.cursor.specs.Yielding.{value_or, next_of, Yields}
 unfoldable pub use Rattle.names.specs.Naming.{name_at, names_at}

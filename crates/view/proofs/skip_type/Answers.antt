@@ -1,5 +1,4 @@
 use native.Mathlib.Omega.{arith}
-use Prim.Native.Nat.{◌-◌}
 use Rattle.cursor.proofs.WidthLaws.{width_le}
 use Rattle.types.proofs.KindLaws.{kind_room}
 use Rattle.view.proofs.SkipLaws.{ending_whole, ending_inner, ending_atom, ending_name, ending_str}
