@@ -1,6 +1,5 @@
 use native.Mathlib.Omega.{arith}
 use mathlib.Core.Path.{refl, sym, ◌∙◌}
-use Prim.Native.Nat.{◌-◌}
 use Rattle.clash.specs.Clashes.{clashes}
 use Rattle.clash.proofs.ListLaws.{items_turn, items_hit, items_end}
 use Rattle.clash.proofs.clash_behind.Goals as goal

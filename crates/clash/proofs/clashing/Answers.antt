@@ -1,6 +1,5 @@
 use native.Mathlib.Omega.{arith}
 use mathlib.Core.Path.{refl, sym, ◌∙◌}
-use Prim.Native.Nat.{◌-◌}
 use Rattle.clash.specs.Clashes.{clashes}
 use Rattle.clash.proofs.ListLaws.{pairs_turn, pairs_hit, pairs_end}
 use Rattle.clash.proofs.clashing.Goals as goal

@@ -1,6 +1,5 @@
 use native.Mathlib.Omega.{arith}
 use mathlib.Core.Path.{refl, sym, ◌∙◌}
-use Prim.Native.Nat.{◌-◌}
 use Rattle.lexical.proofs.BoolLaws.{not-true, not-false}
 use Rattle.clash.proofs.ViewLaws.{depths_differ, spaces_turn, spaces_differ, spaces_end}
 use mathlib.Core.Path.{ap}
