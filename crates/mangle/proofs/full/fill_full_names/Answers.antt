@@ -1,5 +1,4 @@
 use native.Mathlib.Omega.{arith}
-use Prim.Native.Nat.{◌-◌}
 use mathlib.Core.Path.{refl}
 use Rattle.mangle.proofs.FullLaws.{filled_same, item_left, filled_next}
 use borrow.Author.Rules.{rules}

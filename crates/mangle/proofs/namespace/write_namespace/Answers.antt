@@ -1,5 +1,4 @@
 use native.Mathlib.Omega.{arith}
-use Prim.Native.Nat.{◌-◌}
 use Rattle.mangle.proofs.NameLaws.{spaces_none, spaces_turn, spaces_all}
 use Rattle.mangle.proofs.namespace.write_namespace.Goals as goal
 
