@@ -1,4 +1,3 @@
-use Prim.Native.Nat.{◌-◌}
 use native.Mathlib.Omega.{arith}
 use Rattle.shape.proofs.CommaLaws.{listed_none}
 use Rattle.shape.proofs.ArgumentLaws.{listed_argument, listed_arguments}
