@@ -20,7 +20,7 @@ use out::{Content, next_section, placed, prepare};
 use shim::write_function_shim;
 use summary::load_summary;
 use tables::{Pool, Table, function};
-use view::ItemView;
+use view::{FormView, ItemView};
 
 // ---- declarations
 
@@ -128,13 +128,10 @@ pub fn write_opaque_type_layout(
     write_layout(s, t, pool, v, b"align", b"alignof", c, out);
 }
 
-fn is_hidden(header: bool, form: u32) -> bool
-    ensures { result ≡ hidden_form header form }
+fn is_hidden(header: bool, form: FormView) -> bool
+    ensures { result ≡ hidden_form header (form_of form) }
 {
-    if form == 0 {
-        return false;
-    }
-    header
+    header && form.self_type().is_some()
 }
 
 // Behind a section.
