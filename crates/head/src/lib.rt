@@ -6,7 +6,8 @@ ghost use Rattle.lexical.specs.Bytes.{bytes};
 ghost use Rattle.lexical.specs.Decimal.{pick_text};
 ghost use Rattle.syntax.specs.Items.{item_at};
 ghost use Rattle.bridge.specs.WriteType.{write_type_space, write_return_type};
-ghost use Rattle.bridge.specs.Write.{commas, is_cxx_main, local_name, shim_decl};
+ghost use Rattle.bridge.specs.Write.{commas, is_const, is_cxx_main, local_name, shim_decl};
+ghost use Rattle.view.specs.Views.{form_of};
 ghost use Rattle.sink.specs.Sink.{sink, Wrote};
 ghost use Rattle.summary.specs.Summaries.{Summary};
 ghost use Rattle.tables.specs.Tables.{items_of, function_of, argument_of, Tabled, Item, Function, Arguments, Lent};
@@ -16,16 +17,7 @@ use shape::write_outermost_space;
 use sink::{advance, put_bytes, put_unless, put_when};
 use summary::kept_length;
 use tables::{Pool, Table, put_name_of, reads};
-use view::{FunctionView, ItemView, argument};
-
-fn both(a: bool, b: bool) -> bool
-    ensures { result ≡ a && b }
-{
-    if a {
-        return b;
-    }
-    false
-}
+use view::{FormView, FunctionView, ItemView, argument};
 
 // Whether the function is the program's `main`. Its name is read last, and only if the rest holds.
 fn is_main(s: &[u8], t: &[u32; Table::PLACES], v: ItemView, f: FunctionView) -> bool
@@ -34,15 +26,10 @@ fn is_main(s: &[u8], t: &[u32; Table::PLACES], v: ItemView, f: FunctionView) -> 
     ensures { result ≡ is_cxx_main (item_at (items_of s.now t.now)
         v.number) (function_of s.now t.now f.number) }
 {
-    let bare = f.arguments == 0;
-    let root = both(bare, v.depth == 0);
-    let free = both(root, f.form == 0);
-    let void = both(free, !f.returns);
-    let calm = both(void, !f.throws);
-    if calm {
-        return reads(s, t, v.name, b"main");
+    if f.form.self_type().is_some() {
+        return false;
     }
-    false
+    f.arguments == 0 && v.depth == 0 && !f.returns && !f.throws && reads(s, t, v.name, b"main")
 }
 
 // The type that the shim returns: that of the function, but for `main`.
@@ -64,8 +51,7 @@ fn write_shim_type(
         (function_of s.now t.now f.number).return))
         (sink out.new result) }
 {
-    let main = is_main(s, t, v, f);
-    if main {
+    if is_main(s, t, v, f) {
         return put_bytes(out, at, b"int ");
     }
     if f.returns {
@@ -92,12 +78,14 @@ fn write_local_name(
         (function_of s.now t.now f.number))
         (sink out.new result) }
 {
-    if f.form == 0 {
-        return put_name_of(s, t, pool, v.name, out, at);
+    match f.form.self_type() {
+        None => put_name_of(s, t, pool, v.name, out, at),
+        Some(i) => {
+            let owned = write_cxx_name(s, t, pool, i, out, at);
+            let behind = put_bytes(out, owned, b"::");
+            put_name_of(s, t, pool, v.name, out, behind)
+        }
     }
-    let owned = write_cxx_name(s, t, pool, f.owner, out, at);
-    let behind = put_bytes(out, owned, b"::");
-    put_name_of(s, t, pool, v.name, out, behind)
 }
 
 // Parameter j.
@@ -147,14 +135,18 @@ fn write_parameters(
     }
     let mut here = at;
     let mut comma = false;
-    let mut j: u32 = 0;
-    while j < f.arguments {
+    for j in 0..f.arguments {
         let behind = put_when(out, here, comma, b", ");
         here = write_parameter(s, t, pool, f, offsets, j, out, behind);
         comma = true;
-        j = j + 1;
     }
     here
+}
+
+fn is_const(form: FormView) -> bool
+    ensures { result ≡ is_const (form_of form) }
+{
+    matches!(form, FormView::ConstMethod(_))
 }
 
 // The head of the function's shim.
@@ -182,6 +174,6 @@ pub fn write_shim_decl(
     let c = put_bytes(out, b, b"(");
     let d = write_parameters(s, t, pool, f, offsets, out, c);
     let e = put_bytes(out, d, b")");
-    let g = put_when(out, e, f.form == 1, b" const");
+    let g = put_when(out, e, is_const(f.form), b" const");
     put_unless(out, g, f.throws, b" noexcept")
 }

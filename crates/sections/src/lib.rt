@@ -10,6 +10,7 @@ ghost use Rattle.bridge.specs.Write.{write_rust_function_decl, write_opaque_type
 ghost use Rattle.bridge.specs.Write.{write_opaque_type_layout};
 ghost use Rattle.names.specs.Digests.{digests_at};
 ghost use Rattle.out.specs.State.{content_of};
+ghost use Rattle.view.specs.Views.{form_of};
 ghost use Rattle.sections.specs.Runs.{Representing, Runs, hidden_form, section_of, shim_section, sheet_of};
 ghost use Rattle.summary.specs.Summaries.{Summaries};
 ghost use Rattle.tables.specs.Tables.{names_in, items_of, function_of, Item, Lent};

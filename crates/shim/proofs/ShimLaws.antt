@@ -10,7 +10,7 @@ use Rattle.lexical.proofs.BoolLaws.{by_cases, both}
 use Rattle.format.specs.Types.{Ty}
 use Rattle.format.specs.Sheet.{Function, Item, Sheet}
 use Rattle.format.specs.Decoding.{type}
-use Rattle.std.specs.Prelude.{Option, None, Some, ◌∷◌, ⊥}
+use Rattle.std.specs.Prelude.{Option, None, Some, ◌∷◌}
 use Rattle.syntax.specs.Items.{self_type}
 use Rattle.format.specs.Sheet.{Form, free, const_method, mut_method, associated}
 use Rattle.view.specs.Views.{self_number}

@@ -1,4 +1,3 @@
-use Prim.Native.Nat.{◌-◌}
 use native.Mathlib.Omega.{arith}
 use Rattle.shape.proofs.CommaLaws.{listed_none}
 use Rattle.count_type.proofs.CountLaws.{wrote_counted}
@@ -15,18 +14,16 @@ returns-then-n-gt0 c =
     c.advance.ensures
 
 pub loop-j-init : goal.loop-j-init
-loop-j-init c = (omega arith, listed_none _ _ _ _)
+loop-j-init c = listed_none _ _ _ _
 
 pub write_parameter-here-requires : goal.write_parameter-here-requires
 write_parameter-here-requires c =
     (c.requires.0, c.requires.1.arguments, omega arith, omega (arith, c.requires.1.room))
 
 pub loop-j-preserved : goal.loop-j-preserved
-loop-j-preserved c = (
-  omega arith,
-  listed_argument _ c.requires.1.arguments (omega arith) c.loop-j.invariant.1
-      c.put_when-behind.ensures c.write_parameter-here.ensures,
-)
+loop-j-preserved c =
+    listed_argument _ c.requires.1.arguments (omega arith) c.loop-j.invariant
+    c.put_when-behind.ensures c.write_parameter-here.ensures
 
 pub returns : goal.returns
-returns c = listed_arguments _ c.requires.1.arguments (omega arith) c.loop-j.invariant.1
+returns c = listed_arguments _ c.requires.1.arguments (omega arith) c.loop-j.invariant

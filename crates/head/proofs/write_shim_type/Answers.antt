@@ -4,18 +4,18 @@ use Rattle.shape.proofs.FunctionLaws.{returned}
 use Rattle.head.proofs.HeadLaws.{return_gives, return_none}
 use Rattle.head.proofs.write_shim_type.Goals as goal
 
-pub returns-then-main : goal.returns-then-main
-returns-then-main c = first_text _ (sym c.is_main-main.ensures ∙ c.if-main.true) c.put_bytes.ensures
+pub returns-then-is_main : goal.returns-then-is_main
+returns-then-is_main c = first_text _ (sym c.is_main.ensures ∙ c.if-is_main.true) c.put_bytes.ensures
 
 pub write_outermost_space-requires : goal.write_outermost_space-requires
 write_outermost_space-requires c = (c.requires.0, (returned c.requires.2 c.if-f.true).1)
 
 pub returns-then-f : goal.returns-then-f
 returns-then-f c =
-    second_text _ (sym c.is_main-main.ensures ∙ c.if-main.false) (return_gives c.requires.2 c.if-f.true
+    second_text _ (sym c.is_main.ensures ∙ c.if-is_main.false) (return_gives c.requires.2 c.if-f.true
     c.write_outermost_space.ensures)
 
 pub returns : goal.returns
 returns c =
-    second_text _ (sym c.is_main-main.ensures ∙ c.if-main.false) (return_none c.requires.2 c.if-f.false
+    second_text _ (sym c.is_main.ensures ∙ c.if-is_main.false) (return_none c.requires.2 c.if-f.false
     c.put_bytes-2.ensures)
