@@ -2,16 +2,16 @@
 use mathlib.Core.Path.{◌≡◌, refl, sym, ap, ap₂, ◌∙◌}
 use mathlib.Core.List.{List, [], ◌∷◌}
 use mathlib.Core.Bool.{Bool, true, false, ◌&&◌}
-use Prim.Native.Nat.{ℕ, zero, suc, ◌+◌, ◌<◌, ◌≤◌}
-use lib.Dec.{eqb}
+use Prim.Native.Nat.{ℕ, ◌+◌, ◌<◌, ◌≤◌}
 use lib.ListN.{length, get_or, drop}
-use borrow.Author.Tests.{eqb-true, eqb-false}
 use Rattle.lexical.specs.Bytes.{same}
-use Rattle.lexical.proofs.BoolLaws.{by_cases}
 use Rattle.format.specs.Bits.{bits, width_of}
 use Rattle.format.specs.Sheet.{Name, Item}
-use Rattle.format.specs.Decoding.{form_of}
-use Rattle.syntax.specs.Items.{item_at, full_name, is_function}
+use native.Mathlib.Omega.{arith}
+use Rattle.std.specs.Prelude.{Option, None, Some, is_some, not}
+use Rattle.view.specs.Views.{self_number}
+use Rattle.view.proofs.FormLaws.{free_form, self_there}
+use Rattle.syntax.specs.Items.{full_name, is_function}
 use Rattle.cursor.specs.declared.Found.{Found}
 use Rattle.view.specs.declared.ItemView.{ItemView}
 use Rattle.view.specs.declared.FunctionView.{FunctionView}
@@ -177,38 +177,35 @@ keys_apart {v} {j} whole k a l d =
 abbrev owners_of : List ℕ → List ℕ → List ℕ → FunctionView → List Name
 owners_of s names items f = owner_names (items_at s names items) (function_at s names items f.number).form
 
-owner_number : (all : List Item) (k i : ℕ) → (k ≡ 0 → ⊥) → owner_names all (form_of k i) ≡ (item_at all i).cxx ∷ []
-unfolding owner_names
-owner_number all zero i h = absurd (h refl)
-owner_number all (suc zero) i h = refl
-owner_number all (suc (suc zero)) i h = refl
-owner_number all (suc (suc (suc k))) i h = refl
-
-module _ {s names items : List ℕ} where
-  owner_none : {f : FunctionView} → FunctionAt s names items f → f.form ≡ 0 → owners_of s names items f ≡ []
+module _ {s names items : List ℕ} {f : FunctionView} (a : FunctionAt s names items f) {o : Option ℕ}
+    (e : o ≡ self_number f.form) where
+  pub owner_none : o ≡ None → owners_of s names items f ≡ []
   unfolding owner_names
-  owner_none {f} a e = rw (a.view.form, e)
+  owner_none t = rw (free_form a.view.form e t)
 
-  owner_one : {f : FunctionView} → FunctionAt s names items f → (f.form ≡ 0 → ⊥) →
-      owners_of s names items f ≡ (item_no s names items f.owner).cxx ∷ []
-  owner_one {f} a h = rw a.view.form (owner_number (items_at s names items) f.form f.owner h)
+  pub owner_one : {i : ℕ} → o ≡ Some i → owners_of s names items f ≡ (item_no s names items i).cxx ∷ []
+  unfolding owner_names
+  owner_one t = rw (self_there a.view.form e t)
 
-  module _ {f g : FunctionView} (a : FunctionAt s names items f) (b : FunctionAt s names items g) where
-    pub owners_none : f.form ≡ 0 → eqb g.form 0 ≡ same_names (owners_of s names items f) (owners_of s names items g)
-    unfolding same_names
-    owners_none e =
-        by_cases (eqb g.form 0)
-        (λ t. rw (t, owner_none a e, owner_none b (eqb-true g.form 0 t)))
-        (λ t. rw (t, owner_none a e, owner_one b (eqb-false g.form 0 t)))
+-- of two lists of none or one
+pub owners_none : {xs ys : List Name} {b : Bool} (o : Option ℕ) (n : ℕ → Name) → xs ≡ [] → is_some o ≡ not b →
+    (o ≡ None → ys ≡ []) → ((i : ℕ) → o ≡ Some i → ys ≡ n i ∷ []) → b ≡ same_names xs ys
+unfolding same_names
+owners_none {b = true} None n x t y z = rw (x, y refl)
+owners_none {b = false} None n x t y z = absurd (let q : ◌≡◌ {A = ℕ} 0 1 = cc in omega arith)
+owners_none {b = false} (Some i) n x t y z = rw (x, z i refl)
+owners_none {b = true} (Some i) n x t y z = absurd (let q : ◌≡◌ {A = ℕ} 0 1 = cc in omega arith)
 
-    pub owners_differ : (f.form ≡ 0 → ⊥) → g.form ≡ 0 → false ≡ same_names (owners_of s names items f) (owners_of s names items g)
-    unfolding same_names
-    owners_differ h e = rw (owner_one a h, owner_none b e)
+pub owners_differ : {xs ys : List Name} {n : Name} → xs ≡ n ∷ [] → ys ≡ [] → false ≡ same_names xs ys
+unfolding same_names
+owners_differ x y = rw (x, y)
 
-    pub owners_both : {v w : ItemView} {r : Bool} → (f.form ≡ 0 → ⊥) → (g.form ≡ 0 → ⊥) →
-        ItemAt s names items v → v.number ≡ f.owner → ItemAt s names items w → w.number ≡ g.owner →
-        r ≡ same (name_at s (get_or names v.name 0)) (name_at s (get_or names w.name 0)) →
-        r ≡ same_names (owners_of s names items f) (owners_of s names items g)
-    unfolding same_names
-    owners_both h k i e j d t =
-        rw (owner_one a h, owner_one b k, ← e, ← d, ← i.view.cxx, ← j.view.cxx, and_nothing) t
+pub owners_both : {xs ys : List Name} {n m a b : Name} {r : Bool} → xs ≡ n ∷ [] → ys ≡ m ∷ [] → a ≡ n → b ≡ m →
+    r ≡ same a b → r ≡ same_names xs ys
+unfolding same_names
+owners_both x y a b t = rw (x, y, ← a, ← b, and_nothing) t
+
+-- the name of an item of that number
+pub name_of_number : {s names items : List ℕ} {v : ItemView} {i : ℕ} → ItemAt s names items v → v.number ≡ i →
+    name_at s (get_or names v.name 0) ≡ (item_no s names items i).cxx
+name_of_number a e = rw (← e) a.view.cxx

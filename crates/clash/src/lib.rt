@@ -81,15 +81,17 @@ fn same_owner(
         (owner_names (items_at s.now names.now items.now)
         (function_at s.now names.now items.now g.number).form) }
 {
-    if f.form == 0 {
-        return g.form == 0;
+    match f.form.self_type() {
+        None => g.form.self_type().is_none(),
+        Some(i) => match g.form.self_type() {
+            None => false,
+            Some(j) => {
+                let v = item(s, names, items, i);
+                let w = item(s, names, items, j);
+                same_name(s, names, digests, v.name, w.name)
+            }
+        },
     }
-    if g.form == 0 {
-        return false;
-    }
-    let v = item(s, names, items, f.owner);
-    let w = item(s, names, items, g.owner);
-    same_name(s, names, digests, v.name, w.name)
 }
 
 // Whether two functions have the same symbol.

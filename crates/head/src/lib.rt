@@ -6,7 +6,8 @@ ghost use Rattle.lexical.specs.Bytes.{bytes};
 ghost use Rattle.lexical.specs.Decimal.{pick_text};
 ghost use Rattle.syntax.specs.Items.{item_at};
 ghost use Rattle.bridge.specs.WriteType.{write_type_space, write_return_type};
-ghost use Rattle.bridge.specs.Write.{commas, is_cxx_main, local_name, shim_decl};
+ghost use Rattle.bridge.specs.Write.{commas, is_const, is_cxx_main, local_name, shim_decl};
+ghost use Rattle.view.specs.Views.{form_of};
 ghost use Rattle.sink.specs.Sink.{sink, Wrote};
 ghost use Rattle.summary.specs.Summaries.{Summary};
 ghost use Rattle.tables.specs.Tables.{items_of, function_of, argument_of, Tabled, Item, Function, Arguments, Lent};
@@ -16,7 +17,7 @@ use shape::write_outermost_space;
 use sink::{advance, put_bytes, put_unless, put_when};
 use summary::kept_length;
 use tables::{Pool, Table, put_name_of, reads};
-use view::{FunctionView, ItemView, argument};
+use view::{FormView, FunctionView, ItemView, argument};
 
 // Whether the function is the program's `main`. Its name is read last, and only if the rest holds.
 fn is_main(s: &[u8], t: &[u32; Table::PLACES], v: ItemView, f: FunctionView) -> bool
@@ -25,12 +26,10 @@ fn is_main(s: &[u8], t: &[u32; Table::PLACES], v: ItemView, f: FunctionView) -> 
     ensures { result ≡ is_cxx_main (item_at (items_of s.now t.now)
         v.number) (function_of s.now t.now f.number) }
 {
-    f.arguments == 0
-        && f.form == 0
-        && v.depth == 0
-        && !f.returns
-        && !f.throws
-        && reads(s, t, v.name, b"main")
+    if f.form.self_type().is_some() {
+        return false;
+    }
+    f.arguments == 0 && v.depth == 0 && !f.returns && !f.throws && reads(s, t, v.name, b"main")
 }
 
 // The type that the shim returns: that of the function, but for `main`.
@@ -79,12 +78,14 @@ fn write_local_name(
         (function_of s.now t.now f.number))
         (sink out.new result) }
 {
-    if f.form == 0 {
-        return put_name_of(s, t, pool, v.name, out, at);
+    match f.form.self_type() {
+        None => put_name_of(s, t, pool, v.name, out, at),
+        Some(i) => {
+            let owned = write_cxx_name(s, t, pool, i, out, at);
+            let behind = put_bytes(out, owned, b"::");
+            put_name_of(s, t, pool, v.name, out, behind)
+        }
     }
-    let owned = write_cxx_name(s, t, pool, f.owner, out, at);
-    let behind = put_bytes(out, owned, b"::");
-    put_name_of(s, t, pool, v.name, out, behind)
 }
 
 // Parameter j.
@@ -142,6 +143,12 @@ fn write_parameters(
     here
 }
 
+fn is_const(form: FormView) -> bool
+    ensures { result ≡ is_const (form_of form) }
+{
+    matches!(form, FormView::ConstMethod(_))
+}
+
 // The head of the function's shim.
 pub fn write_shim_decl(
     s: &[u8],
@@ -167,6 +174,6 @@ pub fn write_shim_decl(
     let c = put_bytes(out, b, b"(");
     let d = write_parameters(s, t, pool, f, offsets, out, c);
     let e = put_bytes(out, d, b")");
-    let g = put_when(out, e, f.form == 1, b" const");
+    let g = put_when(out, e, is_const(f.form), b" const");
     put_unless(out, g, f.throws, b" noexcept")
 }

@@ -1,11 +1,13 @@
 -- Laws of the names and symbols of items, from what was written of them.
-use mathlib.Core.Path.{◌≡◌, refl, sym}
+use mathlib.Core.Path.{◌≡◌, sym}
 use mathlib.Core.List.{List, [], ◌∷◌, ◌++◌, map, append-nil}
-use Prim.Native.Nat.{ℕ, zero, suc, ◌+◌, ◌<◌}
+use Prim.Native.Nat.{ℕ, ◌+◌, ◌<◌, ◌≤◌}
 use lib.ListN.{get_or, take}
 use Rattle.lexical.specs.Bytes.{bytes}
 use Rattle.format.specs.Sheet.{Name, Function, Item}
-use Rattle.format.specs.Decoding.{form_of}
+use Rattle.std.specs.Prelude.{Option, None, Some}
+use Rattle.view.specs.Views.{self_number}
+use Rattle.view.proofs.FormLaws.{free_form, self_there}
 use Rattle.syntax.specs.Items.{item_at, full_name, self_type}
 use Rattle.syntax.specs.Symbol.{push_all, join}
 use Rattle.syntax.specs.Mangle.{version, extern_fn, operator}
@@ -73,13 +75,6 @@ module _ {s names items : List ℕ} {v : ItemView} (a : ItemAt s names items v) 
 
 -- ---- a function
 
-self_is : (all : List Item) (k i : ℕ) → (k ≡ 0 → ⊥) →
-    map (λ j. (item_at all j).cxx) (self_type (form_of k i)) ≡ (item_at all i).cxx ∷ []
-self_is all zero i h = absurd (h refl)
-self_is all (suc zero) i h = refl
-self_is all (suc (suc zero)) i h = refl
-self_is all (suc (suc (suc k))) i h = refl
-
 module _ {s names items : List ℕ} {f : FunctionView} (b : FunctionAt s names items f) where
   abbrev function : Function
   function = function_at s names items f.number
@@ -88,14 +83,14 @@ module _ {s names items : List ℕ} {f : FunctionView} (b : FunctionAt s names i
   abbrev self : List Name
   self = map (λ i. (item_at (items_at s names items) i).cxx) (self_type function.form)
 
-  pub self_none : f.form ≡ 0 → (r : Sink) → Wrote r (push_all self) r
-  unfolding push_all
-  self_none e r = rw (b.view.form, e) (wrote_nil r)
+  module _ {o : Option ℕ} (e : o ≡ self_number f.form) where
+    pub self_none : o ≡ None → (r : Sink) → Wrote r (push_all self) r
+    unfolding push_all
+    self_none q r = rw (free_form b.view.form e q) (wrote_nil r)
 
-  pub self_one : {v : ItemView} {r t : Sink} → (f.form ≡ 0 → ⊥) → ItemAt s names items v → v.number ≡ f.owner →
-      Wrote r (push_all (name_at s (get_or names v.name 0) ∷ [])) t → Wrote r (push_all self) t
-  self_one h a e p =
-      wrote_as p (rw (b.view.form, self_is (items_at s names items) f.form f.owner h, ← e, a.view.cxx))
+    pub self_one : {i : ℕ} {v : ItemView} {r t : Sink} → o ≡ Some i → ItemAt s names items v → v.number ≡ i →
+        Wrote r (push_all (name_at s (get_or names v.name 0) ∷ [])) t → Wrote r (push_all self) t
+    self_one q a h p = wrote_as p (rw (self_there b.view.form e q, ← h, a.view.cxx))
 
   -- its symbol
   pub symbol : (ns : List Name) {r t u w : Sink} → Wrote r (join (ns ++ version)) t → Wrote t (push_all self) u →

@@ -48,14 +48,18 @@ pub fn write_extern_fn(
         (function_of s.now t.now f.number))
         (sink out.new result) }
 {
-    if f.form == 0 {
-        let version = write_version(s, t, pool, v, out, at);
-        return push_name(s, t, pool, f.rust, out, version);
+    match f.form.self_type() {
+        None => {
+            let version = write_version(s, t, pool, v, out, at);
+            push_name(s, t, pool, f.rust, out, version)
+        }
+        Some(i) => {
+            let self_type = item(s, t, i);
+            let scope = write_version(s, t, pool, v, out, at);
+            let receiver = push_name(s, t, pool, self_type.name, out, scope);
+            push_name(s, t, pool, f.rust, out, receiver)
+        }
     }
-    let self_type = item(s, t, f.owner);
-    let scope = write_version(s, t, pool, v, out, at);
-    let receiver = push_name(s, t, pool, self_type.name, out, scope);
-    push_name(s, t, pool, f.rust, out, receiver)
 }
 
 // A symbol of a type's layout: ends in the type's C++ name, `operator` and the name given.

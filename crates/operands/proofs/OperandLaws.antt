@@ -6,7 +6,7 @@ use Rattle.sink.specs.Sink.{Sink, Wrote}
 use Rattle.sink.proofs.SinkLaws.{◌▷◌, wrote_as}
 use Rattle.format.specs.Decode.{pick}
 use Rattle.format.specs.Sheet.{Function}
-use Rattle.format.specs.Decoding.{form_of}
+use Rattle.view.specs.Views.{form_of}
 use Rattle.rules.specs.Rules.{is_method}
 use Rattle.bridge.specs.Write.{commas, indirect_return, slot, operand, operands}
 use Rattle.view.specs.declared.FunctionView.{FunctionView}
@@ -49,7 +49,7 @@ module _ {s names items offsets : List ℕ} {f : FunctionView} (a : FunctionAt s
       by_bit true e = sym (rw (slot_some a i e) (commas_one b x))
       by_bit false e = sym (rw (slot_empty a i e) (commas_none b))
 
-  pub operands_written : {method comma : Bool} {r t u v : Sink} → method ≡ is_method (form_of f.form f.owner) →
+  pub operands_written : {method comma : Bool} {r t u v : Sink} → method ≡ is_method (form_of f.form) →
       Wrote r (pick_text method (bytes "*this") []) t →
       Wrote t (commas method (map (operand (items_at s names items)) this.arguments)) u →
       comma ≡ (method || ltb 0 f.arguments) →

@@ -1,15 +1,14 @@
 -- Laws of the parameters of a declaration.
 use mathlib.Core.Path.{◌≡◌, refl, sym, ap, ◌∙◌}
-use mathlib.Core.List.{List, [], ◌++◌, map, append-nil}
-use mathlib.Core.Bool.{Bool, true, false, ◌||◌, false≢true}
-use Prim.Native.Nat.{ℕ, zero, suc}
-use lib.Dec.{eqb, ltb}
+use mathlib.Core.List.{List, [], ◌++◌, map}
+use mathlib.Core.Bool.{Bool, true, false, ◌||◌}
+use Prim.Native.Nat.{ℕ}
+use lib.Dec.{ltb}
 use lib.ListN.{length}
 use Rattle.lexical.specs.Bytes.{bytes}
 use Rattle.lexical.specs.Decimal.{pick_text}
 use Rattle.format.specs.Types.{Ty}
 use Rattle.format.specs.Sheet.{Form, free, const_method, mut_method, associated, Function, Item}
-use Rattle.format.specs.Decoding.{form_of}
 use Rattle.format.specs.declared.TypeKind.{TypeKind}
 use Rattle.syntax.specs.Items.{item_at, full_name}
 use Rattle.rules.specs.Rules.{is_method}
@@ -19,7 +18,9 @@ use Rattle.sink.specs.Sink.{Sink, Wrote}
 use Rattle.sink.proofs.SinkLaws.{◌▷◌, wrote_nil, wrote_as}
 use Rattle.view.specs.declared.FunctionView.{FunctionView}
 use Rattle.view.specs.Values.{items_at, function_at, type_here}
-use Rattle.view.specs.Views.{FunctionAt, ArgumentsAt, kind_of_type}
+use Rattle.view.specs.declared.FormView.TheVariants.{Free, ConstMethod, MutMethod, Associated}
+use Rattle.std.specs.Prelude.{◌<◌, Some}
+use Rattle.view.specs.Views.{form_of, self_number, FunctionAt, ArgumentsAt, kind_of_type}
 use Rattle.write_atom.specs.Texts.{space_of_kind}
 use Rattle.write_type.proofs.TypeLaws.{space_is}
 use Rattle.shape.proofs.FunctionLaws.{slot_some, slot_empty, method_is, arguments_count}
@@ -40,31 +41,24 @@ module _ {s names items : List ℕ} {f : FunctionView} (a : FunctionAt s names i
 
   -- ---- the receiver
 
-  module _ {b : Bool} (h : b ≡ is_method (form_of f.form f.owner)) where
-    pub receiver_some : b ≡ true →
-        full_name (item_at all f.owner) ++ pick_text (eqb f.form 1) (bytes " const") [] ++ bytes " &self" ≡
-        commas false (receiver all this.form)
-    receiver_some e = rw a.view.form (by_form f.form f.owner (sym h ∙ e))
-      where
-        by_form : (k i : ℕ) → is_method (form_of k i) ≡ true →
-            full_name (item_at all i) ++ pick_text (eqb k 1) (bytes " const") [] ++ bytes " &self" ≡
-            commas false (receiver all (form_of k i))
-        by_form zero i q = absurd (false≢true q)
-        by_form (suc zero) i q = sym (commas_one false _)
-        by_form (suc (suc zero)) i q = rw append-nil (sym (commas_one false _))
-        by_form (suc (suc (suc k))) i q = absurd (false≢true q)
+  module _ {i : ℕ} where
+    pub receiver_const : f.form ≡ ConstMethod i →
+        full_name (item_at all i) ++ bytes " const" ++ bytes " &self" ≡ commas false (receiver all this.form)
+    receiver_const e = rw (a.view.form.form, e) (sym (commas_one false _))
 
-    pub receiver_none : b ≡ false → [] ≡ commas false (receiver all this.form)
-    receiver_none e = rw a.view.form (by_form f.form f.owner (sym h ∙ e))
-      where
-        by_form : (k i : ℕ) → is_method (form_of k i) ≡ false → [] ≡ commas false (receiver all (form_of k i))
-        by_form zero i q = sym (commas_none false)
-        by_form (suc zero) i q = absurd (false≢true (sym q))
-        by_form (suc (suc zero)) i q = absurd (false≢true (sym q))
-        by_form (suc (suc (suc k))) i q = sym (commas_none false)
+    pub receiver_mut : f.form ≡ MutMethod i →
+        full_name (item_at all i) ++ bytes " &self" ≡ commas false (receiver all this.form)
+    receiver_mut e = rw (a.view.form.form, e) (sym (commas_one false _))
 
-    pub receiver_owner : b ≡ true → f.form ≡ 0 → ⊥
-    receiver_owner e z = false≢true (rw z at (sym h ∙ e))
+    pub receiver_none : f.form ≡ Associated i → [] ≡ commas false (receiver all this.form)
+    receiver_none e = rw (a.view.form.form, e) (sym (commas_none false))
+
+    -- the number of its self type's item
+    pub self_below : self_number f.form ≡ Some i → i < length items
+    self_below e = rw e at a.view.form.owner
+
+  pub receiver_free : f.form ≡ Free → [] ≡ commas false (receiver all this.form)
+  receiver_free e = rw (a.view.form.form, e) (sym (commas_none false))
 
   receiver_count : (x : Form) → is_some (receiver all x) ≡ is_method x
   receiver_count free = refl
@@ -88,7 +82,7 @@ module _ {s names items : List ℕ} {f : FunctionView} (a : FunctionAt s names i
   -- ---- the parameters
 
   module _ {offsets : List ℕ} (g : ArgumentsAt s names items f offsets) {b : Bool}
-      (h : b ≡ is_method (form_of f.form f.owner)) {c : Bool} (d : c ≡ (b || ltb 0 f.arguments)) where
+      (h : b ≡ is_method (form_of f.form)) {c : Bool} (d : c ≡ (b || ltb 0 f.arguments)) where
     pub parameters : {r t u v : Sink} → Wrote r (commas false (receiver all this.form)) t →
         Wrote t (commas b (map (extern_arg all) this.arguments)) u →
         Wrote u (commas c (map (slot_parameter all) (slot all this))) v →

@@ -16,7 +16,7 @@ use shape::{is_method, needs_comma, write_outermost_space, write_pointer, write_
 use sink::{advance, put_bytes, put_when};
 use summary::kept_length;
 use tables::{Pool, Table, put_name_of, type_kind};
-use view::{FunctionView, argument};
+use view::{FormView, FunctionView, argument};
 use write_atom::write_space_after_type;
 
 // ---- the receiver
@@ -36,13 +36,19 @@ fn write_receiver(
         (function_of s.now t.now f.number).form))
         (sink out.new result) }
 {
-    if is_method(f) {
-        let named = write_full_name(s, t, pool, f.owner, out, at);
-        let shared = f.form == 1;
-        let qualified = put_when(out, named, shared, b" const");
-        return put_bytes(out, qualified, b" &self");
+    match f.form {
+        FormView::ConstMethod(i) => {
+            let named = write_full_name(s, t, pool, i, out, at);
+            let qualified = put_bytes(out, named, b" const");
+            put_bytes(out, qualified, b" &self")
+        }
+        FormView::MutMethod(i) => {
+            let named = write_full_name(s, t, pool, i, out, at);
+            put_bytes(out, named, b" &self")
+        }
+        FormView::Associated(_) => at,
+        FormView::Free => at,
     }
-    at
 }
 
 // ---- arguments

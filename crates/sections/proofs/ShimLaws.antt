@@ -2,47 +2,28 @@
 use mathlib.Core.Path.{◌≡◌, refl, sym, ap, ◌∙◌}
 use mathlib.Core.Bool.{Bool, true, false, not, ◌&&◌}
 use Prim.Native.Nat.{ℕ, zero, suc}
-use Rattle.format.specs.Sheet.{Function, Item, Sheet}
-use Rattle.format.specs.Decoding.{form_of}
+use Rattle.format.specs.Sheet.{Form, Function, Item, Sheet}
 use Rattle.bridge.specs.Out as machine
 use Rattle.bridge.specs.Out.{next_section, set_namespace}
 use Rattle.bridge.specs.Write.{is_free, function_shim, write_rust_function_shim}
 use Rattle.pieces.proofs.Machine.{nothing_written}
 use Rattle.sections.specs.Runs.{hidden_form, shim_section}
 
-pub hidden_free : (header : Bool) (form : ℕ) → form ≡ 0 → false ≡ hidden_form header form
-hidden_free header form e = rw e
-
-pub hidden_method : (header : Bool) (form : ℕ) → (form ≡ 0 → ⊥) → header ≡ hidden_form header form
-hidden_method header zero h = absurd (h refl)
-hidden_method header (suc form) h = refl
-
-hidden_form_lem : (header : Bool) (form owner : ℕ) → (header && not (is_free (form_of form owner))) ≡ hidden_form header form
-hidden_form_lem true zero owner = refl
-hidden_form_lem true (suc zero) owner = refl
-hidden_form_lem true (suc (suc zero)) owner = refl
-hidden_form_lem true (suc (suc (suc form))) owner = refl
-hidden_form_lem false zero owner = refl
-hidden_form_lem false (suc form) owner = refl
-
 -- ---- the shim of the function of a number
 
-module _ (s : Sheet) (x : Item) (F : ℕ → Function) {n k : ℕ} (form owner : ℕ) (number : n ≡ k)
-    (e : (F n).form ≡ form_of form owner) where
-  the_form : (F k).form ≡ form_of form owner
+module _ (s : Sheet) (x : Item) (F : ℕ → Function) {n k : ℕ} (number : n ≡ k) {form : Form} (e : (F n).form ≡ form) where
+  the_form : (F k).form ≡ form
   the_form = sym (ap (λ (i : ℕ). (F i).form) number) ∙ e
 
   -- a header does not show a method
   pub hidden_shim : hidden_form s.header form ≡ true → (m : machine.Content) →
       set_namespace x.namespace (next_section m) ≡ shim_section s x (F k) m
   unfolding write_rust_function_shim
-  hidden_shim h m =
-      rw (the_form, hidden_form_lem s.header form owner, h)
-      (sym (nothing_written (set_namespace x.namespace (next_section m))))
+  hidden_shim h m = rw (the_form, h) (sym (nothing_written (set_namespace x.namespace (next_section m))))
 
   pub shown_shim : hidden_form s.header form ≡ false → (m : machine.Content) →
       machine.write (function_shim s x (F n)) (set_namespace x.namespace (next_section m)) ≡ shim_section s x (F k) m
   unfolding write_rust_function_shim
   shown_shim h m =
       ap (λ (i : ℕ). machine.write (function_shim s x (F i)) (set_namespace x.namespace (next_section m))) number
-      ∙ rw (the_form, hidden_form_lem s.header form owner, h)
+      ∙ rw (the_form, h)

@@ -1,10 +1,10 @@
 -- How a Content of the code stands for a state of the definition's machine between two items, and what the functions
 -- of the code do to it.
-use Rattle.std.specs.Prelude.{◌≡◌, List, Bool, false, ℕ, zero, suc}
-use Rattle.format.specs.Sheet.{Name, Function, Item, Sheet}
+use Rattle.std.specs.Prelude.{◌≡◌, List, Bool, ◌&&◌, not, ℕ}
+use Rattle.format.specs.Sheet.{Name, Form, Function, Item, Sheet}
 use Rattle.bridge.specs.Block.{Block}
 use Rattle.bridge.specs.Out as machine
-use Rattle.bridge.specs.Write.{write_rust_function_shim}
+use Rattle.bridge.specs.Write.{is_free, write_rust_function_shim}
 use Rattle.pieces.specs.Between.{named, standing}
 use Rattle.out.specs.declared.Content.{Content}
 use Rattle.out.specs.State.{Stands}
@@ -38,10 +38,9 @@ sheet_of header doxygen items = record { header = header; doxygen = doxygen; ite
 abbrev pub section_of : List ℕ → machine.Content → machine.Content
 section_of t m = machine.write t (machine.next_section m)
 
--- a header does not show what has a self type: forms 1 to 3
-abbrev pub hidden_form : Bool → ℕ → Bool
-hidden_form header zero = false
-hidden_form header (suc form) = header
+-- a header does not show what has a self type
+abbrev pub hidden_form : Bool → Form → Bool
+hidden_form header form = header && not (is_free form)
 
 -- the second pass at a function
 abbrev pub shim_section : Sheet → Item → Function → machine.Content → machine.Content

@@ -10,6 +10,7 @@ ghost use Rattle.bridge.specs.Write.{write_rust_function_decl, write_opaque_type
 ghost use Rattle.bridge.specs.Write.{write_opaque_type_layout};
 ghost use Rattle.names.specs.Digests.{digests_at};
 ghost use Rattle.out.specs.State.{content_of};
+ghost use Rattle.view.specs.Views.{form_of};
 ghost use Rattle.sections.specs.Runs.{Representing, Runs, hidden_form, section_of, shim_section, sheet_of};
 ghost use Rattle.summary.specs.Summaries.{Summaries};
 ghost use Rattle.tables.specs.Tables.{names_in, items_of, function_of, Item, Lent};
@@ -20,7 +21,7 @@ use out::{Content, next_section, placed, prepare};
 use shim::write_function_shim;
 use summary::load_summary;
 use tables::{Pool, Table, function};
-use view::ItemView;
+use view::{FormView, ItemView};
 
 // ---- declarations
 
@@ -128,13 +129,10 @@ pub fn write_opaque_type_layout(
     write_layout(s, t, pool, v, b"align", b"alignof", c, out);
 }
 
-fn is_hidden(header: bool, form: u32) -> bool
-    ensures { result ≡ hidden_form header form }
+fn is_hidden(header: bool, form: FormView) -> bool
+    ensures { result ≡ hidden_form header (form_of form) }
 {
-    if form == 0 {
-        return false;
-    }
-    header
+    header && form.self_type().is_some()
 }
 
 // Behind a section.

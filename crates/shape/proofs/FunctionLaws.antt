@@ -1,22 +1,19 @@
 -- Laws of a function's view: what it returns, its receiver, its arguments.
-use mathlib.Core.Path.{◌≡◌, refl, sym, ap, ◌∙◌}
+use mathlib.Core.Path.{◌≡◌, sym, ap, ◌∙◌}
 use mathlib.Core.List.{List, [], ◌∷◌}
 use mathlib.Core.Bool.{Bool, true, false, false≢true}
-use Prim.Native.Nat.{ℕ, zero, suc}
-use native.Mathlib.Omega.{arith}
-use lib.Dec.{eqb}
+use Prim.Native.Nat.{ℕ}
 use lib.ListN.{length}
-use borrow.Author.Tests.{ne_eqb}
 use Rattle.lexical.proofs.BoolLaws.{by_cases}
 use Rattle.format.specs.Types.{Ret, none, gives}
 use Rattle.format.specs.Sheet.{Function}
-use Rattle.format.specs.Decoding.{type, form_of}
+use Rattle.format.specs.Decoding.{type}
 use Rattle.syntax.specs.Types.{needs_indirect_abi}
 use Rattle.rules.specs.Rules.{is_method}
 use Rattle.bridge.specs.Write.{indirect_return, slot, direct}
 use Rattle.view.specs.declared.FunctionView.{FunctionView}
 use Rattle.view.specs.Values.{Yields, items_at, function_at, type_here}
-use Rattle.view.specs.Views.{return_of, FunctionAt, ArgumentsAt}
+use Rattle.view.specs.Views.{form_of, return_of, FunctionAt, ArgumentsAt}
 use Rattle.cursor.proofs.YieldLaws.{in_turn, got_value, yields}
 use Rattle.shape.proofs.TypeLaws.{here_is, here_yields}
 
@@ -96,19 +93,10 @@ module _ {s names items : List ℕ} {f : FunctionView} (a : FunctionAt s names i
 
   -- ---- its receiver and its arguments
 
-  pub method_is : {b : Bool} → b ≡ is_method (form_of f.form f.owner) → b ≡ is_method this.form
-  method_is h = rw a.view.form h
+  pub method_is : {b : Bool} → b ≡ is_method (form_of f.form) → b ≡ is_method this.form
+  method_is h = rw a.view.form.form h
 
 -- as many as the view says
 pub arguments_count : {s names items offsets : List ℕ} {f : FunctionView} → ArgumentsAt s names items f offsets →
     length (function_at s names items f.number).arguments ≡ f.arguments
 arguments_count a = a.count
-
-pub method_const : (k i : ℕ) → k ≡ 1 → true ≡ is_method (form_of k i)
-method_const k i e = rw e
-
-pub method_other : (k i : ℕ) → (k ≡ 1 → ⊥) → eqb k 2 ≡ is_method (form_of k i)
-method_other zero i h = refl
-method_other (suc zero) i h = absurd (h refl)
-method_other (suc (suc zero)) i h = refl
-method_other (suc (suc (suc k))) i h = ne_eqb (suc (suc (suc k))) 2 (omega arith)

@@ -11,9 +11,7 @@ use Rattle.format.specs.Bits.{bits, bit, index}
 use Rattle.format.specs.Types.{Ty, template}
 use Rattle.format.specs.Decoding.{kind_of, optional, type_body, type_at, type}
 use Rattle.format.specs.declared.Template.{Template}
-use Rattle.format.specs.declared.Template.TheVariants as Template
 use Rattle.format.specs.declared.Pointer.{Pointer}
-use Rattle.format.specs.declared.Pointer.TheVariants as Pointer
 use Rattle.format.specs.declared.TypeKind.{TypeKind}
 use Rattle.format.specs.declared.TypeKind.TheVariants as Kind
 use Rattle.bridge.specs.Write.{Shape, other, shape, slot_type}

@@ -4,9 +4,7 @@ use Rattle.format.specs.Limits.{most_levels}
 use Rattle.format.specs.Types.{Ty}
 use Rattle.format.specs.Decoding.{type_at}
 use Rattle.format.specs.declared.Template.{Template}
-use Rattle.format.specs.declared.Template.TheVariants as Template
 use Rattle.format.specs.declared.Pointer.{Pointer}
-use Rattle.format.specs.declared.Pointer.TheVariants as Pointer
 use Rattle.format.specs.declared.TypeKind.{TypeKind}
 use Rattle.format.specs.declared.TypeKind.TheVariants as Kind
 use Rattle.bridge.specs.Write.{Shape, rust_box, unique_ptr, ref, str, slice_ref, other}

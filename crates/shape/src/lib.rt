@@ -2,12 +2,13 @@
 #![tactic(auto)]
 
 ghost use Rattle.std.specs.Prelude.{◌≡◌, ◌||◌, ltb, length};
-ghost use Rattle.format.specs.Decoding.{type_at, form_of};
+ghost use Rattle.format.specs.Decoding.{type_at};
 ghost use Rattle.rules.specs.Rules.{is_method};
 ghost use Rattle.bridge.specs.WriteType.{write_type, write_type_space};
 ghost use Rattle.bridge.specs.Write.{indirect_return, write_pointer, shape as shape_of, slot_type};
 ghost use Rattle.sink.specs.Sink.{sink, Wrote};
 ghost use Rattle.cursor.specs.Checking.{Limited};
+ghost use Rattle.view.specs.Views.{form_of};
 ghost use Rattle.view.specs.Values.{Yields};
 ghost use Rattle.write_type.specs.TypeAt.{ty_at};
 ghost use Rattle.shape.specs.Shapes.{inner_levels, template_kind, pointer_kind, shape_kind, is_ref, ShapeOf};
@@ -20,7 +21,7 @@ use format::{Pointer, Template, TypeKind};
 use sink::{advance, put_bytes, put_unless};
 use tables::{Pool, Table, needs_indirect_abi, put_part, type_word};
 use types::{Levels, kind_of};
-use view::FunctionView;
+use view::{FormView, FunctionView};
 use write_chain::write_chain;
 
 // ---- shapes
@@ -252,12 +253,9 @@ pub fn write_slot_type(
 
 // Whether a function has a receiver.
 pub fn is_method(f: FunctionView) -> bool
-    ensures { result ≡ is_method (form_of f.form f.owner) }
+    ensures { result ≡ is_method (form_of f.form) }
 {
-    if f.form == 1 {
-        return true;
-    }
-    f.form == 2
+    matches!(f.form, FormView::ConstMethod(_) | FormView::MutMethod(_))
 }
 
 // Whether a comma stands before what follows `count` parameters, which stand behind others or not.

@@ -9,7 +9,12 @@ use Rattle.lexical.specs.Decimal.{pick_text}
 use Rattle.lexical.proofs.BoolLaws.{by_cases, both}
 use Rattle.format.specs.Types.{Ty}
 use Rattle.format.specs.Sheet.{Function, Item, Sheet}
-use Rattle.format.specs.Decoding.{type, form_of}
+use Rattle.format.specs.Decoding.{type}
+use Rattle.std.specs.Prelude.{Option, None, Some, ◌∷◌}
+use Rattle.syntax.specs.Items.{self_type}
+use Rattle.format.specs.Sheet.{Form, free, const_method, mut_method, associated}
+use Rattle.view.specs.Views.{self_number}
+use Rattle.view.proofs.FormLaws.{free_form, self_there}
 use Rattle.syntax.specs.Mangle.{extern_fn}
 use Rattle.rules.specs.Rules.{gather}
 use Rattle.bridge.specs.Write.{shape, slot_type, slot, direct, held_local, call_begin, call_end, commas, operands}
@@ -100,21 +105,24 @@ module _ {s names items : List ℕ} {f : FunctionView} (a : FunctionAt s names i
     pub comment_yields : Yields (comment_lines s at) (value_or [] (comment_lines s at))
     comment_yields = rw (yielded [] comment_there) comment_there
 
-    pub comment_written : (doxygen : Bool) {r t : Sink} → f.form ≡ 0 →
+    pub comment_written : (doxygen : Bool) {o : Option ℕ} {r t : Sink} → o ≡ self_number f.form → o ≡ None →
         Wrote r (write_doc doxygen (value_or [] (comment_lines s at))) t →
         Wrote r (pick_text (is_free (function_at s names items f.number).form)
         (write_doc doxygen (function_at s names items f.number).comment) []) t
-    comment_written doxygen h p = wrote_as p (rw (a.view.form, h, yielded [] comment_there))
+    comment_written doxygen e h p = wrote_as p (rw (free_form a.view.form e h, yielded [] comment_there))
 
-  member : (k i : ℕ) → (k ≡ 0 → ⊥) → is_free (form_of k i) ≡ false
-  member zero i h = absurd (h refl)
-  member (suc zero) i h = refl
-  member (suc (suc zero)) i h = refl
-  member (suc (suc (suc k))) i h = refl
+  member : (x : Form) {i : ℕ} → self_type x ≡ i ∷ [] → is_free x ≡ false
+  member free h = absurd (cons_none h)
+    where
+      cons_none : {i : ℕ} → [] ≡ i ∷ [] → ⊥
+      cons_none h = cc
+  member (const_method j) h = refl
+  member (mut_method j) h = refl
+  member (associated j) h = refl
 
-  pub comment_none : (x : List ℕ) (r : Sink) → (f.form ≡ 0 → ⊥) →
+  pub comment_none : (x : List ℕ) (r : Sink) {o : Option ℕ} {i : ℕ} → o ≡ self_number f.form → o ≡ Some i →
       Wrote r (pick_text (is_free (function_at s names items f.number).form) x []) r
-  comment_none x r h = rw (a.view.form, member f.form f.owner h) (wrote_nil r)
+  comment_none x r e h = rw (member _ (self_there a.view.form e h)) (wrote_nil r)
 
 -- ---- the shim
 

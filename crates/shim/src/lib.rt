@@ -95,10 +95,10 @@ fn write_shim_doc(
         (write_doc doxygen (function_of s.now t.now
         f.number).comment) []) (sink out.new result) }
 {
-    if f.form == 0 {
-        return write_doc(s, doxygen, comment, out, at);
+    match f.form.self_type() {
+        None => write_doc(s, doxygen, comment, out, at),
+        Some(_) => at,
     }
-    at
 }
 
 // The shim of a function: its comment, its head, and its body where it is no header.

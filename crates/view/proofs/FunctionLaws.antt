@@ -2,7 +2,7 @@
 use mathlib.Core.Path.{◌≡◌, refl, sym, ap, ◌∙◌}
 use mathlib.Core.List.{List}
 use mathlib.Core.Bool.{Bool, true, false}
-use Prim.Native.Nat.{ℕ, ◌+◌, ◌*◌, ◌/◌, ◌%◌, ◌≤◌}
+use Prim.Native.Nat.{ℕ, zero, suc, ◌<◌, ◌+◌, ◌*◌, ◌/◌, ◌%◌, ◌≤◌}
 use native.Mathlib.Omega.{arith}
 use lib.ListN.{length}
 use lib.Dec.{eqb}
@@ -11,7 +11,7 @@ use Rattle.format.specs.Decode.{got, many}
 use Rattle.format.specs.Bits.{bits_at, bits, bit, width_of, index}
 use Rattle.format.specs.Types.{Ty, Ret, none}
 use Rattle.format.specs.Sheet.{Form, free, Function, function}
-use Rattle.format.specs.Decoding.{form, form_of, type, optional, argument, item_body, function_body}
+use Rattle.format.specs.Decoding.{form, form_of as form_by, type, optional, argument, item_body, function_body}
 use Rattle.format.specs.declared.ItemKind.{ItemKind}
 use Rattle.format.specs.declared.ItemKind.TheVariants.{RustFunction}
 use Rattle.syntax.specs.Items.{item_at}
@@ -19,10 +19,13 @@ use Rattle.cursor.specs.Checking.{Limited}
 use Rattle.cursor.proofs.BitLaws.{bits_split, bits_lt}
 use Rattle.cursor.proofs.WidthLaws.{index_field, index_lt}
 use Rattle.cursor.specs.declared.Found.{Found}
+use Rattle.cursor.specs.declared.Cursor.{Cursor}
+use Rattle.std.specs.Prelude.{IfSome}
 use Rattle.view.specs.declared.FormView.{FormView}
+use Rattle.view.specs.declared.FormView.TheVariants.{Free}
 use Rattle.view.specs.declared.ItemView.{ItemView}
 use Rattle.view.specs.Values.{value_or, next_of, Yields, names_at, items_at, function_at, type_here}
-use Rattle.view.specs.Views.{Finds, ItemAt, FormOf, Formed, return_of, return_here, comment_lines, FunctionOf}
+use Rattle.view.specs.Views.{Finds, ItemAt, form_of, form_view, self_number, FormOf, Formed, return_of, return_here, comment_lines, FunctionOf}
 use Rattle.cursor.proofs.YieldLaws.{yields, yielded, in_turn, got_value, got_next, found_value, found_next}
 use Rattle.cursor.proofs.YieldLaws.{bits_there, bit_value, bit_next}
 use Rattle.view.proofs.PartLaws.{finds, name_room, bit_room, bit_end, FunctionParts, function_parts}
@@ -31,32 +34,41 @@ use Rattle.types.proofs.KindLaws.{type_yields}
 
 -- ---- forms
 
+view_form : (k i : ℕ) → form_by k i ≡ form_of (form_view k i)
+view_form zero i = refl
+view_form (suc zero) i = refl
+view_form (suc (suc zero)) i = refl
+view_form (suc (suc (suc k))) i = refl
+
+view_below : (k i : ℕ) {n : ℕ} → i < n → IfSome (self_number (form_view k i)) (λ j. j < n)
+view_below zero i h = tt
+view_below (suc zero) i h = h
+view_below (suc (suc zero)) i h = h
+view_below (suc (suc (suc k))) i h = h
+
 module _ (n : ℕ) (s : List ℕ) (at : ℕ) {f : Found} (ff : Finds (bits 2 s at) 2 f) where
-  pub form_free : f.value ≡ 0 → Formed (form n s at) n (record { form = 0; owner = 0; next = f.next })
+  pub form_free : f.value ≡ 0 → Formed (form n s at) n Free f.next
   unfolding form
   form_free z = record {
     there = λ x m h. in_turn (bits 2 s at) _ h (λ k a e h₁.
         let g = rw (eq-eqb k 0 (found_value ff e ∙ z)) at h₁ in
-        record { form = sym (got_value g); next = sym (got_next g) ∙ found_next ff e; owner = λ q. absurd (q refl) });
-    low = omega arith;
+        (record { form = sym (got_value g); owner = tt }, sym (got_next g) ∙ found_next ff e));
   }
 
-  pub form_owned : {w : ℕ} {i : Found} → (f.value ≡ 0 → ⊥) → w ≡ width_of n → Finds (bits w s f.next.at) w i →
-      Formed (form n s at) n (record { form = f.value; owner = i.value; next = i.next })
+  pub form_owned : {w : ℕ} {i : Found} {r : FormView} → (f.value ≡ 0 → ⊥) → w ≡ width_of n →
+      Finds (bits w s f.next.at) w i → r ≡ form_view f.value i.value → Formed (form n s at) n r i.next
   unfolding form
-  form_owned {w} {i} z u fi = record {
+  form_owned {w} {i} z u fi o = record {
     there = λ x m h. in_turn (bits 2 s at) _ h (λ k a e h₁.
         let v : k ≡ f.value = found_value ff e in
         let g = rw (ne_eqb k 0 (λ q. z (sym v ∙ q))) at h₁ in
         in_turn (index n s a) _ g (λ j b e₂ h₂.
         let d : bits w s f.next.at ≡ got j b =
         rw (u, ← found_next ff e) (index_field n s a e₂) in
-        record {
-          form = sym (got_value h₂) ∙ (ap (λ (y : ℕ). form_of y j) v ∙ ap (λ (y : ℕ). form_of f.value y) (found_value fi d));
-          next = sym (got_next h₂) ∙ found_next fi d;
-          owner = λ q. rw (← found_value fi d) (index_lt n s a e₂);
-        }));
-    low = omega (arith, ff.low);
+        (record {
+          form = rw o (sym (got_value h₂) ∙ (ap (λ (y : ℕ). form_by y j) v ∙ ap (λ (y : ℕ). form_by f.value y) (found_value fi d)) ∙ view_form f.value i.value);
+          owner = rw o (view_below f.value i.value (rw (← found_value fi d) (index_lt n s a e₂)));
+        }, sym (got_next h₂) ∙ found_next fi d)));
   }
 
 -- all bits of a form that is there are, and it was read without a test
@@ -66,7 +78,7 @@ module _ (n : ℕ) (s : List ℕ) (at : ℕ) {x : Form} (l : Limited s) (y : Yie
   form_room = in_turn (bits 2 s at) _ y.is (λ k a e h. (bits_there 2 s at e).0)
 
   module _ {k : ℕ} (f : k ≡ bits_at s at 2) where
-    pub form_none : k ≡ 0 → Formed (form n s at) n (record { form = 0; owner = 0; next = record { at = at + 2 } })
+    pub form_none : k ≡ 0 → Formed (form n s at) n Free (record { at = at + 2 })
     form_none z = form_free n s at (finds 2 s at l form_room f) z
 
     module _ {w : ℕ} (z : k ≡ 0 → ⊥) (u : w ≡ width_of n) where
@@ -78,9 +90,9 @@ module _ (n : ℕ) (s : List ℕ) (at : ℕ) {x : Form} (l : Limited s) (y : Yie
           in_turn (index n s a) _ (rw (ne_eqb j 0 (λ o. z (f ∙ sym q.1 ∙ o))) at h) (λ i b g h₁.
           rw (u, ← q.2) (bits_there (width_of n) s a (index_field n s a g)).0))
 
-      pub form_some : {i : ℕ} → i ≡ bits_at s (at + 2) w →
-          Formed (form n s at) n (record { form = k; owner = i; next = record { at = at + 2 + w } })
-      form_some e = form_owned n s at (finds 2 s at l form_room f) z u (finds w s (at + 2) l owner_room e)
+      pub form_some : {i : ℕ} {r : FormView} → i ≡ bits_at s (at + 2) w → r ≡ form_view k i →
+          Formed (form n s at) n r (record { at = at + 2 + w })
+      form_some e o = form_owned n s at (finds 2 s at l form_room f) z u (finds w s (at + 2) l owner_room e) o
 
 -- ---- what a function returns
 
@@ -121,48 +133,48 @@ module _ (s names : List ℕ) (n at : ℕ) (f : Function) (p : FunctionParts (na
   pub form_there : Yields (form n s (at + w)) (value_or free (form n s (at + w)))
   form_there = let y = yields behind_name in rw (yielded free y) y
 
-  module _ {g : FormView} (fg : Formed (form n s (at + w)) n g) where
-    formed : FormOf f.form p.throws_at n g
+  module _ {r : FormView} {g : Cursor} (fg : Formed (form n s (at + w)) n r g) where
+    formed : FormOf f.form n r × (p.throws_at ≡ g.at)
     formed = fg.there f.form p.throws_at behind_name
 
-    throws : bit s g.next.at ≡ got f.throws p.return_at
-    throws = ap (λ (a : ℕ). bit s a) (sym formed.next) ∙ p.throws
+    throws : bit s g.at ≡ got f.throws p.return_at
+    throws = ap (λ (a : ℕ). bit s a) (sym formed.1) ∙ p.throws
 
-    return : optional (type n) s (g.next.at + 1) ≡ got f.return p.count_at
-    return = ap (λ (a : ℕ). optional (type n) s a) (sym (bit_end s g.next.at throws)) ∙ p.return
+    return : optional (type n) s (g.at + 1) ≡ got f.return p.count_at
+    return = ap (λ (a : ℕ). optional (type n) s a) (sym (bit_end s g.at throws)) ∙ p.return
 
     -- both bits are there
-    pub both_room : g.next.at + 2 ≤ 8 * length s
+    pub both_room : g.at + 2 ≤ 8 * length s
     both_room =
-        in_turn (bit s (g.next.at + 1)) _ return (λ v m e h. omega (arith, bit_room s (g.next.at + 1) e))
+        in_turn (bit s (g.at + 1)) _ return (λ v m e h. omega (arith, bit_room s (g.at + 1) e))
 
-    module _ {h : ℕ} (both : h ≡ bits_at s g.next.at 2) where
-      split : (h / 2 ≡ bits_at s g.next.at 1) × (h % 2 ≡ bits_at s (g.next.at + 1) 1)
+    module _ {h : ℕ} (both : h ≡ bits_at s g.at 2) where
+      split : (h / 2 ≡ bits_at s g.at 1) × (h % 2 ≡ bits_at s (g.at + 1) 1)
       split =
-          let a = both ∙ bits_split s g.next.at 1 1 in
-          let b = bits_lt s (g.next.at + 1) 1 in
+          let a = both ∙ bits_split s g.at 1 1 in
+          let b = bits_lt s (g.at + 1) 1 in
           (omega (arith, a, b), omega (arith, a, b))
 
-      first_bit : Finds (bits 1 s g.next.at) 1 (record { value = h / 2; next = record { at = g.next.at + 1 } })
-      first_bit = finds 1 s g.next.at l (omega (arith, both_room)) split.0
+      first_bit : Finds (bits 1 s g.at) 1 (record { value = h / 2; next = record { at = g.at + 1 } })
+      first_bit = finds 1 s g.at l (omega (arith, both_room)) split.0
 
-      second_bit : Finds (bits 1 s (g.next.at + 1)) 1
-          (record { value = h % 2; next = record { at = g.next.at + 2 } })
+      second_bit : Finds (bits 1 s (g.at + 1)) 1
+          (record { value = h % 2; next = record { at = g.at + 2 } })
       second_bit =
-          let q : g.next.at + 1 + 1 ≡ g.next.at + 2 = omega arith in
-          rw q at (finds 1 s (g.next.at + 1) l (omega (arith, both_room)) split.1)
+          let q : g.at + 1 + 1 ≡ g.at + 2 = omega arith in
+          rw q at (finds 1 s (g.at + 1) l (omega (arith, both_room)) split.1)
 
-      returned : return_of (eqb (h % 2) 1) (type n) s (g.next.at + 2) ≡ got f.return p.count_at
+      returned : return_of (eqb (h % 2) 1) (type n) s (g.at + 2) ≡ got f.return p.count_at
       returned =
-          in_turn (bit s (g.next.at + 1)) _ return (λ v m e h₁.
-          rw (← bit_value s (g.next.at + 1) e second_bit, ← bit_next s (g.next.at + 1) e second_bit) h₁)
+          in_turn (bit s (g.at + 1)) _ return (λ v m e h₁.
+          rw (← bit_value s (g.at + 1) e second_bit, ← bit_next s (g.at + 1) e second_bit) h₁)
 
-      pub return_there : Yields (return_of (eqb (h % 2) 1) (type n) s (g.next.at + 2))
-          (return_here (eqb (h % 2) 1) n s (g.next.at + 2))
+      pub return_there : Yields (return_of (eqb (h % 2) 1) (type n) s (g.at + 2))
+          (return_here (eqb (h % 2) 1) n s (g.at + 2))
       unfolding return_here
       return_there = let y = yields returned in rw (yielded none y) y
 
-      module _ {k : ℕ} (e : k ≡ next_of (return_of (eqb (h % 2) 1) (type n) s (g.next.at + 2))) where
+      module _ {k : ℕ} (e : k ≡ next_of (return_of (eqb (h % 2) 1) (type n) s (g.at + 2))) where
         counted : bits 5 s k ≡ got p.count p.first
         counted = let u : k ≡ p.count_at = e ∙ ap next_of returned in rw u p.counted
 
@@ -170,20 +182,19 @@ module _ (s names : List ℕ) (n at : ℕ) (f : Function) (p : FunctionParts (na
         pub count_room : k + 5 ≤ 8 * length s
         count_room = (bits_there 5 s k counted).0
 
-        pub function_of_lem : (i : ℕ) {r c : ℕ} → r ≡ bits_at s at w → c ≡ bits_at s k 5 →
+        pub function_of_lem : (i : ℕ) {q c : ℕ} → q ≡ bits_at s at w → c ≡ bits_at s k 5 →
             FunctionOf s names n f (record {
               number = i;
-              rust = r;
-              form = g.form;
-              owner = g.owner;
+              rust = q;
+              form = r;
               throws = eqb (h / 2) 1;
               returns = eqb (h % 2) 1;
-              result = record { at = g.next.at + 2 };
+              result = record { at = g.at + 2 };
               arguments = c;
               first = record { at = k + 5 };
             })
         unfolding comment_lines
-        function_of_lem i {r} {c} fr ec =
+        function_of_lem i {q} {c} fr ec =
             let fc = finds 5 s k l count_room ec in
             let xs : many c (argument (names_at s names) n) s (k + 5) ≡ got f.arguments p.comment_at =
             rw (← found_value fc counted, ← found_next fc counted) p.arguments in
@@ -191,10 +202,8 @@ module _ (s names : List ℕ) (n at : ℕ) (f : Function) (p : FunctionParts (na
             record {
               named = (name fr).there;
               rust = (name fr).name;
-              form = formed.form;
-              low = fg.low;
-              owner = formed.owner;
-              throws = sym (bit_value s g.next.at throws first_bit);
+              form = formed.0;
+              throws = sym (bit_value s g.at throws first_bit);
               result = yields returned;
               few = omega (arith, fc.low);
               arguments = yields xs;

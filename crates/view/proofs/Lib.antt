@@ -5,3 +5,4 @@ pub mod ArgumentLaws
 pub mod TypeLaws
 pub mod SkipLaws
 pub mod WholeLaws
+pub mod FormLaws

@@ -1,11 +1,12 @@
 -- What the readers promise of their views.
-use Rattle.std.specs.Prelude.{◌≡◌, List, Bool, true, false, ℕ, ◌/◌, ◌%◌, ◌<◌, ◌≤◌, eqb, length, get_or}
+use Rattle.std.specs.Prelude.{◌≡◌, List, Bool, true, false, ℕ, zero, suc, ◌/◌, ◌%◌, ◌<◌, ◌≤◌, eqb, length, get_or, Option, None, Some, IfSome}
 use Rattle.format.specs.Limits.{most_bits, most_namespaces, most_arguments}
 use Rattle.format.specs.Decode.{Got, got, Dec, pick, ◌>>◌, pure, many}
 use Rattle.format.specs.Bits.{bits}
 use Rattle.format.specs.Types.{Ty, Ret, none, gives}
-use Rattle.format.specs.Sheet.{Form, Argument, Function, Body, struct, enum, cxx_type, rust_type, function, Item}
-use Rattle.format.specs.Decoding.{name_of, type, line, argument, form_of, item_body}
+use Rattle.format.specs.Sheet.{Form, free, const_method, mut_method, associated}
+use Rattle.format.specs.Sheet.{Argument, Function, Body, struct, enum, cxx_type, rust_type, function, Item}
+use Rattle.format.specs.Decoding.{name_of, type, line, argument, item_body}
 use Rattle.format.specs.declared.Template.{Template}
 use Rattle.format.specs.declared.Template.TheVariants.{RustBox, RustVec, UniquePtr, SharedPtr, WeakPtr, CxxVector}
 use Rattle.format.specs.declared.TypeKind.{TypeKind}
@@ -18,6 +19,8 @@ pub use Rattle.cursor.specs.Yielding.{Finds}
 pub use Rattle.types.specs.Kinds.{kind_of_type}
 use Rattle.view.specs.declared.ItemView.{ItemView}
 use Rattle.view.specs.declared.FormView.{FormView}
+use Rattle.view.specs.declared.FormView.TheVariants.{Free, ConstMethod, MutMethod, Associated}
+use Rattle.cursor.specs.declared.Cursor.{Cursor}
 use Rattle.view.specs.declared.FunctionView.{FunctionView}
 use Rattle.view.specs.declared.ArgumentView.{ArgumentView}
 use Rattle.view.specs.Values.{value_or, next_of, Yields, name_at, names_at, items_at, function_at, argument_at}
@@ -57,16 +60,35 @@ pub record ItemAt (s names items : List ℕ) (v : ItemView) : Type 0 where
 
 -- ---- functions
 
--- the form x, with m behind it, is r's, in a sheet of n items
-pub record FormOf (x : Form) (m n : ℕ) (r : FormView) : Type 0 where
-  pub form : x ≡ form_of r.form r.owner
-  pub next : m ≡ r.next.at
-  pub owner : (r.form ≡ 0 → ⊥) → r.owner < n
+-- the view of the form of a number, with its self type's item
+abbrev pub form_view : ℕ → ℕ → FormView
+form_view zero i = Free
+form_view (suc zero) i = ConstMethod i
+form_view (suc (suc zero)) i = MutMethod i
+form_view (suc (suc (suc k))) i = Associated i
 
--- where the decoder's p is a form, it is r's
-pub record Formed (p : Got Form) (n : ℕ) (r : FormView) : Type 0 where
-  pub there : (x : Form) (m : ℕ) → p ≡ got x m → FormOf x m n r
-  pub low : r.form ≤ 3
+-- what a view of a form stands for
+abbrev pub form_of : FormView → Form
+form_of Free = free
+form_of (ConstMethod i) = const_method i
+form_of (MutMethod i) = mut_method i
+form_of (Associated i) = associated i
+
+-- the number of the self type's item
+abbrev pub self_number : FormView → Option ℕ
+self_number Free = None
+self_number (ConstMethod i) = Some i
+self_number (MutMethod i) = Some i
+self_number (Associated i) = Some i
+
+-- r is a view of the form x, in a sheet of n items
+pub record FormOf (x : Form) (n : ℕ) (r : FormView) : Type 0 where
+  pub form : x ≡ form_of r
+  pub owner : IfSome (self_number r) (λ i. i < n)
+
+-- where the decoder's p is a form, r is its view, and c stands behind it
+pub record Formed (p : Got Form) (n : ℕ) (r : FormView) (c : Cursor) : Type 0 where
+  pub there : (x : Form) (m : ℕ) → p ≡ got x m → FormOf x n r × (m ≡ c.at)
 
 -- what stands behind a return bit
 abbrev pub return_of : Bool → Dec Ty → Dec Ret
@@ -84,9 +106,7 @@ comment_lines = bits 5 >> λ c. many c line
 pub record FunctionOf (s names : List ℕ) (n : ℕ) (f : Function) (v : FunctionView) : Type 0 where
   pub named : v.rust < length names
   pub rust : name_at s (get_or names v.rust 0) ≡ f.rust
-  pub form : f.form ≡ form_of v.form v.owner
-  pub low : v.form ≤ 3
-  pub owner : (v.form ≡ 0 → ⊥) → v.owner < n
+  pub form : FormOf f.form n v.form
   pub throws : v.throws ≡ f.throws
   pub result : Yields (return_of v.returns (type n) s v.result.at) f.return
   pub few : v.arguments ≤ most_arguments

@@ -13,7 +13,7 @@ ghost use Rattle.syntax.specs.Types.{pointer_bit, needs_indirect_abi};
 ghost use Rattle.cursor.specs.Checking.{Limited};
 ghost use Rattle.view.specs.Values.{value_or, next_of, Yields, name_at, items_at, type_here};
 ghost use Rattle.view.specs.Values.{Named, Whole};
-ghost use Rattle.view.specs.Views.{kind_of_body, ItemAt, Formed, FunctionAt, EntryOf, unpacked};
+ghost use Rattle.view.specs.Views.{kind_of_body, ItemAt, form_view, self_number, Formed, FunctionAt, EntryOf, unpacked};
 ghost use Rattle.view.specs.Views.{return_of, return_here, is_function_kind, kind_of_type, is_named_kind};
 ghost use Rattle.view.specs.Views.{is_indirect_kind, prefix_of, owner_of};
 
@@ -113,33 +113,67 @@ pub fn pointer_bit(s: &[u8], names: &[u32], items: &[u32], i: u32) -> bool
 
 // ---- functions
 
-// A function's form by its number, the number of its self type's item, and the position behind both.
+// A function's form, with the number of its self type's item where it has one.
 #[derive(Clone, Copy)]
-pub struct FormView {
-    pub form: u32,
-    pub owner: u32,
-    pub next: Cursor,
+pub enum FormView {
+    Free,
+    ConstMethod(u32),
+    MutMethod(u32),
+    Associated(u32),
+}
+
+impl FormView {
+    // The form of this number, whose self type, where it has one, is this item.
+    fn new(k: u32, i: u32) -> FormView
+        ensures { result ≡ form_view k i }
+    {
+        match k {
+            0 => FormView::Free,
+            1 => FormView::ConstMethod(i),
+            2 => FormView::MutMethod(i),
+            _ => FormView::Associated(i),
+        }
+    }
+
+    // Of a method or an associated function the number of its self type's item.
+    pub fn self_type(self) -> Option<u32>
+        ensures { result ≡ self_number self }
+    {
+        match self {
+            FormView::Free => None,
+            FormView::ConstMethod(i) => Some(i),
+            FormView::MutMethod(i) => Some(i),
+            FormView::Associated(i) => Some(i),
+        }
+    }
+}
+
+// A form, and the position behind it.
+#[derive(Clone, Copy)]
+struct FoundForm {
+    form: FormView,
+    next: Cursor,
 }
 
 // The form at c, which is known to be there.
-fn form_at(s: &[u8], c: Cursor, items: u32) -> FormView
+fn form_at(s: &[u8], c: Cursor, items: u32) -> FoundForm
     requires { Limited s.now × Yields (form items s.now c.at) (value_or free (form items s.now c.at)) }
-    ensures { Formed (form items s.now c.at) items result }
+    ensures { Formed (form items s.now c.at) items result.form result.next }
 {
-    let form = extract(s, c.at, 2);
+    let k = extract(s, c.at, 2);
     let at = c.at + 2;
-    if form == 0 {
-        let next = Cursor::new(at);
-        return FormView {
-            form: 0,
-            owner: 0,
-            next,
+    if k == 0 {
+        return FoundForm {
+            form: FormView::Free,
+            next: Cursor::new(at),
         };
     }
     let w = width(items);
-    let owner = extract(s, at, w);
-    let next = Cursor::new(at + w);
-    FormView { form, owner, next }
+    let i = extract(s, at, w);
+    FoundForm {
+        form: FormView::new(k, i),
+        next: Cursor::new(at + w),
+    }
 }
 
 // Past the outermost type at c, in a sheet of so many items.
@@ -209,14 +243,13 @@ fn past_return(s: &[u8], c: Cursor, returns: bool, items: u32) -> Cursor
     c
 }
 
-// A function by its item's number: the index of its Rust name, its form, its self type's item, its two bits, where
-// the type that it returns stands, and where the first of its arguments does.
+// A function by its item's number: the index of its Rust name, its form, its two bits, where the type that it returns
+// stands, and where the first of its arguments does.
 #[derive(Clone, Copy)]
 pub struct FunctionView {
     pub number: u32,
     pub rust: u32,
-    pub form: u32,
-    pub owner: u32,
+    pub form: FormView,
     pub throws: bool,
     pub returns: bool,
     pub result: Cursor,
@@ -250,7 +283,6 @@ pub fn function(s: &[u8], names: &[u32], items: &[u32], v: ItemView) -> Function
         number: v.number,
         rust,
         form: form.form,
-        owner: form.owner,
         throws,
         returns,
         result,

@@ -13,4 +13,4 @@ write_parameters-d-requires c = (c.requires.0, c.requires.4)
 pub returns : goal.returns
 returns c =
     head_written _ c.requires.2 c.write_shim_type-a.ensures c.write_local_name-b.ensures c.put_bytes-c.ensures
-    c.write_parameters-d.ensures c.put_bytes-e.ensures c.put_when-g.ensures c.put_unless.ensures
+    c.write_parameters-d.ensures c.put_bytes-e.ensures c.is_const.ensures c.put_when-g.ensures c.put_unless.ensures

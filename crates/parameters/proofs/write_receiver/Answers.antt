@@ -1,15 +1,27 @@
+use mathlib.Core.Path.{ap}
 use Rattle.sink.proofs.SinkLaws.{◌▷◌, wrote_nil, wrote_as}
-use Rattle.parameters.proofs.ParameterLaws.{receiver_some, receiver_none, receiver_owner}
+use Rattle.view.specs.Views.{self_number}
+use Rattle.parameters.proofs.ParameterLaws.{receiver_const, receiver_mut, receiver_none, receiver_free, self_below}
 use Rattle.parameters.proofs.write_receiver.Goals as goal
 
 pub write_full_name-named-requires : goal.write_full_name-named-requires
-write_full_name-named-requires c =
-    (c.requires.0, c.requires.1.view.owner (receiver_owner c.requires.1 c.is_method.ensures c.if-is_method.true))
+write_full_name-named-requires c = (c.requires.0, self_below c.requires.1 (ap self_number c.in-ConstMethod.is))
 
-pub returns-then-is_method : goal.returns-then-is_method
-returns-then-is_method c =
-    wrote_as (c.write_full_name-named.ensures ▷ c.put_when-qualified.ensures ▷ c.put_bytes.ensures) (receiver_some
-    c.requires.1 c.is_method.ensures c.if-is_method.true)
+pub returns-in-ConstMethod : goal.returns-in-ConstMethod
+returns-in-ConstMethod c =
+    wrote_as (c.write_full_name-named.ensures ▷ c.put_bytes-qualified.ensures ▷ c.put_bytes.ensures) (receiver_const c.requires.1 c.in-ConstMethod.is)
 
-pub returns : goal.returns
-returns c = wrote_as (wrote_nil _) (receiver_none c.requires.1 c.is_method.ensures c.if-is_method.false)
+pub write_full_name-named-requires-in-MutMethod : goal.write_full_name-named-requires-in-MutMethod
+write_full_name-named-requires-in-MutMethod c =
+    (c.requires.0, self_below c.requires.1 (ap self_number c.in-MutMethod.is))
+
+pub returns-in-MutMethod : goal.returns-in-MutMethod
+returns-in-MutMethod c =
+    wrote_as (c.write_full_name-named-in-MutMethod.ensures ▷ c.put_bytes-in-MutMethod.ensures) (receiver_mut
+    c.requires.1 c.in-MutMethod.is)
+
+pub returns-in-Associated : goal.returns-in-Associated
+returns-in-Associated c = wrote_as (wrote_nil _) (receiver_none c.requires.1 c.in-Associated.is)
+
+pub returns-in-Free : goal.returns-in-Free
+returns-in-Free c = wrote_as (wrote_nil _) (receiver_free c.requires.1 c.in-Free.is)
