@@ -34,7 +34,8 @@ buffer_of f (refused e) buffer = buffer
 buffer_of f (accepted x) buffer = overlaid (f x) buffer
 
 -- the promise of a service that writes bytes
-pub record Serves (f : Sheet → List ℕ) (sheet buffer : List ℕ) (answer : Result ℕ Refusal) (after : List ℕ) : Type 0 where
+pub record Serves (f : Sheet → List ℕ) (sheet buffer : List ℕ) (answer : Result ℕ Refusal) (after : List ℕ)
+    : Type 0 where
   pub answers : answer ≡ answer_of f (judge sheet) (length buffer)
   pub leaves : after ≡ buffer_of f (judge sheet) buffer
 

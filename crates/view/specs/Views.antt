@@ -1,5 +1,6 @@
 -- What the readers promise of their views.
-use Rattle.std.specs.Prelude.{◌≡◌, List, Bool, true, false, ℕ, zero, suc, ◌/◌, ◌%◌, ◌<◌, ◌≤◌, eqb, length, get_or, Option, None, Some, IfSome}
+use Rattle.std.specs.Prelude.{◌≡◌, List, Bool, true, false, ℕ, zero, suc, ◌/◌}
+use Rattle.std.specs.Prelude.{◌%◌, ◌<◌, ◌≤◌, eqb, length, get_or, Option, None, Some, IfSome}
 use Rattle.format.specs.Limits.{most_bits, most_namespaces, most_arguments}
 use Rattle.format.specs.Decode.{Got, got, Dec, pick, ◌>>◌, pure, many}
 use Rattle.format.specs.Bits.{bits}
