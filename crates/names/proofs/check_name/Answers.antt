@@ -8,6 +8,11 @@ use Rattle.names.proofs.JudgeLaws.{told_good, told_bad}
 use Rattle.names.proofs.check_name.Goals as goal
 use mathlib.Core.Path.{refl}
 
+pub returns-in_err-length : goal.returns-in_err-length
+unfolding name_by
+returns-in_err-length c =
+    unread c.from_residual.ensures.1 (rw (cut c.read.ensures c.in_err-length.was) refl)
+
 pub overflow_mul-behind : goal.overflow_mul-behind
 overflow_mul-behind c = omega (arith, field_lt 6 _ _ (value c.read.ensures c.in_ok-length.was))
 
@@ -15,11 +20,6 @@ pub overflow_add-behind : goal.overflow_add-behind
 overflow_add-behind c =
     let e = value c.read.ensures c.in_ok-length.was in
     omega (arith, field_lt 6 _ _ e, field_end 6 _ _ e)
-
-pub returns-in_err-length : goal.returns-in_err-length
-unfolding name_by
-returns-in_err-length c =
-    unread c.from_residual.ensures.1 (rw (cut c.read.ensures c.in_err-length.was) refl)
 
 pub returns-then-end_of-behind : goal.returns-then-end_of-behind
 returns-then-end_of-behind c =
