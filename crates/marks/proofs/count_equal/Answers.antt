@@ -4,12 +4,6 @@ use lib.ListN.{get_or}
 use Rattle.marks.proofs.KeyLaws.{count_turn, count_end, one_of}
 use Rattle.marks.proofs.count_equal.Goals as goal
 
-pub loop-x-init : goal.loop-x-init
-loop-x-init c = (omega arith, omega arith)
-
-pub overflow_add-n : goal.overflow_add-n
-overflow_add-n c = omega (arith, one_of (eqb c.args.k (get_or c.args.keys.now c.loop-x.x-index 0)))
-
 pub loop-x-preserved : goal.loop-x-preserved
 loop-x-preserved c =
     let h = one_of (eqb c.args.k (get_or c.args.keys.now c.loop-x.x-index 0)) in

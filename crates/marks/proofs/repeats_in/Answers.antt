@@ -1,7 +1,7 @@
 use mathlib.Core.Path.{◌∙◌}
 use Prim.Native.Nat.{◌%◌}
 use lib.ListN.{get_or, length-set}
-use Rattle.marks.proofs.KeyLaws.{apart_none, apart_all, keys_hit, keys_turn}
+use Rattle.marks.proofs.KeyLaws.{apart_none, keys_hit, keys_turn}
 use Rattle.marks.proofs.repeats_in.Goals as goal
 
 pub loop-i-init : goal.loop-i-init
@@ -17,6 +17,3 @@ loop-i-preserved c = (
   keys_turn c.args.keys.now c.loop-i.seen c.loop-i.i c.loop-i-test.true c.seen_before.ensures
       c.loop-i.invariant.0 c.loop-i.invariant.1 c.if-seen_before.false,
 )
-
-pub returns : goal.returns
-returns c = apart_all c.args.keys.now c.loop-i.seen c.loop-i.i c.loop-i-test.false c.loop-i.invariant.1

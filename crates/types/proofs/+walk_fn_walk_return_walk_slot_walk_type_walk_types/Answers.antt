@@ -7,7 +7,7 @@ use Rattle.cursor.proofs.WidthLaws.{width_le}
 use Rattle.cursor.proofs.CheckLaws.{stepped}
 use Rattle.cursor.proofs.CodeLaws.{at_in, fault_in, cut_in, bad_in, bits_cut, bits_whole}
 use Rattle.marks.specs.Marking.{mark_ty}
-use Rattle.marks.proofs.GatherLaws.{moved, halted, stays, stays_checks, refused, fold_none, fold_turn, fold_stop, fold_done}
+use Rattle.marks.proofs.GatherLaws.{moved, halted, stays, stays_checks, refused, fold_turn, fold_stop, fold_done}
 use Rattle.types.proofs.TypeLaws.{type_cut, type_deep}
 use Rattle.types.proofs.MarkLaws.{atom_marks, named_marks, template_marks, pointer_marks, str_marks}
 use Rattle.types.proofs.MarkLaws.{array_marks, result_marks, result_none, result_cut}
@@ -44,15 +44,6 @@ walk_return-returns t c =
 
 pub walk_slot-overflow_add-end : goal.walk_slot-overflow_add-end
 walk_slot-overflow_add-end t c = omega (arith, width_le _ c.width-w.ensures)
-
-pub walk_slot-returns-then-end_of-end : goal.walk_slot-returns-then-end_of-end
-walk_slot-returns-then-end_of-end t c = c.walk_type.ensures
-
-pub walk_slot-returns-then-left-eq0 : goal.walk_slot-returns-then-left-eq0
-walk_slot-returns-then-left-eq0 t c = c.walk_type-then-left-eq0.ensures
-
-pub walk_slot-returns-then-extract-ne1 : goal.walk_slot-returns-then-extract-ne1
-walk_slot-returns-then-extract-ne1 t c = c.walk_type-then-extract-ne1.ensures
 
 pub walk_slot-extract-i-requires : goal.walk_slot-extract-i-requires
 walk_slot-extract-i-requires t c = (omega arith, width_le _ c.width-w.ensures, omega arith)
@@ -131,9 +122,6 @@ pub walk_type-returns-in-Bad : goal.walk_type-returns-in-Bad
 walk_type-returns-in-Bad t c =
     body_marks _ _ _ _ (bits_whole _ _ _ (omega arith) c.extract.ensures) c.if-left-eq0.false c.kind_of-kind.ensures
     (rw (c.in-Bad.is, bad_in) record { gathered = refl })
-
-pub walk_types-loop-init : goal.walk_types-loop-init
-walk_types-loop-init t c = (omega arith, refl, fold_none mark_ty (type_at _ _) _ _ _ _)
 
 pub walk_types-returns-then-r-gt-LAST : goal.walk_types-returns-then-r-gt-LAST
 walk_types-returns-then-r-gt-LAST t c =

@@ -1,15 +1,10 @@
-use Rattle.cursor.proofs.CheckLaws.{stopped}
 use Rattle.cursor.proofs.WidthLaws.{width_le}
-use Rattle.marks.proofs.GatherLaws.{abandoned}
 use Rattle.types.proofs.MarkLaws.{index_there, index_known}
 use Rattle.types.proofs.check_item_index.Goals as goal
 
 pub extract-index-requires : goal.extract-index-requires
 extract-index-requires c =
     (c.requires, width_le _ c.width.ensures, (index_there _ _ _ c.check_index.ensures c.in_ok-next.was c.width.ensures).0)
-
-pub returns-in_err-next : goal.returns-in_err-next
-returns-in_err-next c = abandoned c.from_residual.ensures.1 (stopped c.check_index.ensures c.in_err-next.was)
 
 pub returns : goal.returns
 returns c =
