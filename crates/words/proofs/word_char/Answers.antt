@@ -3,9 +3,6 @@ use native.Mathlib.Omega.{arith}
 use Rattle.words.proofs.TableLaws.{char_room, char_at}
 use Rattle.words.proofs.word_char.Goals as goal
 
-pub overflow_add-result : goal.overflow_add-result
-overflow_add-result c = omega (arith, char_room c.requires.0 _ _ c.requires.1 c.requires.2 refl)
-
 pub overflow_add-result-2 : goal.overflow_add-result-2
 overflow_add-result-2 c = omega (arith, char_room c.requires.0 _ _ c.requires.1 c.requires.2 refl)
 
