@@ -102,14 +102,11 @@ fn write_line(
         (item_of s.now t.now v.number).body)
         (sink out.new result) }
 {
-    let kind = v.kind;
-    match kind {
-        ItemKind::Struct => write_struct_decl(s, t, pool, v, out, at),
+    match v.kind {
+        ItemKind::Struct | ItemKind::RustType => write_struct_decl(s, t, pool, v, out, at),
         ItemKind::Enum => write_enum_decl(s, t, pool, v, out, at),
         ItemKind::CxxType => write_struct_using(s, t, pool, v, out, at),
-        ItemKind::RustType => write_struct_decl(s, t, pool, v, out, at),
-        ItemKind::RustFunction => at,
-        ItemKind::Bad => at,
+        ItemKind::RustFunction | ItemKind::Bad => at,
     }
 }
 
@@ -120,8 +117,7 @@ fn indent(depth: u32, out: &mut [u8], at: usize) -> usize
     requires { depth ≤ most_namespaces }
     ensures { Wrote (sink out.old at) (indentOf depth) (sink out.new result) }
 {
-    let count = 2 * depth as usize;
-    put_spaces(out, at, count)
+    put_spaces(out, at, 2 * depth as usize)
 }
 
 // Item i, where it is one of the group's own entries.
@@ -144,8 +140,7 @@ fn write_entry(
         (entry depth (item_of s.now t.now i)) [])
         (sink out.new result) }
 {
-    let direct = is_direct(s, t, digests, leader, depth, i);
-    if !direct {
+    if !is_direct(s, t, digests, leader, depth, i) {
         return at;
     }
     let v = item(s, t, i);
@@ -173,10 +168,8 @@ fn write_direct(
 {
     let n = t[Table::ITEMS];
     let mut here = at;
-    let mut i = leader.number;
-    while i < n {
+    for i in leader.number..n {
         here = write_entry(s, t, pool, digests, leader, depth, i, out, here);
-        i = i + 1;
     }
     here
 }
@@ -246,8 +239,7 @@ fn write_entries(
         let head = open_namespace(s, t, pool, v, depth, out, here);
         let tail = write_entries(s, t, pool, digests, v, deeper, out, head);
         here = close_namespace(depth, out, tail);
-        let from = i + 1;
-        i = next_namespace(s, t, digests, leader, depth, from);
+        i = next_namespace(s, t, digests, leader, depth, i + 1);
     }
     here
 }

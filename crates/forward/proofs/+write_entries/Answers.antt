@@ -1,30 +1,11 @@
 use native.Mathlib.Omega.{arith}
-use Prim.Native.Nat.{◌-◌}
 use Rattle.nested.proofs.ViewLaws.{count}
 use Rattle.forward.proofs.EntryLaws.{spaces_begin, spaces_turn, entries_end, entries_last, view_deep, view_first}
 use Rattle.tables.proofs.TableLaws.{items_count_lem}
 use Rattle.forward.proofs.+write_entries.Goals as goal
 
-pub write_direct-direct-requires : goal.write_direct-direct-requires
-write_direct-direct-requires t c = c.requires
-
 pub returns-then-depth : goal.returns-then-depth
 returns-then-depth t c = entries_last _ _ _ c.if-depth.true c.write_direct-direct.ensures
-
-pub overflow_add-deeper : goal.overflow_add-deeper
-overflow_add-deeper t c = omega (arith, items_count_lem c.requires.0.tabled)
-
-pub next_namespace-i-requires : goal.next_namespace-i-requires
-next_namespace-i-requires t c = (
-  c.requires.0.tabled,
-  c.requires.1,
-  c.requires.2,
-  omega (
-    arith,
-    items_count_lem c.requires.0.tabled,
-    c.requires.2.there,
-  ),
-)
 
 pub loop-i-init : goal.loop-i-init
 loop-i-init t c = (
@@ -66,19 +47,6 @@ write_entries-tail-requires t c = (
     )) (c.loop-i.invariant.1 (rw count (omega (arith, items_count_lem c.requires.0.tabled)))),
   ),
 )
-
-pub close_namespace-here-requires : goal.close_namespace-here-requires
-close_namespace-here-requires t c = omega (arith, items_count_lem c.requires.0.tabled, c.requires.3)
-
-pub overflow_add-from : goal.overflow_add-from
-overflow_add-from t c = omega (arith, items_count_lem c.requires.0.tabled, c.requires.0.tabled.whole.few)
-
-pub next_namespace-i-requires-in-loop-i : goal.next_namespace-i-requires-in-loop-i
-next_namespace-i-requires-in-loop-i t c =
-    (c.requires.0.tabled, c.requires.1, c.requires.2, omega (arith, items_count_lem c.requires.0.tabled))
-
-pub loop-i-smaller : goal.loop-i-smaller
-loop-i-smaller t c = omega (arith, items_count_lem c.requires.0.tabled, c.next_namespace-i-in-loop-i.ensures.least)
 
 pub loop-i-preserved : goal.loop-i-preserved
 loop-i-preserved t c = (

@@ -5,11 +5,11 @@ use mathlib.Core.Path.{ap}
 use mathlib.Core.Bool.{not}
 use Rattle.forward.proofs.write_entry.Goals as goal
 
-pub returns-then-not-direct : goal.returns-then-not-direct
-returns-then-not-direct c =
-    rw (sym c.is_direct-direct.ensures ∙ not-true _ (ap not c.if-not-direct.true)) (wrote_nil _)
+pub returns-then-not-is_direct : goal.returns-then-not-is_direct
+returns-then-not-is_direct c =
+    rw (sym c.is_direct.ensures ∙ not-true _ (ap not c.if-not-is_direct.true)) (wrote_nil _)
 
 pub returns : goal.returns
 returns c =
-    rw (sym c.is_direct-direct.ensures ∙ not-false _ (ap not c.if-not-direct.false)) (rw (← c.item-v.ensures.0)
+    rw (sym c.is_direct.ensures ∙ not-false _ (ap not c.if-not-is_direct.false)) (rw (← c.item-v.ensures.0)
     (c.indent-here.ensures ▷ c.write_line.ensures))
