@@ -8,9 +8,6 @@ use Rattle.arguments.proofs.check_each.Goals as goal
 pub loop-i-init : goal.loop-i-init
 loop-i-init c = (c.requires.2, refl, refl, refl, noting_none _ _ _ _ _ _ _ _ _ _)
 
-pub check_argument-a-requires : goal.check_argument-a-requires
-check_argument-a-requires c = (c.requires.0, c.requires.1, c.loop-i.invariant.0)
-
 pub returns-then-a-gt-LAST : goal.returns-then-a-gt-LAST
 returns-then-a-gt-LAST c =
     noting_stop _ _ _ _ _ _ _ _ c.loop-i.invariant.4 (omega arith) c.check_argument-a.ensures

@@ -1,17 +1,7 @@
 use native.Mathlib.Omega.{arith}
-use mathlib.Core.Path.{refl, sym, ◌∙◌}
+use mathlib.Core.Path.{sym, ◌∙◌}
 use Rattle.arguments.proofs.PairLaws.{pair_turn, pair_hit, row_end, rows_end}
 use Rattle.arguments.proofs.equal_names.Goals as goal
-
-pub pairs-init : goal.pairs-init
-pairs-init c = (refl, refl)
-
-pub loop-j-init : goal.loop-j-init
-loop-j-init c = (c.pairs.invariant.0, refl)
-
-pub same_name-found-requires : goal.same_name-found-requires
-same_name-found-requires c =
-    (c.requires.0, c.requires.1, c.requires.2.each _ (omega arith), c.requires.2.each _ (omega arith))
 
 pub loop-j-preserved : goal.loop-j-preserved
 loop-j-preserved c = (

@@ -7,12 +7,6 @@ use Rattle.arguments.proofs.judge_argument.Goals as goal
 pub extract-k-requires : goal.extract-k-requires
 extract-k-requires c = (c.requires.0.limited, omega arith, kind_room _ _ _ c.requires.3)
 
-pub name_when-receiver-requires : goal.name_when-receiver-requires
-name_when-receiver-requires c = (c.requires.0, c.requires.1, c.requires.2, omega arith)
-
-pub name_when-requires : goal.name_when-requires
-name_when-requires c = (c.requires.0, c.requires.1, c.requires.2, omega arith)
-
 pub judge_error-requires : goal.judge_error-requires
 judge_error-requires c =
     (c.requires.0.limited, c.requires.3, kind_here _ _ _ c.requires.3 c.extract-k.ensures c.kind_of.ensures)

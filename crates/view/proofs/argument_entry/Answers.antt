@@ -24,9 +24,6 @@ returns-then-k-eq0 c =
     (indirect_atom _ _ _ c.requires.2 c.extract-k.ensures c.if-k-eq0.true c.extract-a.ensures _) (string_atom _ _
     _ c.requires.2 c.extract-k.ensures c.if-k-eq0.true c.extract-a.ensures)
 
-pub is_indirect_other-indirect-requires : goal.is_indirect_other-indirect-requires
-is_indirect_other-indirect-requires c = (c.requires.0, c.requires.2, c.extract-k.ensures, c.if-k-eq0.false)
-
 pub pack-requires-2 : goal.pack-requires-2
 pack-requires-2 c = (
   c.requires.1,
