@@ -1,19 +1,11 @@
 -- Laws of a list in front of an array.
 use mathlib.Core.Path.{◌≡◌, refl, sym, ap, ◌∙◌}
 use mathlib.Core.List.{List, [], ◌∷◌, ◌++◌, append-nil, append_assoc}
-use Rattle.std.specs.Prelude.{Option, Some, None}
-use Prim.Native.Nat.{ℕ, zero, suc, ◌+◌, ◌-◌, ◌<◌, ◌≤◌}
+use Prim.Native.Nat.{ℕ, zero, suc, ◌-◌, ◌≤◌}
 use native.Mathlib.Omega.{arith}
-use native.Mathlib.Numerals.{add-one}
-use lib.ListN.{length, take, drop, set, length-append, length-set}
-use lib.Seq.{take-suc-set, take-take, take-nil, take-append_seam, length-take-le, take-length, drop_at}
-use Rattle.holds.specs.Edges.{counted, Puts}
-
-pub put_one : {o : Option ℕ} (l : List ℕ) (at i : ℕ) → at < length l → o ≡ Some i → Puts (counted o) at l (at + 1) (set l at i)
-put_one l at i h e = rw e record { front = rw add-one (take-suc-set l at i h); end = refl; kept = length-set l at i }
-
-pub put_none : {o : Option ℕ} (l : List ℕ) (at : ℕ) → o ≡ None → Puts (counted o) at l at l
-put_none l at e = rw e record { front = sym (append-nil (take at l)); end = omega arith; kept = refl }
+use lib.ListN.{length, take, drop, length-append}
+use lib.Seq.{take-take, take-nil, take-append_seam, length-take-le, take-length, drop_at}
+use Rattle.holds.specs.Edges.{Puts}
 
 -- one list behind another
 pub put_both : {xs ys l m n : List ℕ} {at r e : ℕ} → Puts xs at l r m → Puts ys r m e n → Puts (xs ++ ys) at l e n

@@ -11,9 +11,6 @@ returns-then-marks-eq1 c = sym (unfit_marked c.requires.1 c.requires.0.few c.if-
 pub loop-i-init : goal.loop-i-init
 loop-i-init c = unfit_unmarked c.requires.1 c.requires.0.few c.if-marks-eq1.false
 
-pub indirect_error-requires : goal.indirect_error-requires
-indirect_error-requires c = (c.requires.0, (omega arith))
-
 pub returns-then-indirect_error : goal.returns-then-indirect_error
 returns-then-indirect_error c =
     sym (c.loop-i.invariant ∙ some_yes (indirect_error c.args.s.now c.args.names.now c.args.items.now

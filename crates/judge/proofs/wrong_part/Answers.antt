@@ -8,9 +8,6 @@ use Rattle.judge.proofs.wrong_part.Goals as goal
 pub loop-i-init : goal.loop-i-init
 loop-i-init c = wrong_marked c.requires.1 c.requires.0.few
 
-pub named_function-requires : goal.named_function-requires
-named_function-requires c = (c.requires.0, (omega arith))
-
 pub returns-then-named_function : goal.returns-then-named_function
 returns-then-named_function c =
     sym (c.loop-i.invariant ∙ some_yes (named_function c.args.s.now c.args.names.now c.args.items.now
