@@ -23,7 +23,7 @@ use cursor::fields::field;
 use cursor::{Cursor, width};
 use names::same_name;
 use sink::{put_bytes, put_when};
-use tables::{Pool, Table, put_name_of};
+use tables::{Pool, Table, names_in, put_name_of};
 use view::ItemView;
 
 // ---- block.rs
@@ -520,9 +520,7 @@ fn set_none(s: &[u8], t: &[u32], digests: &[u32], c: &mut [usize; Content::PLACE
     ensures { Sets s.now (names_in t.now) [] (content_of c.old)
         (content_of c.new) }
 {
-    let n = t[Table::NAMES] as usize;
-    let spaces = Cursor::new(0);
-    set_spaces(s, &t[..n], digests, c, spaces, 0);
+    set_spaces(s, names_in(t), digests, c, Cursor::new(0), 0);
 }
 
 // The end of the text: every block is closed.
