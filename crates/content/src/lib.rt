@@ -13,7 +13,7 @@ ghost use Rattle.tables.specs.Tables.{names_in, items_in, items_of, item_of, Tab
 
 use nested::EnumView;
 use out::Content;
-use tables::Table;
+use tables::{items_in, names_in};
 use view::ItemView;
 
 // The namespace of an item.
@@ -30,10 +30,7 @@ pub fn set_namespace(
         (item_at (items_of s.now t.now) v.number).namespace (content_of c.old)
         (content_of c.new) }
 {
-    let n = t[Table::NAMES] as usize;
-    let first = Table::FIRST;
-    let end = first + t[Table::ITEMS] as usize;
-    out::set_namespace(s, &t[..n], &t[first..end], digests, c, v);
+    out::set_namespace(s, names_in(t), items_in(t), digests, c, v);
 }
 
 pub fn begin_extern_c(s: &[u8], t: &[u32], digests: &[u32], c: &mut [usize; Content::PLACES])
@@ -42,8 +39,7 @@ pub fn begin_extern_c(s: &[u8], t: &[u32], digests: &[u32], c: &mut [usize; Cont
     ensures { Turns s.now (names_in t.now) named inside (content_of c.old)
         (content_of c.new) }
 {
-    let n = t[Table::NAMES] as usize;
-    out::begin_extern_c(s, &t[..n], digests, c);
+    out::begin_extern_c(s, names_in(t), digests, c);
 }
 
 pub fn end_extern_c(s: &[u8], t: &[u32], digests: &[u32], c: &mut [usize; Content::PLACES])
@@ -52,8 +48,7 @@ pub fn end_extern_c(s: &[u8], t: &[u32], digests: &[u32], c: &mut [usize; Conten
     ensures { Turns s.now (names_in t.now) inside named (content_of c.old)
         (content_of c.new) }
 {
-    let n = t[Table::NAMES] as usize;
-    out::end_extern_c(s, &t[..n], digests, c);
+    out::end_extern_c(s, names_in(t), digests, c);
 }
 
 // ---- nested.rs
@@ -63,10 +58,7 @@ pub fn enum_of(s: &[u8], t: &[u32], v: ItemView) -> EnumView
     requires { Tabled s.now t.now × Item s.now t.now v × (v.kind ≡ Enum) }
     ensures { EnumOf (item_of s.now t.now v.number).body result }
 {
-    let n = t[Table::NAMES] as usize;
-    let first = Table::FIRST;
-    let end = first + t[Table::ITEMS] as usize;
-    nested::enum_of(s, &t[..n], &t[first..end], v)
+    nested::enum_of(s, names_in(t), items_in(t), v)
 }
 
 // Whether item i is one of the group's own entries.
@@ -76,10 +68,7 @@ pub fn is_direct(s: &[u8], t: &[u32], digests: &[u32], leader: ItemView, depth: 
     ensures { result ≡ is_direct (item_of s.now t.now leader.number) depth
         (item_of s.now t.now i) }
 {
-    let n = t[Table::NAMES] as usize;
-    let first = Table::FIRST;
-    let end = first + t[Table::ITEMS] as usize;
-    nested::is_direct(s, &t[..n], &t[first..end], digests, leader, depth, i)
+    nested::is_direct(s, names_in(t), items_in(t), digests, leader, depth, i)
 }
 
 // The first item from one on that opens an inner namespace of the group, or the number of all items.
@@ -96,8 +85,5 @@ pub fn next_namespace(
     ensures { Next (items_of s.now t.now)
         (item_of s.now t.now leader.number) depth from result }
 {
-    let n = t[Table::NAMES] as usize;
-    let first = Table::FIRST;
-    let end = first + t[Table::ITEMS] as usize;
-    nested::next_namespace(s, &t[..n], &t[first..end], digests, leader, depth, from)
+    nested::next_namespace(s, names_in(t), items_in(t), digests, leader, depth, from)
 }

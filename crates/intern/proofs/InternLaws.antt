@@ -53,11 +53,3 @@ entries_of_lem {f = f} {entries} a = record {
       let h : j < f.arguments = omega (arith, l, length-take f.arguments entries) in
       let y = (a.each j h).0.of in rw (get_or-take f.arguments entries j 0 h) (rw (yielded str y) y, (a.each j h).1);
 }
-
-module _ {s before t pool : List ℕ} {end : ℕ} (d : Filled s before t pool end) {entries : List ℕ}
-    (a : Entries s before entries) {j : ℕ} (h : j < length entries) where
-  pub entry_typed : Typed s t (get_or entries j 0 / 16384)
-  entry_typed = rw d.same_items (a.each j h).0
-
-  pub entry_facts : FactsOf s (names_in t) (items_in t) (unpacked (get_or entries j 0))
-  entry_facts = rw (d.same_names, d.same_items) (a.each j h).1

@@ -23,7 +23,7 @@ use cursor::fields::field;
 use cursor::{Cursor, width};
 use names::same_name;
 use sink::{put_bytes, put_when};
-use tables::{Pool, Table, put_name_of};
+use tables::{Pool, Table, names_in, put_name_of};
 use view::ItemView;
 
 // ---- block.rs
@@ -96,15 +96,12 @@ fn same_block(s: &[u8], names: &[u32], digests: &[u32], a: Block, b: Block) -> b
     ensures { result ≡ block.same_block (block_of s.now names.now a)
         (block_of s.now names.now b) }
 {
-    match a {
-        Block::UserDefinedNamespace(m) => match b {
-            Block::UserDefinedNamespace(n) => same_name(s, names, digests, m, n),
-            Block::ExternC => false,
-        },
-        Block::ExternC => match b {
-            Block::UserDefinedNamespace(_) => false,
-            Block::ExternC => true,
-        },
+    match (a, b) {
+        (Block::UserDefinedNamespace(m), Block::UserDefinedNamespace(n)) => {
+            same_name(s, names, digests, m, n)
+        }
+        (Block::ExternC, Block::ExternC) => true,
+        _ => false,
     }
 }
 
@@ -239,15 +236,11 @@ fn cancels(s: &[u8], names: &[u32], digests: &[u32], boundary: Boundary, last: B
     ensures { result ≡ machine.cancels (boundary_of s.now names.now boundary)
         (boundary_of s.now names.now last) }
 {
-    match boundary {
-        Boundary::Begin(a) => match last {
-            Boundary::Begin(_) => false,
-            Boundary::End(b) => same_block(s, names, digests, a, b),
-        },
-        Boundary::End(a) => match last {
-            Boundary::Begin(b) => same_block(s, names, digests, a, b),
-            Boundary::End(_) => false,
-        },
+    match (boundary, last) {
+        (Boundary::Begin(a), Boundary::End(b)) => same_block(s, names, digests, a, b),
+        (Boundary::End(a), Boundary::Begin(b)) => same_block(s, names, digests, a, b),
+        (Boundary::Begin(_), Boundary::Begin(_)) => false,
+        (Boundary::End(_), Boundary::End(_)) => false,
     }
 }
 
@@ -286,8 +279,7 @@ fn push_block_boundary(
     let place = Content::FIRST + i;
     let code = c[place] as u16;
     let last = unpack(Pending { code });
-    let reverse = cancels(s, names, digests, boundary, last);
-    if reverse {
+    if cancels(s, names, digests, boundary, last) {
         c[Content::COUNT] = i;
         return;
     }
@@ -336,13 +328,11 @@ fn end_namespaces(s: &[u8], names: &[u32], digests: &[u32], c: &mut [usize; Cont
 {
     let at = c[Content::SPACES] as u32;
     let spaces = Cursor::new(at);
-    let mut d = c[Content::DEPTH] as u32;
-    while 0 < d {
-        d = d - 1;
+    let depth = c[Content::DEPTH] as u32;
+    for d in (0..depth).rev() {
         let name = name_index(s, names, spaces, d);
         let block = Block::UserDefinedNamespace(name);
-        let boundary = Boundary::End(block);
-        push_block_boundary(s, names, digests, c, boundary);
+        push_block_boundary(s, names, digests, c, Boundary::End(block));
     }
 }
 
@@ -362,13 +352,10 @@ fn begin_namespaces(
         (λ _. named (namespace_at s.now names.now spaces depth)) (content_of c.old)
         (content_of c.new) }
 {
-    let mut d: u32 = 0;
-    while d < depth {
+    for d in 0..depth {
         let name = name_index(s, names, spaces, d);
         let block = Block::UserDefinedNamespace(name);
-        let boundary = Boundary::Begin(block);
-        push_block_boundary(s, names, digests, c, boundary);
-        d = d + 1;
+        push_block_boundary(s, names, digests, c, Boundary::Begin(block));
     }
 }
 
@@ -388,11 +375,8 @@ fn set_spaces(
         (namespace_at s.now names.now spaces depth) (content_of c.old)
         (content_of c.new) }
 {
-    let before = c[Content::DEPTH];
-    if before == 0 {
-        if depth == 0 {
-            return;
-        }
+    if c[Content::DEPTH] == 0 && depth == 0 {
+        return;
     }
     end_namespaces(s, names, digests, c);
     begin_namespaces(s, names, digests, c, spaces, depth);
@@ -415,8 +399,7 @@ pub fn set_namespace(
         (item_at (items_at s.now names.now items.now) v.number).namespace
         (content_of c.old) (content_of c.new) }
 {
-    let spaces = v.spaces;
-    set_spaces(s, names, digests, c, spaces, v.depth);
+    set_spaces(s, names, digests, c, v.spaces, v.depth);
 }
 
 // ---- flush_blocks
@@ -431,10 +414,7 @@ pub struct Flushed {
 fn is_end(boundary: Boundary) -> bool
     ensures { result ≡ is_end boundary }
 {
-    match boundary {
-        Boundary::Begin(_) => false,
-        Boundary::End(_) => true,
-    }
+    matches!(boundary, Boundary::End(_))
 }
 
 // One turn of its loop.
@@ -475,14 +455,12 @@ fn flush_all(
     let mut at = c[Content::AT];
     let mut section = 0 < at;
     let count = c[Content::COUNT];
-    let mut i: usize = 0;
-    while i < count {
+    for i in 0..count {
         let place = Content::FIRST + i;
         let code = c[place] as u16;
         let boundary = unpack(Pending { code });
         at = flush_boundary(s, t, pool, boundary, section, out, at);
         section = is_end(boundary);
-        i = i + 1;
     }
     Flushed { at, section }
 }
@@ -513,10 +491,7 @@ fn flush_blocks(
 fn is_blank(f: Flushed) -> bool
     ensures { result ≡ (f.section && ltb 0 f.at) }
 {
-    if f.section {
-        return 0 < f.at;
-    }
-    false
+    f.section && 0 < f.at
 }
 
 // What `write` does before it appends a text that is not empty.
@@ -532,8 +507,7 @@ pub fn prepare(
         (content_of c.old) (content_of c.new) }
 {
     let f = flush_blocks(s, t, pool, c, out);
-    let blank = is_blank(f);
-    let at = put_when(out, f.at, blank, b"\n");
+    let at = put_when(out, f.at, is_blank(f), b"\n");
     c[Content::AT] = at;
     c[Content::COUNT] = 0;
     c[Content::SECTION] = 0;
@@ -546,9 +520,7 @@ fn set_none(s: &[u8], t: &[u32], digests: &[u32], c: &mut [usize; Content::PLACE
     ensures { Sets s.now (names_in t.now) [] (content_of c.old)
         (content_of c.new) }
 {
-    let n = t[Table::NAMES] as usize;
-    let spaces = Cursor::new(0);
-    set_spaces(s, &t[..n], digests, c, spaces, 0);
+    set_spaces(s, names_in(t), digests, c, Cursor::new(0), 0);
 }
 
 // The end of the text: every block is closed.

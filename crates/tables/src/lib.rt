@@ -82,19 +82,6 @@ impl Pool {
 
 // ---- the table
 
-// Words into as many places.
-pub fn copy_words(from: &[u32], to: &mut [u32])
-    requires { length to.old ≡ length from.now }
-    ensures { to.new ≡ from.now }
-{
-    let n = from.len();
-    let mut i = 0;
-    while i < n {
-        to[i] = from[i];
-        i += 1;
-    }
-}
-
 // The table of these names and items; its words stay.
 pub fn fill_table(names: &[u32], items: &[u32], t: &mut [u32])
     requires { (length names.now ≤ most_names) × (length items.now ≤ most_items) × (length t.old ≡ 3068) }
@@ -105,23 +92,37 @@ pub fn fill_table(names: &[u32], items: &[u32], t: &mut [u32])
     let k = items.len();
     let first = Table::FIRST;
     let end = first + k;
-    copy_words(names, &mut t[..n]);
-    copy_words(items, &mut t[first..end]);
+    t[..n].copy_from_slice(names);
+    t[first..end].copy_from_slice(items);
     t[Table::NAMES] = n as u32;
     t[Table::ITEMS] = k as u32;
 }
 
 // ---- readers
 
+// The positions of the names.
+pub fn names_in(t: &[u32]) -> &[u32]
+    requires { (length t.now ≡ 3068) × (get_or t.now 1023 0 ≤ most_names) }
+    ensures { result.now ≡ names_in t.now }
+{
+    &t[..t[Table::NAMES] as usize]
+}
+
+// The positions of the items.
+pub fn items_in(t: &[u32]) -> &[u32]
+    requires { (length t.now ≡ 3068) × (get_or t.now 1279 0 ≤ most_items) }
+    ensures { result.now ≡ items_in t.now }
+{
+    let end = Table::FIRST + t[Table::ITEMS] as usize;
+    &t[Table::FIRST..end]
+}
+
 // Item i.
 pub fn item(s: &[u8], t: &[u32], i: u32) -> ItemView
     requires { Tabled s.now t.now × (i < length (items_in t.now)) }
     ensures { (result.number ≡ i) × Item s.now t.now result }
 {
-    let n = t[Table::NAMES] as usize;
-    let first = Table::FIRST;
-    let end = first + t[Table::ITEMS] as usize;
-    view::item(s, &t[..n], &t[first..end], i)
+    view::item(s, names_in(t), items_in(t), i)
 }
 
 // The index of an item's namespace d, counted from the outermost.
@@ -131,10 +132,7 @@ pub fn namespace(s: &[u8], t: &[u32], v: ItemView, d: u32) -> u32
         (name_at s.now (get_or (names_in t.now) result 0) ≡
         get_or (item_at (items_of s.now t.now) v.number).namespace d []) }
 {
-    let n = t[Table::NAMES] as usize;
-    let first = Table::FIRST;
-    let end = first + t[Table::ITEMS] as usize;
-    view::namespace(s, &t[..n], &t[first..end], v, d)
+    view::namespace(s, names_in(t), items_in(t), v, d)
 }
 
 // The function of an item.
@@ -142,10 +140,7 @@ pub fn function(s: &[u8], t: &[u32], v: ItemView) -> FunctionView
     requires { Tabled s.now t.now × Item s.now t.now v × (v.kind ≡ RustFunction) }
     ensures { (result.number ≡ v.number) × Function s.now t.now result }
 {
-    let n = t[Table::NAMES] as usize;
-    let first = Table::FIRST;
-    let end = first + t[Table::ITEMS] as usize;
-    view::function(s, &t[..n], &t[first..end], v)
+    view::function(s, names_in(t), items_in(t), v)
 }
 
 // ---- arguments
@@ -197,25 +192,19 @@ pub fn fill_arguments(s: &[u8], t: &[u32], v: FunctionView, offsets: &mut [u32])
     ensures { Arguments s.now t.now v offsets.new ×
         (result.at ≡ behind_arguments s.now t.now v) }
 {
-    let n = t[Table::NAMES] as usize;
-    let first = Table::FIRST;
-    let end = first + t[Table::ITEMS] as usize;
     let w = width(t[Table::NAMES]);
     let mut next = v.first;
-    let mut i: u32 = 0;
-    while i < v.arguments {
-        let j = i as usize;
+    for j in 0..v.arguments as usize {
         let name = field(s, next, w);
         let of = name.next;
-        i = i + 1;
         let word = known_type(s, t, of.at);
         if 0 < word {
             offsets[j] = met_entry(s, t, of.at, word, name.value);
             next = Cursor::new(of.at + (32 - word / 16 % 32));
-            continue;
+        } else {
+            offsets[j] = argument_entry(s, names_in(t), items_in(t), name.value, of);
+            next = skip_type(s, of, t[Table::ITEMS]);
         }
-        offsets[j] = argument_entry(s, &t[..n], &t[first..end], name.value, of);
-        next = skip_type(s, of, t[Table::ITEMS]);
     }
     next
 }
@@ -228,10 +217,7 @@ pub fn needs_indirect_abi(s: &[u8], t: &[u32], c: Cursor) -> bool
     ensures { result ≡ needs_indirect_abi (items_of s.now t.now)
         (type_of s.now t.now c.at) }
 {
-    let n = t[Table::NAMES] as usize;
-    let first = Table::FIRST;
-    let end = first + t[Table::ITEMS] as usize;
-    view::needs_indirect_abi(s, &t[..n], &t[first..end], c)
+    view::needs_indirect_abi(s, names_in(t), items_in(t), c)
 }
 
 // The kind of the outermost type at c.
@@ -240,9 +226,7 @@ pub fn type_kind(s: &[u8], t: &[u32], c: Cursor) -> TypeKind
     ensures { result ≡ kind_of_type
         (type_of s.now t.now c.at) }
 {
-    let first = Table::FIRST;
-    let end = first + t[Table::ITEMS] as usize;
-    view::type_kind(s, &t[first..end], c)
+    view::type_kind(s, items_in(t), c)
 }
 
 // Whether name i is the text.
@@ -250,8 +234,7 @@ pub fn reads(s: &[u8], t: &[u32], i: u32, text: &[u8]) -> bool
     requires { Tabled s.now t.now × (i < length (names_in t.now)) }
     ensures { result ≡ same (name_at s.now (get_or (names_in t.now) i 0)) text.now }
 {
-    let n = t[Table::NAMES] as usize;
-    name_reads(s, &t[..n], i, text)
+    name_reads(s, names_in(t), i, text)
 }
 
 // ---- the pool
@@ -263,8 +246,7 @@ pub fn fill_pool(s: &[u8], t: &mut [u32], pool: &mut [u8]) -> usize
 {
     let n = t[Table::NAMES] as usize;
     let mut end: usize = 0;
-    let mut i: usize = 0;
-    while i < n {
+    for i in 0..n {
         let length = field(s, Cursor::new(t[i]), 6);
         let next = end + length.value as usize;
         if Pool::NAMES < next {
@@ -274,7 +256,6 @@ pub fn fill_pool(s: &[u8], t: &mut [u32], pool: &mut [u8]) -> usize
         let word = Table::SPELLED + i;
         t[word] = end as u32 * 64 + length.value;
         end = next;
-        i = i + 1;
     }
     end
 }

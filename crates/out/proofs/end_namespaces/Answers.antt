@@ -7,9 +7,9 @@ pub overflow_cast-at : goal.overflow_cast-at
 unfolding content_of
 overflow_cast-at c = omega (arith, c.requires.2.there.stands.spaces.near)
 
-pub overflow_cast-d : goal.overflow_cast-d
+pub overflow_cast-depth : goal.overflow_cast-depth
 unfolding content_of
-overflow_cast-d c = omega (arith, c.requires.2.there.stands.spaces.shallow)
+overflow_cast-depth c = omega (arith, c.requires.2.there.stands.spaces.shallow)
 
 pub loop-d-init : goal.loop-d-init
 unfolding content_of
@@ -30,19 +30,19 @@ unfolding content_of
 push_block_boundary-requires c = (
   c.requires.0,
   c.requires.1,
-  ending_listed _ _ _ c.loop-d-test.true c.loop-d.invariant (rw c.new-spaces.ensures at
+  ending_listed _ _ _ (omega arith) c.loop-d.invariant (rw c.new-spaces.ensures at
       c.name_index-name.ensures) c.requires.2,
-  ending_known _ _ _ c.loop-d-test.true c.loop-d.invariant
+  ending_known _ _ _ (omega arith) c.loop-d.invariant
       (rw c.new-spaces.ensures at c.name_index-name.ensures) c.requires.2,
-  ending_room _ _ _ c.loop-d-test.true
+  ending_room _ _ _ (omega arith)
       c.loop-d.invariant (rw c.new-spaces.ensures at c.name_index-name.ensures) c.requires.2,
 )
 
 pub loop-d-preserved : goal.loop-d-preserved
 unfolding content_of
 loop-d-preserved c =
-    ending_turn _ _ _ c.loop-d-test.true c.loop-d.invariant (rw c.new-spaces.ensures at c.name_index-name.ensures)
+    ending_turn _ _ _ (omega arith) c.loop-d.invariant (rw c.new-spaces.ensures at c.name_index-name.ensures)
     c.push_block_boundary.ensures
 
 pub returns : goal.returns
-returns c = ending_done _ _ _ c.loop-d-test.false c.loop-d.invariant
+returns c = ending_done _ _ _ (omega arith) c.loop-d.invariant

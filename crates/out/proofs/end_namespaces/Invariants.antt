@@ -4,6 +4,3 @@ use Rattle.out.proofs.end_namespaces.Given as goal
 
 abbrev pub invariant-loop-d : goal.invariant-loop-d
 invariant-loop-d l = Ending l.s l.names (content_of l.initial.c) (content_of l.c) l.d
-
-abbrev pub decreases-loop-d : goal.decreases-loop-d
-decreases-loop-d l = l.d

@@ -1,4 +1,3 @@
-use Prim.Native.Nat.{◌-◌}
 use Rattle.tables.specs.Tables.{names_in}
 use Rattle.out.specs.State.{content_of}
 use Rattle.out.proofs.FlushLaws.{Turned}
@@ -6,6 +5,3 @@ use Rattle.out.proofs.flush_all.Given as goal
 
 abbrev pub invariant-loop-i : goal.invariant-loop-i
 invariant-loop-i l = Turned l.s (names_in l.t) l.initial.out (content_of l.c) l.out l.at l.section l.i
-
-abbrev pub decreases-loop-i : goal.decreases-loop-i
-decreases-loop-i l = l.count - l.i

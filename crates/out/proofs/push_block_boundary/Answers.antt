@@ -31,9 +31,9 @@ unfolding content_of
 overflow_cast-code c =
     record { fits = entry_small _ c.args.c.now _ c.requires.0.few (c.requires.2.known _ (omega arith)) }
 
-pub cancels-reverse-requires : goal.cancels-reverse-requires
+pub cancels-requires : goal.cancels-requires
 unfolding content_of
-cancels-reverse-requires c = (
+cancels-requires c = (
   c.requires.0,
   c.requires.1,
   c.requires.3,
@@ -41,18 +41,18 @@ cancels-reverse-requires c = (
       (c.requires.2.known _ (omega arith)),
 )
 
-pub returns-then-reverse : goal.returns-then-reverse
+pub returns-then-cancels : goal.returns-then-cancels
 unfolding content_of
-returns-then-reverse c =
+returns-then-cancels c =
     pushes_reverse _ _ _ _ c.requires.2 c.requires.3 c.if-n-eq0.false (entry_read c.args.c.now _
-    c.unpack-last.ensures) (sym c.cancels-reverse.ensures ∙ c.if-reverse.true) (place_fewer c.args.c.now
+    c.unpack-last.ensures) (sym c.cancels.ensures ∙ c.if-cancels.true) (place_fewer c.args.c.now
     (listed_places c.args.c.now c.requires.2))
 
 pub append-requires-2 : goal.append-requires-2
 unfolding content_of
 append-requires-2 c = (
   room_other c.args.s.now _ _ c.args.boundary c.requires.2 c.requires.3 c.if-n-eq0.false (entry_read c.args.c.now _
-      c.unpack-last.ensures) (sym c.cancels-reverse.ensures ∙ c.if-reverse.false) c.requires.4,
+      c.unpack-last.ensures) (sym c.cancels.ensures ∙ c.if-cancels.false) c.requires.4,
   known_small
       c.requires.0 c.args.boundary c.requires.3,
 )
@@ -61,4 +61,4 @@ pub returns : goal.returns
 unfolding content_of
 returns c =
     pushes_other _ _ _ _ c.requires.2 c.requires.3 c.if-n-eq0.false (entry_read c.args.c.now _ c.unpack-last.ensures)
-    (sym c.cancels-reverse.ensures ∙ c.if-reverse.false) c.requires.4 c.append-2.ensures
+    (sym c.cancels.ensures ∙ c.if-cancels.false) c.requires.4 c.append-2.ensures

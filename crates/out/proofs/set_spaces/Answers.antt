@@ -5,7 +5,7 @@ use Rattle.out.proofs.set_spaces.Goals as goal
 
 pub returns-then-depth-eq0 : goal.returns-then-depth-eq0
 unfolding content_of
-returns-then-depth-eq0 c = sets_outermost _ _ c.requires.3 c.if-before-eq0.true c.if-depth-eq0.true
+returns-then-depth-eq0 c = sets_outermost _ _ c.requires.3 c.if-c-eq0.true c.if-depth-eq0.true
 
 pub begin_namespaces-requires : goal.begin_namespaces-requires
 begin_namespaces-requires c =

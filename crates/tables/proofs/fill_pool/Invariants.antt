@@ -1,4 +1,4 @@
-use Prim.Native.Nat.{◌≤◌, ◌-◌}
+use Prim.Native.Nat.{◌≤◌}
 use mathlib.Core.Path.{◌≡◌}
 use lib.ListN.{length}
 use Rattle.tables.specs.Tables.{Filled}
@@ -6,7 +6,4 @@ use Rattle.tables.proofs.fill_pool.Given as goal
 
 abbrev pub invariant-loop-i : goal.invariant-loop-i
 invariant-loop-i l =
-    (l.i ≤ l.n) × (l.end ≤ 12000) × (length l.pool ≡ length l.initial.pool) × Filled l.s l.initial.t l.t l.pool l.end
-
-abbrev pub decreases-loop-i : goal.decreases-loop-i
-decreases-loop-i l = l.n - l.i
+    (l.end ≤ 12000) × (length l.pool ≡ length l.initial.pool) × Filled l.s l.initial.t l.t l.pool l.end
