@@ -17,7 +17,6 @@ use judge::{unfit_argument, wrong_part};
 use marks::Mark;
 use order::{ring, ring_in};
 use refusal::Refusal;
-use rules::Checked;
 use taken::taken;
 use toposort::Traversal;
 
@@ -28,34 +27,31 @@ pub fn judge_parts(
     items: &[u32],
     digests: &[u32],
     marks: &[u8; Mark::PLACES],
-) -> Checked
+) -> Result<(), Refusal>
     requires { Ready s.now names.now items.now digests.now ×
         Marked s.now names.now items.now marks.now }
     ensures { result ≡ ruled_parts (items_at s.now names.now items.now) }
 {
-    let wrong = wrong_part(s, names, items, marks);
-    if wrong {
-        return Checked::Refused(Refusal::WrongPart);
+    if wrong_part(s, names, items, marks) {
+        return Err(Refusal::WrongPart);
     }
-    let repeated = taken(s, names, items, digests, marks);
-    if repeated {
-        return Checked::Refused(Refusal::Taken);
+    if taken(s, names, items, digests, marks) {
+        return Err(Refusal::Taken);
     }
-    let unfit = unfit_argument(s, names, items, marks);
-    if unfit {
-        return Checked::Refused(Refusal::UnfitArgument);
+    if unfit_argument(s, names, items, marks) {
+        return Err(Refusal::UnfitArgument);
     }
-    Checked::Accepted
+    Ok(())
 }
 
 // Rule 12, where it is known whether there is a ring.
-fn judge_ring(ring: bool) -> Checked
+fn judge_ring(ring: bool) -> Result<(), Refusal>
     ensures { result ≡ ringed ring }
 {
     if ring {
-        return Checked::Refused(Refusal::Ring);
+        return Err(Refusal::Ring);
     }
-    Checked::Accepted
+    Ok(())
 }
 
 // Rules 9 to 12, the lowest number first.
@@ -65,19 +61,13 @@ pub fn judge(
     items: &[u32],
     digests: &[u32],
     marks: &[u8; Mark::PLACES],
-) -> Checked
+) -> Result<(), Refusal>
     requires { Ready s.now names.now items.now digests.now ×
         Marked s.now names.now items.now marks.now }
     ensures { result ≡ ruled_items (items_at s.now names.now items.now) }
 {
-    let parts = judge_parts(s, names, items, digests, marks);
-    match parts {
-        Checked::Refused(e) => Checked::Refused(e),
-        Checked::Accepted => {
-            let found = ring(s, names, items);
-            judge_ring(found)
-        }
-    }
+    judge_parts(s, names, items, digests, marks)?;
+    judge_ring(ring(s, names, items))
 }
 
 // The same, where the bytes for what each struct holds are lent.
@@ -88,19 +78,13 @@ pub fn judge_in(
     digests: &[u32],
     marks: &[u8; Mark::PLACES],
     held: &mut [u8; Traversal::HELD],
-) -> Checked
+) -> Result<(), Refusal>
     requires { Ready s.now names.now items.now digests.now ×
         Marked s.now names.now items.now marks.now }
     ensures { result ≡ ruled_items (items_at s.now names.now items.now) }
 {
-    let parts = judge_parts(s, names, items, digests, marks);
-    match parts {
-        Checked::Refused(e) => Checked::Refused(e),
-        Checked::Accepted => {
-            let found = ring_in(s, names, items, held);
-            judge_ring(found)
-        }
-    }
+    judge_parts(s, names, items, digests, marks)?;
+    judge_ring(ring_in(s, names, items, held))
 }
 
 // A decoded sheet, with the four tables that its decoding filled.
@@ -111,7 +95,7 @@ fn check_decoded(
     digests: &[u32],
     marks: &[u8; Mark::PLACES],
     o: Outline,
-) -> Checked
+) -> Result<(), Refusal>
     requires { Tables sheet.now (decodeOf sheet.now) o names.now items.now digests.now
         (replicate places 0) marks.now × (most_names ≤ length names.now) × (most_items ≤ length items.now) ×
         (most_names ≤ length digests.now) }
@@ -130,19 +114,19 @@ fn answer(
     digests: &[u32; Outline::NAMES],
     marks: &[u8; Mark::PLACES],
     d: Decoded,
-) -> Checked
+) -> Result<(), Refusal>
     requires { Answers sheet.now (decodeOf sheet.now) d names.now items.now digests.now
         (replicate places 0) marks.now }
     ensures { result ≡ checkOf sheet.now }
 {
     match d {
-        Decoded::Refused(e) => Checked::Refused(e),
+        Decoded::Refused(e) => Err(e),
         Decoded::Whole(o) => check_decoded(sheet, names, items, digests, marks, o),
     }
 }
 
 // Any bytes: accepted, or the refusal.
-pub fn check(sheet: &[u8]) -> Checked
+pub fn check(sheet: &[u8]) -> Result<(), Refusal>
     ensures { result ≡ checkOf sheet.now }
 {
     let mut names = [0u32; Outline::NAMES];

@@ -9,7 +9,7 @@ use lib.Dec.{leb}
 use lib.Seq.{length-take-le}
 use borrow.Author.Tests.{le-leb, lt-leb}
 use Rattle.refusal.specs.declared.Refusal.TheVariants.{Overrun}
-use Rattle.services.specs.declared.Written.TheVariants as Written
+use Rattle.std.specs.Prelude.{Ok, Err}
 use Rattle.sink.specs.Sink.{sink, limit, Wrote}
 use Rattle.sink.proofs.SinkLaws.{wrote_place}
 use Rattle.sink.proofs.ServiceLaws.{written, written_front}
@@ -19,7 +19,7 @@ module _ {bytes short after : List ℕ} {n : ℕ} (buffer : List ℕ) (p : Wrote
   counted : n ≡ min limit (length bytes)
   counted = wrote_place p (omega arith) ∙ omega arith
 
-  pub deliver_long : length buffer < n → Delivers bytes buffer (Written.Refused Overrun) buffer
+  pub deliver_long : length buffer < n → Delivers bytes buffer (Err Overrun) buffer
   deliver_long h =
       let t = lt-leb (length bytes) (length buffer) (omega (arith, counted)) in
       record { answers = rw t; leaves = rw t }
@@ -33,7 +33,7 @@ module _ {bytes short after : List ℕ} {n : ℕ} (buffer : List ℕ) (p : Wrote
 
     -- a short text is copied
     pub deliver_short : {e : List ℕ} {at : ℕ} → n ≤ length short → length short < 2 ^ 63 →
-        Wrote (sink buffer 0) (take n after) (sink e at) → Delivers bytes buffer (Written.Length n) e
+        Wrote (sink buffer 0) (take n after) (sink e at) → Delivers bytes buffer (Ok n) e
     deliver_short {e} k near q =
         let front : take n after ≡ bytes = written_front short p k near in
         let stored : e ≡ bytes ++ drop (length bytes) buffer =
@@ -42,7 +42,7 @@ module _ {bytes short after : List ℕ} {n : ℕ} (buffer : List ℕ) (p : Wrote
 
     -- e is what a second pass left of as many bytes of the buffer
     pub deliver_fits : {e : List ℕ} {at : ℕ} → Wrote (sink (take n buffer) 0) bytes (sink e at) →
-        Delivers bytes buffer (Written.Length n) (e ++ drop n buffer)
+        Delivers bytes buffer (Ok n) (e ++ drop n buffer)
     deliver_fits {e} q =
         let part = take n buffer in
         let long : length part ≡ n = length-take-le n buffer h in

@@ -10,7 +10,6 @@ ghost use Rattle.sections.specs.Runs.{sheet_of};
 ghost use Rattle.deliver.specs.Delivers.{Delivers};
 
 use refusal::Refusal;
-use services::Written;
 use sink::put_bytes;
 use tables::{Pool, Table};
 use write::write_text;
@@ -26,7 +25,7 @@ pub fn deliver_text(
     kept: &[u32],
     short: &mut [u8],
     buf: &mut [u8],
-) -> Written
+) -> Result<usize, Refusal>
     requires { Lent s.now t.now pool.now × (digests.now ≡ digests_at s.now (names_in t.now)) ×
         Summaries s.now t.now kept.now }
     ensures { Delivers (text (sheet_of header doxygen (items_of s.now t.now)))
@@ -34,11 +33,11 @@ pub fn deliver_text(
 {
     let length = write_text(s, t, pool, digests, header, doxygen, kept, short);
     if buf.len() < length {
-        return Written::Refused(Refusal::Overrun);
+        return Err(Refusal::Overrun);
     }
     if length <= short.len() {
         put_bytes(buf, 0, &short[..length]);
-        return Written::Length(length);
+        return Ok(length);
     }
     write_text(
         s,
@@ -50,5 +49,5 @@ pub fn deliver_text(
         kept,
         &mut buf[..length],
     );
-    Written::Length(length)
+    Ok(length)
 }

@@ -2,31 +2,29 @@ use mathlib.Core.Path.{sym, ◌∙◌}
 use Rattle.check_sheet.specs.Ruled.{ruled_parts}
 use Rattle.check_sheet.proofs.judge_parts.Goals as goal
 
-pub returns-then-wrong : goal.returns-then-wrong
+pub returns-then-wrong_part : goal.returns-then-wrong_part
 unfolding ruled_parts
-returns-then-wrong c = rw (sym c.wrong_part-wrong.ensures ∙ c.if-wrong.true)
+returns-then-wrong_part c = rw (sym c.wrong_part.ensures ∙ c.if-wrong_part.true)
 
-pub returns-then-repeated : goal.returns-then-repeated
+pub returns-then-taken : goal.returns-then-taken
 unfolding ruled_parts
-returns-then-repeated c =
-    rw (sym c.wrong_part-wrong.ensures ∙ c.if-wrong.false, sym c.taken-repeated.ensures ∙ c.if-repeated.true)
+returns-then-taken c =
+    rw (sym c.wrong_part.ensures ∙ c.if-wrong_part.false, sym c.taken.ensures ∙ c.if-taken.true)
 
-pub returns-then-unfit : goal.returns-then-unfit
+pub returns-then-unfit_argument : goal.returns-then-unfit_argument
 unfolding ruled_parts
-returns-then-unfit c =
+returns-then-unfit_argument c =
     rw (
-      sym c.wrong_part-wrong.ensures ∙ c.if-wrong.false,
-      sym c.taken-repeated.ensures ∙ c.if-repeated.false,
-      sym
-          c.unfit_argument-unfit.ensures ∙ c.if-unfit.true,
+      sym c.wrong_part.ensures ∙ c.if-wrong_part.false,
+      sym c.taken.ensures ∙ c.if-taken.false,
+      sym c.unfit_argument.ensures ∙ c.if-unfit_argument.true,
     )
 
 pub returns : goal.returns
 unfolding ruled_parts
 returns c =
     rw (
-      sym c.wrong_part-wrong.ensures ∙ c.if-wrong.false,
-      sym c.taken-repeated.ensures ∙ c.if-repeated.false,
-      sym
-          c.unfit_argument-unfit.ensures ∙ c.if-unfit.false,
+      sym c.wrong_part.ensures ∙ c.if-wrong_part.false,
+      sym c.taken.ensures ∙ c.if-taken.false,
+      sym c.unfit_argument.ensures ∙ c.if-unfit_argument.false,
     )
