@@ -214,6 +214,7 @@ pub fn skip_type(s: &[u8], c: Cursor, items: u32) -> Cursor
     let mut at = c.at;
     let mut k = extract(s, at, 4);
     let mut p = prefix_of(k);
+    // Down the prefixes, no count.
     while 0 < p {
         at = at + p;
         k = extract(s, at, 4);
