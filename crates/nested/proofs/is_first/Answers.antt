@@ -5,9 +5,6 @@ use Rattle.nested.proofs.is_first.Goals as goal
 pub loop-k-init : goal.loop-k-init
 loop-k-init c = first_begin _ _ _ c.requires.2 _
 
-pub is_member-requires : goal.is_member-requires
-is_member-requires c = (c.requires.0, c.requires.1, c.requires.2, omega (arith, c.requires.2.there))
-
 pub returns-then-is_member : goal.returns-then-is_member
 returns-then-is_member c = first_found _ _ _ c.requires.2 _ (omega arith) c.is_member.ensures c.if-is_member.true
 

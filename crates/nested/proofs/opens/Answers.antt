@@ -1,6 +1,5 @@
-use native.Mathlib.Omega.{arith}
 use Rattle.lexical.proofs.BoolLaws.{not-true, not-false}
-use Rattle.nested.proofs.ViewLaws.{own_shallow, opens_unneeded, opens_shallow, opens_outside, opens_inside}
+use Rattle.nested.proofs.ViewLaws.{opens_unneeded, opens_shallow, opens_outside, opens_inside}
 use mathlib.Core.Path.{ap, ◌∙◌}
 use mathlib.Core.Bool.{not}
 use Rattle.nested.proofs.opens.Goals as goal
@@ -11,10 +10,6 @@ returns-then-depth_at-depth c = opens_shallow _ _ _ _ _ _ c.depth_at.ensures c.i
 pub returns-then-not-needs_forward_declaration : goal.returns-then-not-needs_forward_declaration
 returns-then-not-needs_forward_declaration c =
     opens_unneeded _ _ _ _ _ _ c.needs_forward_declaration.ensures (not-true _ (ap not c.if-not-needs_forward_declaration.true))
-
-pub overflow_add-depth : goal.overflow_add-depth
-overflow_add-depth c =
-    omega (arith, c.if-depth_at-depth.false, own_shallow c.depth_at.ensures c.item-v.ensures.1 c.item-v.ensures.0)
 
 pub returns-then-shares : goal.returns-then-shares
 returns-then-shares c =

@@ -1,7 +1,7 @@
 use mathlib.Core.Logic.{⊎_elim}
 use native.Mathlib.Omega.{arith}
 use Rattle.lexical.proofs.BoolLaws.{not-true, not-false}
-use Rattle.nested.proofs.ViewLaws.{first_short, second_short, spaces_begin, spaces_turn, spaces_differ, spaces_end}
+use Rattle.nested.proofs.ViewLaws.{first_short, second_short, spaces_turn, spaces_differ, spaces_end}
 use mathlib.Core.Path.{ap}
 use mathlib.Core.Bool.{not}
 use Rattle.nested.proofs.shares.Goals as goal
@@ -10,18 +10,6 @@ pub returns-then-v-depth : goal.returns-then-v-depth
 returns-then-v-depth c =
     ⊎_elim (λ l. first_short c.requires.2 c.requires.3 _ l) (λ q. second_short c.requires.2 c.requires.3 _ q.1)
     c.then-v-depth.either
-
-pub loop-d-init : goal.loop-d-init
-loop-d-init c = spaces_begin c.requires.2 c.requires.3 _
-
-pub namespace-a-requires : goal.namespace-a-requires
-namespace-a-requires c = (c.requires.0, c.requires.2, omega arith)
-
-pub namespace-b-requires : goal.namespace-b-requires
-namespace-b-requires c = (c.requires.0, c.requires.3, omega arith)
-
-pub same_name-requires : goal.same_name-requires
-same_name-requires c = (c.requires.0.named, c.requires.1, c.namespace-a.ensures.0, c.namespace-b.ensures.0)
 
 pub returns-then-not-same_name : goal.returns-then-not-same_name
 returns-then-not-same_name c =
