@@ -25,10 +25,7 @@ pub fn advance(at: usize, count: usize) -> usize
 pub fn has_room(len: usize, at: usize, count: usize) -> bool
     ensures { Fits at count len result }
 {
-    if len < at {
-        return false;
-    }
-    count <= len - at
+    at <= len && count <= len - at
 }
 
 // The first `count` bytes of a text, all within the buffer.
@@ -36,10 +33,8 @@ fn copy_at(out: &mut [u8], at: usize, text: &[u8], count: usize)
     requires { (count ≤ length text.now) × (at + count ≤ length out.old) }
     ensures { out.new ≡ sets out.old at (take count text.now) }
 {
-    let mut i = 0;
-    while i < count {
+    for i in 0..count {
         out[at + i] = text[i];
-        i += 1;
     }
 }
 
@@ -48,8 +43,7 @@ pub fn put_bytes(out: &mut [u8], at: usize, text: &[u8]) -> usize
     ensures { Wrote (sink out.old at) text.now (sink out.new result) }
 {
     let count = text.len();
-    let room = has_room(out.len(), at, count);
-    if room {
+    if has_room(out.len(), at, count) {
         copy_at(out, at, text, count);
         return at + count;
     }
@@ -91,11 +85,8 @@ fn copy_plain(text: &[u8], buf: &mut [u8])
     requires { length buf.old ≡ length text.now }
     ensures { buf.new ≡ text.now }
 {
-    let n = text.len();
-    let mut i = 0;
-    while i < n {
+    for i in 0..text.len() {
         buf[i] = text[i];
-        i += 1;
     }
 }
 
@@ -136,8 +127,7 @@ pub fn put_text(out: &mut [u8], at: usize, text: &[u8]) -> usize
     ensures { Wrote (sink out.old at) text.now (sink out.new result) }
 {
     let count = text.len();
-    let room = has_room(out.len(), at, count);
-    if room {
+    if has_room(out.len(), at, count) {
         let end = at + count;
         copy(text, &mut out[at..end]);
         return end;
@@ -171,12 +161,9 @@ pub fn put_unless(out: &mut [u8], at: usize, no: bool, text: &[u8]) -> usize
 pub fn put_repeat(out: &mut [u8], at: usize, count: usize, byte: u8) -> usize
     ensures { Wrote (sink out.old at) (replicate count byte) (sink out.new result) }
 {
-    let room = has_room(out.len(), at, count);
-    if room {
-        let mut i = 0;
-        while i < count {
+    if has_room(out.len(), at, count) {
+        for i in 0..count {
             out[at + i] = byte;
-            i += 1;
         }
         return at + count;
     }

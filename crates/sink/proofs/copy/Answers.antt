@@ -1,5 +1,4 @@
 use native.Mathlib.Omega.{arith}
-use Prim.Native.Nat.{◌-◌}
 use Rattle.sink.proofs.CopyLaws.{copied_none, copied_less, copied_all}
 use Rattle.sink.proofs.copy.Goals as goal
 
