@@ -2,6 +2,9 @@
 use mathlib.Core.Path.{◌≡◌, refl, sym, ap, ◌∙◌}
 use mathlib.Core.Bool.{Bool, true, false, not, ◌&&◌}
 use Prim.Native.Nat.{ℕ, zero, suc}
+use native.Mathlib.Omega.{arith}
+use lib.Dec.{eqb}
+use borrow.Author.Tests.{ne_eqb}
 use Rattle.format.specs.Sheet.{Function, Item, Sheet}
 use Rattle.format.specs.Decoding.{form_of}
 use Rattle.bridge.specs.Out as machine
@@ -10,12 +13,13 @@ use Rattle.bridge.specs.Write.{is_free, function_shim, write_rust_function_shim}
 use Rattle.pieces.proofs.Machine.{nothing_written}
 use Rattle.sections.specs.Runs.{hidden_form, shim_section}
 
-pub hidden_free : (header : Bool) (form : ℕ) → form ≡ 0 → false ≡ hidden_form header form
-hidden_free header form e = rw e
+pub hidden_none : (header : Bool) (form : ℕ) → header ≡ false → header ≡ hidden_form header form
+hidden_none header zero e = e
+hidden_none header (suc form) e = refl
 
-pub hidden_method : (header : Bool) (form : ℕ) → (form ≡ 0 → ⊥) → header ≡ hidden_form header form
-hidden_method header zero h = absurd (h refl)
-hidden_method header (suc form) h = refl
+pub hidden_some : (header : Bool) (form : ℕ) → header ≡ true → not (eqb form 0) ≡ hidden_form header form
+hidden_some header zero e = refl
+hidden_some header (suc form) e = rw (ne_eqb (suc form) 0 (omega arith), e)
 
 hidden_form_lem : (header : Bool) (form owner : ℕ) → (header && not (is_free (form_of form owner))) ≡ hidden_form header form
 hidden_form_lem true zero owner = refl

@@ -131,10 +131,7 @@ pub fn write_opaque_type_layout(
 fn is_hidden(header: bool, form: u32) -> bool
     ensures { result ≡ hidden_form header form }
 {
-    if form == 0 {
-        return false;
-    }
-    header
+    header && form != 0
 }
 
 // Behind a section.
@@ -165,8 +162,7 @@ pub fn write_rust_function_shim(
     let comment = load_summary(s, t, f, kept, offsets);
     next_section(c);
     set_namespace(s, t, digests, c, v);
-    let hidden = is_hidden(header, f.form);
-    if hidden {
+    if is_hidden(header, f.form) {
         return;
     }
     prepare(s, t, pool, c, out);

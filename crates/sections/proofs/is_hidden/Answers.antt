@@ -1,8 +1,8 @@
-use Rattle.sections.proofs.ShimLaws.{hidden_free, hidden_method}
+use Rattle.sections.proofs.ShimLaws.{hidden_none, hidden_some}
 use Rattle.sections.proofs.is_hidden.Goals as goal
 
-pub returns-then-form-eq0 : goal.returns-then-form-eq0
-returns-then-form-eq0 c = hidden_free _ _ c.if-form-eq0.true
+pub returns-then-header : goal.returns-then-header
+returns-then-header c = hidden_some _ _ c.if-header.true
 
-pub returns : goal.returns
-returns c = hidden_method _ _ c.if-form-eq0.false
+pub returns-else-header : goal.returns-else-header
+returns-else-header c = hidden_none _ _ c.if-header.false
