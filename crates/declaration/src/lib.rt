@@ -36,13 +36,12 @@ fn write_direct_return(
         (shape_of (type_of s.now t.now c.at))) (sink out.new result) }
 {
     let v = shape(s, t, c);
-    let kind = v.kind;
-    match kind {
-        ShapeKind::RustBox => write_pointer(s, t, pool, v.inner, true, out, at),
-        ShapeKind::UniquePtr => write_pointer(s, t, pool, v.inner, true, out, at),
+    match v.kind {
+        ShapeKind::RustBox | ShapeKind::UniquePtr => {
+            write_pointer(s, t, pool, v.inner, true, out, at)
+        }
         ShapeKind::Ref => write_pointer(s, t, pool, v.inner, v.mutable, out, at),
-        ShapeKind::Str => put_bytes(out, at, b"::rust::repr::Fat "),
-        ShapeKind::SliceRef => put_bytes(out, at, b"::rust::repr::Fat "),
+        ShapeKind::Str | ShapeKind::SliceRef => put_bytes(out, at, b"::rust::repr::Fat "),
         ShapeKind::Other => write_outermost_space(s, t, pool, c, out, at),
     }
 }

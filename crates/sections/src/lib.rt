@@ -163,8 +163,7 @@ pub fn write_rust_function_shim(
     let comment = load_summary(s, t, f, kept, offsets);
     next_section(c);
     set_namespace(s, t, digests, c, v);
-    let hidden = is_hidden(header, f.form);
-    if hidden {
+    if is_hidden(header, f.form) {
         return;
     }
     prepare(s, t, pool, c, out);

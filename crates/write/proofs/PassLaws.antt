@@ -64,6 +64,25 @@ define_kind_lem s x m (cxx_type p) e = refl
 define_kind_lem s x m (rust_type p) e = refl
 define_kind_lem s x m (function f) e = rw e
 
+-- a kind of no pass
+declare_other : (k : ItemKind) (items : List Item) (x : Item) (m : machine.Content) → (k ≡ RustFunction → ⊥) →
+    (k ≡ RustType → ⊥) → m ≡ declare_kind k items x m
+declare_other RustFunction items x m p q = absurd (p refl)
+declare_other RustType items x m p q = absurd (q refl)
+declare_other Struct items x m p q = refl
+declare_other Enum items x m p q = refl
+declare_other CxxType items x m p q = refl
+declare_other Bad items x m p q = refl
+
+define_other : (k : ItemKind) (s : Sheet) (x : Item) (m : machine.Content) → (k ≡ RustFunction → ⊥) →
+    (k ≡ RustType → ⊥) → m ≡ define_kind k s x m
+define_other RustFunction s x m p q = absurd (p refl)
+define_other RustType s x m p q = absurd (q refl)
+define_other Struct s x m p q = refl
+define_other Enum s x m p q = refl
+define_other CxxType s x m p q = refl
+define_other Bad s x m p q = refl
+
 -- n is the item's number, and its kind is told
 module _ {sheet names buf after : List ℕ} {c r : Content} {n i : ℕ} {k told : ItemKind} (e : n ≡ i) where
   pub declared_at : (items : List Item) → k ≡ kind_of_body (item_at items n).body → k ≡ told →
@@ -81,6 +100,19 @@ module _ {sheet names buf after : List ℕ} {c r : Content} {n i : ℕ} {k told 
       rw (sym e) (runs_as
       (λ m. ap (λ (j : ItemKind). define_kind j s (item_at s.items n) m) (sym b ∙ a)
       ∙ define_kind_lem s (item_at s.items n) m (item_at s.items n).body refl) run)
+
+-- likewise, of no pass
+module _ {sheet names buf : List ℕ} {c : Content} {n i : ℕ} {k : ItemKind} (e : n ≡ i) (p : k ≡ RustFunction → ⊥)
+    (q : k ≡ RustType → ⊥) where
+  pub declared_other : (items : List Item) → k ≡ kind_of_body (item_at items n).body →
+      Runs sheet names buf buf (declare_item items (item_at items i)) c c
+  declared_other items a =
+      declared_at e items a refl (runs_as (λ m. declare_other k items (item_at items n) m p q) runs_none)
+
+  pub defined_other : (s : Sheet) → k ≡ kind_of_body (item_at s.items n).body →
+      Runs sheet names buf buf (define_item s (item_at s.items i)) c c
+  defined_other s a =
+      defined_at e s a refl (runs_as (λ m. define_other k s (item_at s.items n) m p q) runs_none)
 
 -- ---- one item after the other
 

@@ -46,18 +46,14 @@ fn declare(
         (content_of c.new) }
 {
     let v = item(s, t, i);
-    let kind = v.kind;
-    match kind {
+    match v.kind {
         ItemKind::RustFunction => {
             write_rust_function_decl(s, t, pool, digests, v, kept, offsets, c, out);
         }
         ItemKind::RustType => {
             write_opaque_type_layout_decls(s, t, pool, digests, v, c, out);
         }
-        ItemKind::Struct => {}
-        ItemKind::Enum => {}
-        ItemKind::CxxType => {}
-        ItemKind::Bad => {}
+        _ => {}
     }
 }
 
@@ -84,8 +80,7 @@ fn define(
         (content_of c.new) }
 {
     let v = item(s, t, i);
-    let kind = v.kind;
-    match kind {
+    match v.kind {
         ItemKind::RustFunction => {
             write_rust_function_shim(
                 s, t, pool, digests, header, doxygen, v, kept, offsets, c, out,
@@ -97,10 +92,7 @@ fn define(
             }
             write_opaque_type_layout(s, t, pool, digests, v, c, out);
         }
-        ItemKind::Struct => {}
-        ItemKind::Enum => {}
-        ItemKind::CxxType => {}
-        ItemKind::Bad => {}
+        _ => {}
     }
 }
 
@@ -123,10 +115,8 @@ fn declare_all(
         (content_of c.new) }
 {
     let n = t[Table::ITEMS];
-    let mut i: u32 = 0;
-    while i < n {
+    for i in 0..n {
         declare(s, t, pool, digests, i, kept, offsets, c, out);
-        i = i + 1;
     }
 }
 
@@ -152,12 +142,10 @@ fn define_all(
         (content_of c.new) }
 {
     let count = t[Table::ITEMS];
-    let mut i: u32 = 0;
-    while i < count {
+    for i in 0..count {
         define(
             s, t, pool, digests, header, doxygen, i, kept, offsets, c, out,
         );
-        i = i + 1;
     }
 }
 

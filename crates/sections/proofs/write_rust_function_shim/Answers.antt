@@ -19,9 +19,9 @@ set_namespace-requires c = (
   c.requires.2,
 )
 
-pub returns-then-hidden : goal.returns-then-hidden
-returns-then-hidden c =
-    runs_as (hidden_shim _ _ (function_of _ _) c.function-f.ensures.0 c.function-f.ensures.1.view.form.form (sym c.is_hidden-hidden.ensures ∙ c.if-hidden.true))
+pub returns-then-is_hidden : goal.returns-then-is_hidden
+returns-then-is_hidden c =
+    runs_as (hidden_shim _ _ (function_of _ _) c.function-f.ensures.0 c.function-f.ensures.1.view.form.form (sym c.is_hidden.ensures ∙ c.if-is_hidden.true))
     (runs_then (runs_asked c.next_section.ensures) (runs_set c.set_namespace.ensures))
 
 pub prepare-requires : goal.prepare-requires
@@ -43,7 +43,7 @@ write_function_shim-at-requires c = (
 
 pub returns : goal.returns
 returns c =
-    runs_as (shown_shim _ _ (function_of _ _) c.function-f.ensures.0 c.function-f.ensures.1.view.form.form (sym c.is_hidden-hidden.ensures ∙ c.if-hidden.false))
+    runs_as (shown_shim _ _ (function_of _ _) c.function-f.ensures.0 c.function-f.ensures.1.view.form.form (sym c.is_hidden.ensures ∙ c.if-is_hidden.false))
     (runs_then (runs_then (runs_asked c.next_section.ensures) (runs_set c.set_namespace.ensures)) (runs_written
     (some_shim _ _ _) c.prepare.ensures (from_place c.prepare.new.c c.write_function_shim-at.ensures)
     c.placed.ensures))

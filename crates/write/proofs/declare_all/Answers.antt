@@ -1,6 +1,5 @@
 use native.Mathlib.Omega.{arith}
 use mathlib.Core.Path.{refl}
-use Prim.Native.Nat.{◌-◌}
 use Rattle.sections.proofs.StateLaws.{representing_after}
 use Rattle.write.proofs.PassLaws.{pass_none, pass_next, pass_all}
 use Rattle.tables.proofs.TableLaws.{items_count_lem}
@@ -13,22 +12,15 @@ pub declare-requires : goal.declare-requires
 declare-requires c = (
   c.requires.0,
   c.requires.1,
-  omega (arith, items_count_lem c.requires.0.tabled, c.loop-i-test.true),
+  omega (arith, items_count_lem c.requires.0.tabled),
   c.requires.2,
   omega (arith, c.loop-i.invariant.1, c.requires.3),
   representing_after c.requires.4 c.loop-i.invariant.0.runs,
 )
 
-pub overflow_add-i : goal.overflow_add-i
-overflow_add-i c =
-    omega (arith, items_count_lem c.requires.0.tabled, c.loop-i-test.true, c.requires.0.tabled.whole.few)
-
-pub loop-i-smaller : goal.loop-i-smaller
-loop-i-smaller c = omega (arith, items_count_lem c.requires.0.tabled, c.loop-i-test.true)
-
 pub loop-i-preserved : goal.loop-i-preserved
 loop-i-preserved c = (
-  pass_next _ _ _ _ (omega (arith, items_count_lem c.requires.0.tabled, c.loop-i-test.true)) c.loop-i.invariant.0
+  pass_next _ _ _ _ (omega (arith, items_count_lem c.requires.0.tabled)) c.loop-i.invariant.0
       c.declare.ensures,
   omega (arith, c.loop-i.invariant.1, c.declare.auto),
   omega (
@@ -40,4 +32,4 @@ loop-i-preserved c = (
 
 pub returns : goal.returns
 returns c =
-    pass_all _ _ _ _ (omega (arith, items_count_lem c.requires.0.tabled, c.loop-i-test.false)) c.loop-i.invariant.0
+    pass_all _ _ _ _ (omega (arith, items_count_lem c.requires.0.tabled)) c.loop-i.invariant.0

@@ -1,5 +1,4 @@
 use mathlib.Core.Path.{◌≡◌}
-use Prim.Native.Nat.{◌-◌}
 use lib.ListN.{length}
 use Rattle.out.specs.State.{content_of}
 use Rattle.write.specs.Passes.{declare_item}
@@ -12,6 +11,3 @@ invariant-loop-i l =
     Passed l.s (names_in l.t) (items_in l.t) (declare_item (items_of l.s l.t)) l.initial.out l.out (content_of
     l.initial.c) (content_of l.c) l.i × (length l.offsets ≡ length l.initial.offsets) × (length l.out ≡ length
     l.initial.out)
-
-abbrev pub decreases-loop-i : goal.decreases-loop-i
-decreases-loop-i l = length (items_in l.t) - l.i
