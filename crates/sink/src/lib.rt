@@ -114,10 +114,8 @@ fn copy(text: &[u8], buf: &mut [u8])
         copy_eight(text, last, buf);
         return;
     }
-    let mut i = 8;
-    while i < last {
+    for i in (8..last).step_by(8) {
         copy_eight(text, i, buf);
-        i += 8;
     }
     copy_eight(text, last, buf);
 }
