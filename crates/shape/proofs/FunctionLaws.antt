@@ -104,9 +104,6 @@ pub arguments_count : {s names items offsets : List ℕ} {f : FunctionView} → 
     length (function_at s names items f.number).arguments ≡ f.arguments
 arguments_count a = a.count
 
-pub method_const : (k i : ℕ) → k ≡ 1 → true ≡ is_method (form_of k i)
-method_const k i e = rw e
-
 pub method_other : (k i : ℕ) → (k ≡ 1 → ⊥) → eqb k 2 ≡ is_method (form_of k i)
 method_other zero i h = refl
 method_other (suc zero) i h = absurd (h refl)
