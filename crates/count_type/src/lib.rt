@@ -115,6 +115,7 @@ pub fn count_type(
     let mut k = extract(s, at, 4);
     let mut sum = end_length(spaced, k);
     let mut prefix = prefix_of(k);
+    // Down to the base, level by level: no count.
     while 0 < prefix {
         sum = sum + begin_length(k);
         if prefix == 4 {

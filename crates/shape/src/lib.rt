@@ -49,11 +49,8 @@ fn template_kind(k: Template) -> ShapeKind
 {
     match k {
         Template::RustBox => ShapeKind::RustBox,
-        Template::RustVec => ShapeKind::Other,
         Template::UniquePtr => ShapeKind::UniquePtr,
-        Template::SharedPtr => ShapeKind::Other,
-        Template::WeakPtr => ShapeKind::Other,
-        Template::CxxVector => ShapeKind::Other,
+        _ => ShapeKind::Other,
     }
 }
 
@@ -74,11 +71,7 @@ fn shape_kind(kind: TypeKind) -> ShapeKind
         TypeKind::Template(k) => template_kind(k),
         TypeKind::Pointer(k) => pointer_kind(k),
         TypeKind::Str => ShapeKind::Str,
-        TypeKind::Atom => ShapeKind::Other,
-        TypeKind::Named => ShapeKind::Other,
-        TypeKind::Fn => ShapeKind::Other,
-        TypeKind::Array => ShapeKind::Other,
-        TypeKind::Bad => ShapeKind::Other,
+        _ => ShapeKind::Other,
     }
 }
 
@@ -86,14 +79,7 @@ fn shape_kind(kind: TypeKind) -> ShapeKind
 pub fn is_ref(kind: ShapeKind) -> bool
     ensures { result ≡ is_ref kind }
 {
-    match kind {
-        ShapeKind::Ref => true,
-        ShapeKind::RustBox => false,
-        ShapeKind::UniquePtr => false,
-        ShapeKind::Str => false,
-        ShapeKind::SliceRef => false,
-        ShapeKind::Other => false,
-    }
+    matches!(kind, ShapeKind::Ref)
 }
 
 // The shape of the outermost type at c.
@@ -105,8 +91,7 @@ pub fn shape(s: &[u8], t: &[u32; Table::PLACES], c: Cursor) -> ShapeView
 {
     let k = field(s, c, 4);
     let kind = shape_kind(kind_of(k.value));
-    let reference = is_ref(kind);
-    if reference {
+    if is_ref(kind) {
         let m = field(s, k.next, 1);
         let mutable = m.value == 1;
         let inner = m.next;
@@ -238,14 +223,9 @@ pub fn write_slot_type(
         (shape_of (type_of s.now t.now c.at))) (sink out.new result) }
 {
     let v = shape(s, t, c);
-    let kind = v.kind;
-    match kind {
+    match v.kind {
         ShapeKind::Ref => write_pointer(s, t, pool, v.inner, v.mutable, out, at),
-        ShapeKind::RustBox => write_outermost(s, t, pool, c, out, at),
-        ShapeKind::UniquePtr => write_outermost(s, t, pool, c, out, at),
-        ShapeKind::Str => write_outermost(s, t, pool, c, out, at),
-        ShapeKind::SliceRef => write_outermost(s, t, pool, c, out, at),
-        ShapeKind::Other => write_outermost(s, t, pool, c, out, at),
+        _ => write_outermost(s, t, pool, c, out, at),
     }
 }
 
@@ -262,10 +242,7 @@ pub fn is_method(f: FunctionView) -> bool
 pub fn needs_comma(others: bool, count: u32) -> bool
     ensures { result ≡ (others || ltb 0 count) }
 {
-    if others {
-        return true;
-    }
-    0 < count
+    others || 0 < count
 }
 
 // Whether a function returns by a slot.

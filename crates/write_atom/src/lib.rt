@@ -55,11 +55,7 @@ pub fn put_template(k: Template, out: &mut [u8], at: usize) -> usize
 fn is_slice(k: Pointer) -> bool
     ensures { result ≡ is_slice k }
 {
-    match k {
-        Pointer::Ref => false,
-        Pointer::Ptr => false,
-        Pointer::SliceRef => true,
-    }
+    matches!(k, Pointer::SliceRef)
 }
 
 // What stands before the inner type of a pointer.
@@ -97,13 +93,7 @@ fn is_spaced(kind: TypeKind) -> bool
 {
     match kind {
         TypeKind::Pointer(k) => is_slice(k),
-        TypeKind::Atom => true,
-        TypeKind::Named => true,
-        TypeKind::Template(_) => true,
-        TypeKind::Str => true,
-        TypeKind::Fn => true,
-        TypeKind::Array => true,
-        TypeKind::Bad => true,
+        _ => true,
     }
 }
 

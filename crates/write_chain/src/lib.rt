@@ -149,6 +149,7 @@ fn enter(
     let mut stack = end_length(spaced, k) * 14;
     let mut here = at;
     let mut prefix = prefix_of(k);
+    // Down to the base, level by level: no count.
     while 0 < prefix {
         if HIGH <= stack {
             return Entered {
@@ -225,6 +226,7 @@ fn leave(codes: usize, out: &mut [u8], at: usize) -> usize
 {
     let mut stack = codes;
     let mut here = at;
+    // A stack of codes, no count.
     while 0 < stack {
         here = put_end(stack % 16, out, here);
         stack = stack / 16;

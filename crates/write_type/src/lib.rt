@@ -102,13 +102,11 @@ pub fn write_type(
             let count = n.value;
             here = put_bytes(out, here, b"(");
             next = n.next;
-            let mut i: u32 = 0;
-            while i < count {
+            for i in 0..count {
                 here = put_when(out, here, 0 < i, b", ");
                 let w = write_type(&s[..], t, pool, next, inner, out, here);
                 here = w.at;
                 next = w.next;
-                i = i + 1;
             }
             let end = put_bytes(out, here, b")>");
             Walked { at: end, next }

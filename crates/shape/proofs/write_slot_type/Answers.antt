@@ -1,4 +1,14 @@
-use mathlib.Core.Path.{refl}
+use mathlib.Core.Path.{◌≡◌, refl}
+use mathlib.Core.List.{List}
+use mathlib.Core.Bool.{Bool}
+use Rattle.format.specs.Types.{Ty}
+use Rattle.format.specs.Sheet.{Item}
+use Rattle.bridge.specs.WriteType.{write_type}
+use Rattle.bridge.specs.Write.{slot_type}
+use Rattle.sink.proofs.SinkLaws.{wrote_as}
+use Rattle.shape.specs.declared.ShapeKind.{ShapeKind}
+use Rattle.shape.specs.declared.ShapeKind.TheVariants.{RustBox, UniquePtr, Ref, Str, SliceRef, Other}
+use Rattle.shape.specs.Shapes.{shape_with}
 use Rattle.shape.proofs.ShapeLaws.{has_inner_lem, slot_type_lem}
 use Rattle.tables.specs.Tables.{names_in, items_in}
 use Rattle.shape.proofs.write_slot_type.Goals as goal
@@ -11,27 +21,17 @@ returns-in-Ref c =
     slot_type_lem c.args.s.now (names_in c.args.t.now) (items_in c.args.t.now) c.args.c.at c.shape-v.ensures
     c.in-Ref.is c.write_pointer.ensures
 
-pub returns-in-RustBox : goal.returns-in-RustBox
-returns-in-RustBox c =
-    slot_type_lem c.args.s.now (names_in c.args.t.now) (items_in c.args.t.now) c.args.c.at c.shape-v.ensures
-    c.in-RustBox.is c.write_outermost.ensures
+-- a kind that is no reference
+plain_slot : (items : List Item) (t : Ty) (k : ShapeKind) (m : Bool) (u : Ty) → (k ≡ Ref → ⊥) →
+    write_type items t ≡ slot_type items t (shape_with k m u)
+plain_slot items t RustBox m u h = refl
+plain_slot items t UniquePtr m u h = refl
+plain_slot items t Ref m u h = absurd (h refl)
+plain_slot items t Str m u h = refl
+plain_slot items t SliceRef m u h = refl
+plain_slot items t Other m u h = refl
 
-pub returns-in-UniquePtr : goal.returns-in-UniquePtr
-returns-in-UniquePtr c =
-    slot_type_lem c.args.s.now (names_in c.args.t.now) (items_in c.args.t.now) c.args.c.at c.shape-v.ensures
-    c.in-UniquePtr.is c.write_outermost-in-UniquePtr.ensures
-
-pub returns-in-Str : goal.returns-in-Str
-returns-in-Str c =
-    slot_type_lem c.args.s.now (names_in c.args.t.now) (items_in c.args.t.now) c.args.c.at c.shape-v.ensures
-    c.in-Str.is c.write_outermost-in-Str.ensures
-
-pub returns-in-SliceRef : goal.returns-in-SliceRef
-returns-in-SliceRef c =
-    slot_type_lem c.args.s.now (names_in c.args.t.now) (items_in c.args.t.now) c.args.c.at c.shape-v.ensures
-    c.in-SliceRef.is c.write_outermost-in-SliceRef.ensures
-
-pub returns-in-Other : goal.returns-in-Other
-returns-in-Other c =
-    slot_type_lem c.args.s.now (names_in c.args.t.now) (items_in c.args.t.now) c.args.c.at c.shape-v.ensures
-    c.in-Other.is c.write_outermost-in-Other.ensures
+pub returns-in_default : goal.returns-in_default
+returns-in_default c =
+    slot_type_lem c.args.s.now (names_in c.args.t.now) (items_in c.args.t.now) c.args.c.at c.shape-v.ensures refl
+    (wrote_as c.write_outermost.ensures (plain_slot _ _ _ _ _ c.in_default.not-Ref))

@@ -1,4 +1,4 @@
-use Rattle.std.proofs.Common.{◌-◌, arith}
+use Rattle.std.proofs.Common.{arith}
 use Rattle.cursor.proofs.WidthLaws.{width_le}
 use Rattle.format.specs.Types.{none}
 use Rattle.format.specs.Decoding.{optional, type_at}
@@ -105,13 +105,13 @@ write_type-write_type-w-requires-in-loop-i t c = (
   (
     c.requires.0,
     going_there _ _ _ _ _ _
-        c.loop-i-test.true c.loop-i.invariant,
+        (omega arith) c.loop-i.invariant,
   ),
 )
 
 pub write_type-loop-i-preserved : goal.write_type-loop-i-preserved
 write_type-loop-i-preserved t c =
-    going_turn _ _ _ _ _ _ c.loop-i-test.true c.loop-i.invariant c.put_when-here.ensures
+    going_turn _ _ _ _ _ _ (omega arith) c.loop-i.invariant c.put_when-here.ensures
     c.write_type-w-in-loop-i.ensures
 
 pub write_type-returns-after-loop-i : goal.write_type-returns-after-loop-i
@@ -124,7 +124,7 @@ write_type-returns-after-loop-i t c =
           (spells_void _ _ _ _ h c.field-b.ensures _ w.if-b-eq1.false w.put_bytes-here-else-b-eq1.ensures)
     ] in
     spells_fn _ _ _ _ h _ v c.field-n.ensures c.put_bytes-here.ensures c.put_bytes-here-in-Fn.ensures
-    (going_done _ _ _ _ _ _ c.loop-i-test.false c.loop-i.invariant) c.put_bytes-end-in-Fn.ensures)
+    (going_done _ _ _ _ _ _ (omega arith) c.loop-i.invariant) c.put_bytes-end-in-Fn.ensures)
 
 pub write_type-write_type-w-requires-in-Array : goal.write_type-write_type-w-requires-in-Array
 write_type-write_type-w-requires-in-Array t c = (

@@ -1,4 +1,4 @@
-use Rattle.std.proofs.Common.{◌+◌, ◌-◌, ◌*◌, length}
+use Rattle.std.proofs.Common.{◌+◌, ◌*◌, length}
 use Rattle.sink.specs.Sink.{sink}
 use Rattle.write_type.proofs.ListLaws.{Going}
 use Rattle.tables.specs.Tables.{items_in, items_of}
@@ -14,6 +14,3 @@ abbrev pub invariant-write_type-loop-i : goal.invariant-write_type-loop-i
 invariant-write_type-loop-i l =
     Going (items_of l.s l.t) (length (items_in l.t)) l.inner l.s l.count l.initial.next.at l.i l.next.at
     (sink l.initial.out l.initial.here) (sink l.out l.here)
-
-abbrev pub decreases-write_type-loop-i : goal.decreases-write_type-loop-i
-decreases-write_type-loop-i l = l.count - l.i
