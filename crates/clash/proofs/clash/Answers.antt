@@ -5,15 +5,6 @@ use Rattle.clash.proofs.clash.Goals as goal
 pub returns-then-keys-i : goal.returns-then-keys-i
 returns-then-keys-i c = keys_apart c.requires.0.whole c.requires.1 c.requires.2 c.requires.3 c.if-keys-i.true
 
-pub same_symbol-requires : goal.same_symbol-requires
-same_symbol-requires c = (
-  c.requires.0,
-  c.requires.2,
-  c.item-w.ensures.1,
-  sym c.in-true-true.ensures,
-  sym c.in-true-true.ensures',
-)
-
 pub returns-in-true-true : goal.returns-in-true-true
 returns-in-true-true c =
     clash_functions c.requires.0.whole c.requires.2 c.item-w.ensures.1 c.item-w.ensures.0

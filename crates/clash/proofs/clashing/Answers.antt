@@ -1,20 +1,8 @@
 use native.Mathlib.Omega.{arith}
-use mathlib.Core.Path.{refl, sym, ◌∙◌}
+use mathlib.Core.Path.{sym, ◌∙◌}
 use Rattle.clash.specs.Clashes.{clashes}
 use Rattle.clash.proofs.ListLaws.{pairs_turn, pairs_hit, pairs_end}
 use Rattle.clash.proofs.clashing.Goals as goal
-
-pub overflow_cast-n : goal.overflow_cast-n
-overflow_cast-n c = omega (arith, c.requires.0.whole.few)
-
-pub loop-i-init : goal.loop-i-init
-loop-i-init c = refl
-
-pub item-v-requires : goal.item-v-requires
-item-v-requires c = (c.requires.0.whole, omega arith)
-
-pub clash_behind-requires : goal.clash_behind-requires
-clash_behind-requires c = (c.requires.0, c.requires.1, c.item-v.ensures.1)
 
 pub returns-then-clash_behind : goal.returns-then-clash_behind
 returns-then-clash_behind c =

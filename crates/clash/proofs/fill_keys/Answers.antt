@@ -1,5 +1,5 @@
 use native.Mathlib.Omega.{arith}
-use mathlib.Core.Path.{◌≡◌, refl, ap}
+use mathlib.Core.Path.{◌≡◌, ap}
 use lib.ListN.{length, length-set}
 use Rattle.names.specs.Digests.{digest}
 use Rattle.names.proofs.NameLaws.{digests_length}
@@ -8,12 +8,6 @@ use Rattle.clash.specs.Clashes.{own_name}
 use Rattle.rules.proofs.SearchLaws.{filled_turn}
 use Rattle.clash.proofs.ViewLaws.{key_there}
 use Rattle.clash.proofs.fill_keys.Goals as goal
-
-pub loop-i-init : goal.loop-i-init
-loop-i-init c = (refl, λ k l. absurd (omega arith))
-
-pub own_name-name-requires : goal.own_name-name-requires
-own_name-name-requires c = (c.requires.0.whole, omega arith)
 
 pub bounds-digests-name : goal.bounds-digests-name
 bounds-digests-name c =
@@ -32,6 +26,3 @@ loop-i-preserved c = (
       c.args.names.now c.own_name-name.result c.requires.0.digested c.own_name-name.ensures.0
       c.own_name-name.ensures.1) c.loop-i.invariant.1,
 )
-
-pub returns : goal.returns
-returns c = record { room = omega arith; key = λ i l. c.loop-i.invariant.1 i (omega arith) }

@@ -1,5 +1,5 @@
 use native.Mathlib.Omega.{arith}
-use mathlib.Core.Path.{refl, sym, ◌∙◌}
+use mathlib.Core.Path.{sym, ◌∙◌}
 use Rattle.lexical.proofs.BoolLaws.{not-true, not-false}
 use Rattle.clash.proofs.ViewLaws.{depths_differ, spaces_turn, spaces_differ, spaces_end}
 use mathlib.Core.Path.{ap}
@@ -8,19 +8,6 @@ use Rattle.clash.proofs.same_namespace.Goals as goal
 
 pub returns-then-v-w : goal.returns-then-v-w
 returns-then-v-w c = depths_differ c.requires.0.whole c.requires.1 c.requires.2 c.if-v-w.true
-
-pub loop-d-init : goal.loop-d-init
-loop-d-init c = refl
-
-pub namespace-a-requires : goal.namespace-a-requires
-namespace-a-requires c = (c.requires.0.whole, c.requires.1, omega arith)
-
-pub namespace-b-requires : goal.namespace-b-requires
-namespace-b-requires c = (c.requires.0.whole, c.requires.2, omega arith)
-
-pub same_name-requires : goal.same_name-requires
-same_name-requires c =
-    (c.requires.0.whole.named, c.requires.0.digested, c.namespace-a.ensures.0, c.namespace-b.ensures.0)
 
 pub returns-then-not-same_name : goal.returns-then-not-same_name
 returns-then-not-same_name c =

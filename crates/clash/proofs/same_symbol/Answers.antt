@@ -1,5 +1,4 @@
 use Rattle.lexical.proofs.BoolLaws.{not-true, not-false}
-use Rattle.clash.proofs.ItemLaws.{function_kind}
 use Rattle.clash.proofs.ViewLaws.{symbol_apart, symbol_unlike, symbol_alike}
 use mathlib.Core.Path.{ap, ◌∙◌}
 use mathlib.Core.Bool.{not}
@@ -9,20 +8,6 @@ pub returns-then-not-same_namespace : goal.returns-then-not-same_namespace
 returns-then-not-same_namespace c =
     symbol_apart c.requires.0.whole c.requires.1 c.requires.2 c.same_namespace.ensures c.requires.3 c.requires.4
     (not-true _ (ap not c.if-not-same_namespace.true))
-
-pub function-f-requires : goal.function-f-requires
-function-f-requires c = (c.requires.0.whole, c.requires.1, function_kind _ c.requires.3)
-
-pub function-g-requires : goal.function-g-requires
-function-g-requires c = (c.requires.0.whole, c.requires.2, function_kind _ c.requires.4)
-
-pub same_name-requires : goal.same_name-requires
-same_name-requires c = (
-  c.requires.0.whole.named,
-  c.requires.0.digested,
-  c.function-f.ensures.1.view.named,
-  c.function-g.ensures.1.view.named,
-)
 
 pub returns-then-same_name : goal.returns-then-same_name
 returns-then-same_name c =
