@@ -179,8 +179,8 @@ fn shared_by(t: &[u16; Words::SIZE], w: usize) -> u16
     t[Words::SHARED + w]
 }
 
-// What a word has behind its first characters, as many as matched: c, a larger character, or neither. std's Ordering has
-// no variant for the last, which a smaller character and the end of the word share.
+// What a word has behind its first characters, as many as matched: c, a larger character, or neither. std's Ordering
+// has no variant for the last, which a smaller character and the end of the word share.
 #[derive(Clone, Copy)]
 pub enum Compared {
     Same,
