@@ -1,6 +1,6 @@
 -- What is promised of the table of held structs that is filled from a sheet.
-use Rattle.std.specs.Prelude.{◌≡◌, List, [], ◌∷◌, Option, Some, None, ◌++◌, Bool}
-use Rattle.std.specs.Prelude.{true, false, ℕ, ◌+◌, ◌<◌, ◌≤◌, length, get_or, take, eqb}
+use Rattle.std.specs.Prelude.{◌≡◌, List, [], ◌∷◌, ◌++◌, Bool, true, false, ℕ, ◌+◌, ◌<◌, ◌≤◌, length, get_or, take, eqb}
+use Rattle.std.specs.Prelude.{Option, Some, None}
 use Rattle.format.specs.Decode.{Got, Dec, ◌>>◌, pure, many}
 use Rattle.format.specs.Bits.{index}
 use Rattle.format.specs.Types.{Ty, named, str}
