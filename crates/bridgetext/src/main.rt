@@ -77,6 +77,7 @@ fn read_sheet(input: &mut impl Read, sheet: &mut [u8]) -> io::Result<usize>
     ensures { IfOk result (λ n. n ≤ length sheet.new) }
 {
     let mut n: usize = 0;
+    // By as many bytes as a read gives: no count.
     while n < sheet.len() {
         let more = input.read(&mut sheet[n..])?;
         if more == 0 {

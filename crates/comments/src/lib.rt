@@ -54,6 +54,7 @@ fn all_line_chars(s: &[u8], at: u32, n: u32) -> bool
 {
     let mut next = at;
     let mut left = n;
+    // Windows of eight characters, and the last one after the loop: no count.
     while 8 < left {
         if !few_line_chars(s, next, 8) {
             return false;

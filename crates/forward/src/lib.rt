@@ -234,6 +234,7 @@ fn write_entries(
     let deeper = depth + 1;
     let mut here = direct;
     let mut i = next_namespace(s, t, digests, leader, depth, leader.number);
+    // From one first member to the next: no count.
     while i < n {
         let v = item(s, t, i);
         let head = open_namespace(s, t, pool, v, depth, out, here);

@@ -69,6 +69,7 @@ fn judge_name(t: &[u16; Words::SIZE], s: &[u8], at: u32, n: u32, edition: u32) -
     let mut q = State::start();
     let mut h: u64 = 0;
     let mut next = at;
+    // Windows of at most eight characters, by bit positions: no count.
     while next < end {
         let bits = (end - next).min(56);
         let x = extract_wide(s, next, bits);
