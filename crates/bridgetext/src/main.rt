@@ -8,9 +8,7 @@ ghost use Rattle.std.specs.Prelude.{◌≤◌, IfOk, length};
 
 use check_sheet::check;
 use format::Outline;
-use refusal::{Refusal, number};
-use rules::Checked;
-use services::Written;
+use refusal::Refusal;
 use std::env::{Env, FillError};
 use std::io;
 use std::io::{Input, Read};
@@ -29,23 +27,21 @@ fn write_number(rt: &impl Print, n: u8) -> io::Result<()> {
 
 fn write_refusal(rt: &impl Print, e: Refusal) -> io::Result<()> {
     rt.write_all(b"refused ")?;
-    write_number(rt, number(e))
+    write_number(rt, u8::from(e))
 }
 
 fn write_text(rt: &impl Print, sheet: &[u8]) -> io::Result<()> {
     let mut text = [0u8; ROOM];
-    let w = write(sheet, &mut text);
-    match w {
-        Written::Length(n) => rt.write_all(&text[..n]),
-        Written::Refused(e) => write_refusal(rt, e),
+    match write(sheet, &mut text) {
+        Ok(n) => rt.write_all(&text[..n]),
+        Err(e) => write_refusal(rt, e),
     }
 }
 
 fn write_check(rt: &impl Print, sheet: &[u8]) -> io::Result<()> {
-    let c = check(sheet);
-    match c {
-        Checked::Accepted => rt.write_all(b"accepted\n"),
-        Checked::Refused(e) => write_refusal(rt, e),
+    match check(sheet) {
+        Ok(()) => rt.write_all(b"accepted\n"),
+        Err(e) => write_refusal(rt, e),
     }
 }
 
@@ -58,10 +54,9 @@ fn write_items(rt: &impl Print, list: &[u8]) -> io::Result<()> {
 
 fn write_order(rt: &impl Print, sheet: &[u8]) -> io::Result<()> {
     let mut list = [0u8; Outline::ITEMS];
-    let w = struct_order(sheet, &mut list);
-    match w {
-        Written::Length(n) => write_items(rt, &list[..n]),
-        Written::Refused(e) => write_refusal(rt, e),
+    match struct_order(sheet, &mut list) {
+        Ok(n) => write_items(rt, &list[..n]),
+        Err(e) => write_refusal(rt, e),
     }
 }
 

@@ -11,7 +11,7 @@ ghost use Rattle.rules.specs.Judge.{check as checkOf};
 ghost use Rattle.view.specs.Values.{items_at, Ready};
 ghost use Rattle.check_sheet.specs.Ruled.{ruled_parts, ringed, ruled_items};
 
-use decode::{Decoded, decode};
+use decode::decode;
 use format::Outline;
 use judge::{unfit_argument, wrong_part};
 use marks::Mark;
@@ -113,16 +113,14 @@ fn answer(
     items: &[u32; Outline::ITEMS],
     digests: &[u32; Outline::NAMES],
     marks: &[u8; Mark::PLACES],
-    d: Decoded,
+    d: Result<Outline, Refusal>,
 ) -> Result<(), Refusal>
     requires { Answers sheet.now (decodeOf sheet.now) d names.now items.now digests.now
         (replicate places 0) marks.now }
     ensures { result ≡ checkOf sheet.now }
 {
-    match d {
-        Decoded::Refused(e) => Err(e),
-        Decoded::Whole(o) => check_decoded(sheet, names, items, digests, marks, o),
-    }
+    let o = d?;
+    check_decoded(sheet, names, items, digests, marks, o)
 }
 
 // Any bytes: accepted, or the refusal.

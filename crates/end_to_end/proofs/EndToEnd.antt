@@ -27,8 +27,7 @@ use Rattle.grammar.specs.Tree.{Text}
 use Rattle.grammar.specs.Reading.{Reading, OneReading}
 use Rattle.agreement.specs.Agreement.{Agrees}
 use Rattle.agreement.specs.Names.{names_of}
-use Rattle.services.specs.declared.Written.{Written}
-use Rattle.services.specs.declared.Written.TheVariants as Written
+use Rattle.std.specs.Prelude.{Result, Ok, Err}
 use Rattle.services.specs.Services.{answer_of, buffer_of, Writes, written_code}
 use Rattle.struct_order.proofs.ServeLaws.{served_inside}
 use Rattle.write_sheet.proofs.WrittenLaws.{written_text}
@@ -41,13 +40,13 @@ use Rattle.end_to_end.specs.TextAtFront.{TextAtFront}
 -- ---- a length
 
 -- the answer lies over the front of the buffer
-module _ {sheet buffer after : List ℕ} {n : ℕ} {s : Sheet} (w : Writes sheet buffer (Written.Length n) after)
+module _ {sheet buffer after : List ℕ} {n : ℕ} {s : Sheet} (w : Writes sheet buffer (Ok n) after)
     (e : judge sheet ≡ accepted s) where
   unchanged : (drop n after ≡ drop n buffer) × (length after ≡ length buffer)
   unchanged = go (leb (length (text s)) (length buffer)) (rw e at w.answers) (rw e at w.leaves)
     where
       go : (fits : Bool) →
-          Written.Length n ≡ pick fits (Written.Length (length (text s))) (Written.Refused Overrun) →
+          ◌≡◌ {A = Result ℕ Refusal} (Ok n) (pick fits (Ok (length (text s))) (Err Overrun)) →
           after ≡ pick fits (text s ++ drop (length (text s)) buffer) buffer →
           (drop n after ≡ drop n buffer) × (length after ≡ length buffer)
       go true a b =
@@ -74,13 +73,13 @@ module _ {sheet buffer after : List ℕ} {n : ℕ} {s : Sheet} (w : Writes sheet
       every (sheet_name (table_of (edition_of sheet))) (names_of tree) ≡ true
   front_names h tree r = accepted_names sheet s e h tree (rw (written_text w e) at r)
 
-pub text_at_front : {sheet buffer after : List ℕ} {n : ℕ} → Writes sheet buffer (Written.Length n) after →
+pub text_at_front : {sheet buffer after : List ℕ} {n : ℕ} → Writes sheet buffer (Ok n) after →
     TextAtFront sheet buffer n after
 text_at_front {sheet} {buffer} {after} {n} w = go (judge sheet) refl
   where
     go : (j : Judged) → judge sheet ≡ j → TextAtFront sheet buffer n after
     go (refused r) e =
-        let a : Written.Length n ≡ Written.Refused r = rw e at w.answers in
+        let a : ◌≡◌ {A = Result ℕ Refusal} (Ok n) (Err r) = rw e at w.answers in
         absurd (let z : ◌≡◌ {A = ℕ} 0 1 = cc in omega arith)
     go (accepted s) e = record {
       value = s;
@@ -111,14 +110,14 @@ refusal_negative Ring = (11, refl)
 refusal_negative Overrun = (12, refl)
 
 -- a number that is not negative is a length
-length_of_lem : (w : Written) {n : ℕ} → pos n ≡ written_code w → Written.Length n ≡ w
-length_of_lem (Written.Length m) {n} e = let z : n ≡ m = cc in ap Written.Length z
-length_of_lem (Written.Refused r) {n} e =
+length_of_lem : (w : Result ℕ Refusal) {n : ℕ} → pos n ≡ written_code w → Ok n ≡ w
+length_of_lem (Ok m) {n} e = let z : n ≡ m = cc in ap Ok z
+length_of_lem (Err r) {n} e =
     let q : pos n ≡ negsuc (refusal_negative r).0 = e ∙ (refusal_negative r).1 in
     absurd (let z : ◌≡◌ {A = ℕ} 0 1 = cc in omega arith)
 
 length_written : {sheet buffer after : List ℕ} {n : ℕ} → WritesCode sheet buffer (pos n) after →
-    Writes sheet buffer (Written.Length n) after
+    Writes sheet buffer (Ok n) after
 length_written {sheet} {buffer} w =
     record { answers = length_of_lem (answer_of text (judge sheet) (length buffer)) w.answers; leaves = w.leaves }
 
@@ -138,7 +137,7 @@ pub refused_leaves : {sheet buffer after : List ℕ} {k : ℕ} → WritesCode sh
 refused_leaves {sheet} {buffer} {after} {k} w = go (judge sheet) w.answers w.leaves
   where
     measured : (s : Sheet) (fits : Bool) →
-        negsuc k ≡ written_code (pick fits (Written.Length (length (text s))) (Written.Refused Overrun)) →
+        negsuc k ≡ written_code (pick fits (Ok (length (text s))) (Err Overrun)) →
         after ≡ pick fits (text s ++ drop (length (text s)) buffer) buffer → after ≡ buffer
     measured s true a b = absurd (let z : ◌≡◌ {A = ℕ} 0 1 = cc in omega arith)
     measured s false a b = b

@@ -9,7 +9,8 @@ use mir.Syntax.{w64}
 use mir.Val.{SFits, to_z, of_z}
 use mir.Facts.{to_z_pos, to_z-of_z}
 use Rattle.format.specs.Sheet.{Sheet}
-use Rattle.services.specs.declared.Written.{Written}
+use Rattle.std.specs.Prelude.{Result, Ok, Err}
+use Rattle.refusal.specs.declared.Refusal.{Refusal}
 use Rattle.services.specs.Services.{Serves, written_code}
 use Rattle.struct_order.proofs.ServeLaws.{served_inside}
 use Rattle.exports.specs.Codes.{Codes, length_of}
@@ -33,13 +34,13 @@ handed_on k e = to_z-of_z k ∙ e
 
 -- ---- the answer of a service that writes bytes
 
-module _ {f : Sheet → List ℕ} {sheet buffer after : List ℕ} {w : Written} (v : Serves f sheet buffer w after) where
+module _ {f : Sheet → List ℕ} {sheet buffer after : List ℕ} {w : Result ℕ Refusal} (v : Serves f sheet buffer w after) where
   pub serves_small : length buffer < 2 ^ 63 → length_of w < 2 ^ 63
   serves_small h = go w refl
     where
-      go : (u : Written) → w ≡ u → length_of u < 2 ^ 63
-      go (Written.Length n) e = omega (arith, served_inside v e)
-      go (Written.Refused r) e = omega arith
+      go : (u : Result ℕ Refusal) → w ≡ u → length_of u < 2 ^ 63
+      go (Ok n) e = omega (arith, served_inside v e)
+      go (Err r) e = omega arith
 
   pub serves_code : {code : ℤ} → SFits w64 code → code ≡ written_code w →
       Codes f sheet buffer (to_z w64 (of_z w64 code)) after
@@ -47,7 +48,7 @@ module _ {f : Sheet → List ℕ} {sheet buffer after : List ℕ} {w : Written} 
 
 -- ---- a length as a number
 
-module _ {w : Written} {n : ℕ} (e : w ≡ Written.Length n) (h : length_of w < 2 ^ 63) where
+module _ {w : Result ℕ Refusal} {n : ℕ} (e : w ≡ Ok n) (h : length_of w < 2 ^ 63) where
   small : n < 2 ^ 63
   small = omega (arith, ap length_of e)
 

@@ -1,9 +1,8 @@
 -- What the three services promise across C linkage, for every input.
-use Rattle.std.specs.Prelude.{◌≡◌, List, ℕ, length, ℤ}
+use Rattle.std.specs.Prelude.{◌≡◌, List, ℕ, length, ℤ, Result, Ok, Err}
+use Rattle.refusal.specs.declared.Refusal.{Refusal}
 use Rattle.format.specs.Sheet.{Sheet}
 use Rattle.rules.specs.Judge.{judge, check}
-use Rattle.services.specs.declared.Written.{Written}
-use Rattle.services.specs.declared.Written.TheVariants.{Length, Refused}
 use Rattle.bridge.specs.Write.{text}
 use Rattle.services.specs.Services.{struct_order, answer_of, buffer_of, written_code, checked_code}
 
@@ -25,6 +24,6 @@ abbrev pub WritesCode : List ℕ → List ℕ → ℤ → List ℕ → Type 0
 WritesCode sheet buffer code after = Codes text sheet buffer code after
 
 -- the length that is answered
-abbrev pub length_of : Written → ℕ
-length_of (Length n) = n
-length_of (Refused e) = 0
+abbrev pub length_of : Result ℕ Refusal → ℕ
+length_of (Ok n) = n
+length_of (Err e) = 0

@@ -7,9 +7,7 @@ ghost use Rattle.services.specs.Services.{written_code};
 ghost use Rattle.exports.specs.Codes.{ChecksCode, OrdersCode, WritesCode, length_of};
 
 use check_sheet::check;
-use refusal::{Refusal, number};
-use rules::Checked;
-use services::Written;
+use refusal::Refusal;
 use struct_order::struct_order;
 use write_sheet::write;
 
@@ -17,30 +15,27 @@ use write_sheet::write;
 fn refusal_code(e: Refusal) -> i64
     ensures { result ≡ neg_ℤ (pos (number_of e)) }
 {
-    let n = number(e);
-    let code = n as i64;
-    -code
+    -i64::from(u8::from(e))
 }
 
 // Any bytes: 0 if the sheet is accepted, else the refusal's number negated.
 pub fn bridgetext_check(sheet: &[u8]) -> i64
     ensures { ChecksCode sheet.now result }
 {
-    let c = check(sheet);
-    match c {
-        Checked::Accepted => 0,
-        Checked::Refused(e) => refusal_code(e),
+    match check(sheet) {
+        Ok(()) => 0,
+        Err(e) => refusal_code(e),
     }
 }
 
 // A length, or the refusal's number negated.
-fn written_code(w: Written) -> i64
+fn written_code(w: Result<usize, Refusal>) -> i64
     requires { length_of w < 2 ^ 63 }
     ensures { result ≡ written_code w }
 {
     match w {
-        Written::Length(n) => n as i64,
-        Written::Refused(e) => refusal_code(e),
+        Ok(n) => n as i64,
+        Err(e) => refusal_code(e),
     }
 }
 
@@ -48,14 +43,12 @@ fn written_code(w: Written) -> i64
 pub fn bridgetext_struct_order(sheet: &[u8], buf: &mut [u8]) -> i64
     ensures { OrdersCode sheet.now buf.old result buf.new }
 {
-    let w = struct_order(sheet, buf);
-    written_code(w)
+    written_code(struct_order(sheet, buf))
 }
 
 // Any bytes: the length of the text at the front of `buf`, or the refusal's number negated.
 pub fn bridgetext_write(sheet: &[u8], buf: &mut [u8]) -> i64
     ensures { WritesCode sheet.now buf.old result buf.new }
 {
-    let w = write(sheet, buf);
-    written_code(w)
+    written_code(write(sheet, buf))
 }

@@ -64,11 +64,13 @@ module _ (n : ℕ) (s : List ℕ) (at : ℕ) {f : Found} (ff : Finds (bits 2 s a
         let g = rw (ne_eqb k 0 (λ q. z (sym v ∙ q))) at h₁ in
         in_turn (index n s a) _ g (λ j b e₂ h₂.
         let d : bits w s f.next.at ≡ got j b =
-        rw (u, ← found_next ff e) (index_field n s a e₂) in
-        (record {
-          form = rw o (sym (got_value h₂) ∙ (ap (λ (y : ℕ). form_by y j) v ∙ ap (λ (y : ℕ). form_by f.value y) (found_value fi d)) ∙ view_form f.value i.value);
-          owner = rw o (view_below f.value i.value (rw (← found_value fi d) (index_lt n s a e₂)));
-        }, sym (got_next h₂) ∙ found_next fi d)));
+        rw (u, ← found_next ff e) (index_field n s a e₂) in (
+          record {
+            form = rw o (sym (got_value h₂) ∙ (ap (λ (y : ℕ). form_by y j) v ∙ ap (λ (y : ℕ). form_by f.value y) (found_value fi d)) ∙ view_form f.value i.value);
+            owner = rw o (view_below f.value i.value (rw (← found_value fi d) (index_lt n s a e₂)));
+          },
+          sym (got_next h₂) ∙ found_next fi d,
+        )));
   }
 
 -- all bits of a form that is there are, and it was read without a test
