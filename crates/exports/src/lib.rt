@@ -35,7 +35,7 @@ fn written_code(w: Result<usize, Refusal>) -> i64
 {
     match w {
         Ok(n) => n as i64,
-        Err(e) => refusal_code(e),
+        Err(refusal) => refusal_code(refusal),
     }
 }
 
