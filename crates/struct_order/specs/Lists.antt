@@ -1,5 +1,6 @@
 -- What is promised of the list of a sheet's structs, where rules 1 to 11 hold.
-use Rattle.std.specs.Prelude.{◌≡◌, List, ℕ, length}
+use Rattle.std.specs.Prelude.{◌≡◌, List, ℕ, length, Result, Err}
+use Rattle.refusal.specs.declared.Refusal.{Refusal}
 use Rattle.refusal.specs.declared.Refusal.TheVariants.{Ring}
 use Rattle.format.specs.Decode.{got, pick}
 use Rattle.format.specs.Sheet.{Item, Sheet}
@@ -7,8 +8,6 @@ use Rattle.format.specs.Decoding.{decode}
 use Rattle.view.specs.Values.{items_at, Ready}
 use Rattle.toposort.specs.Sort.{order}
 use Rattle.rules.specs.Rules.{held_structs, structs, ring}
-use Rattle.services.specs.declared.Written.{Written}
-use Rattle.services.specs.declared.Written.TheVariants as Written
 use Rattle.judge.specs.Marked.{Marked}
 use Rattle.services.specs.Services.{fitted, overlaid}
 
@@ -17,8 +16,8 @@ abbrev pub order_of : List Item → List ℕ
 order_of items = order (held_structs items) (length items) (structs items)
 
 -- 12, else 13, else the list, and every byte of the buffer
-pub record Lists (items : List Item) (buffer : List ℕ) (answer : Written) (after : List ℕ) : Type 0 where
-  pub answers : answer ≡ pick (ring items) (Written.Refused Ring) (fitted (order_of items) (length buffer))
+pub record Lists (items : List Item) (buffer : List ℕ) (answer : Result ℕ Refusal) (after : List ℕ) : Type 0 where
+  pub answers : answer ≡ pick (ring items) (Err Ring) (fitted (order_of items) (length buffer))
   pub leaves : after ≡ pick (ring items) buffer (overlaid (order_of items) buffer)
 
 -- the sheet s is decoded, and its items are those that the tables give

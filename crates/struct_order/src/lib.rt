@@ -16,30 +16,25 @@ use format::Outline;
 use marks::Mark;
 use order::order_of;
 use refusal::Refusal;
-use rules::Checked;
-use services::Written;
 use sink::put_bytes;
 use toposort::Traversal;
 
 // Lists the structs of a decoded sheet for which rules 9 to 11 hold. A refusal leaves `buf` as it was.
-pub fn list_order(s: &[u8], names: &[u32], items: &[u32], buf: &mut [u8]) -> Written
+pub fn list_order(s: &[u8], names: &[u32], items: &[u32], buf: &mut [u8]) -> Result<usize, Refusal>
     requires { Whole s.now names.now items.now }
     ensures { Lists (items_at s.now names.now items.now) buf.old result
         buf.new }
 {
     let mut out = [0u8; Traversal::NUMBERS];
     let mut held = [0u8; Traversal::HELD];
-    let r = order_of(s, names, items, &mut held, &mut out);
-    match r {
-        Traversal::Cycle => Written::Refused(Refusal::Ring),
-        Traversal::Done(end) => {
-            if buf.len() < end {
-                return Written::Refused(Refusal::Overrun);
-            }
-            put_bytes(buf, 0, &out[..end]);
-            Written::Length(end)
-        }
+    let Ok(end) = order_of(s, names, items, &mut held, &mut out) else {
+        return Err(Refusal::Ring);
+    };
+    if buf.len() < end {
+        return Err(Refusal::Overrun);
     }
+    put_bytes(buf, 0, &out[..end]);
+    Ok(end)
 }
 
 // A decoded sheet: rules 9 to 11, then the list.
@@ -50,15 +45,12 @@ fn order_ruled(
     digests: &[u32],
     marks: &[u8; Mark::PLACES],
     buf: &mut [u8],
-) -> Written
+) -> Result<usize, Refusal>
     requires { Decodes s.now names.now items.now digests.now marks.now }
     ensures { Orders s.now buf.old result buf.new }
 {
-    let parts = judge_parts(s, names, items, digests, marks);
-    match parts {
-        Checked::Refused(e) => Written::Refused(e),
-        Checked::Accepted => list_order(s, names, items, buf),
-    }
+    judge_parts(s, names, items, digests, marks)?;
+    list_order(s, names, items, buf)
 }
 
 // A decoded sheet, with the four tables that its decoding filled.
@@ -70,7 +62,7 @@ fn order_decoded(
     marks: &[u8; Mark::PLACES],
     o: Outline,
     buf: &mut [u8],
-) -> Written
+) -> Result<usize, Refusal>
     requires { Tables sheet.now (decodeOf sheet.now) o names.now items.now digests.now
         (replicate places 0) marks.now × (most_names ≤ length names.now) × (most_items ≤ length items.now) ×
         (most_names ≤ length digests.now) }
@@ -90,19 +82,19 @@ fn answer(
     marks: &[u8; Mark::PLACES],
     d: Decoded,
     buf: &mut [u8],
-) -> Written
+) -> Result<usize, Refusal>
     requires { Answers sheet.now (decodeOf sheet.now) d names.now items.now digests.now
         (replicate places 0) marks.now }
     ensures { Orders sheet.now buf.old result buf.new }
 {
     match d {
-        Decoded::Refused(e) => Written::Refused(e),
+        Decoded::Refused(e) => Err(e),
         Decoded::Whole(o) => order_decoded(sheet, names, items, digests, marks, o, buf),
     }
 }
 
 // Any bytes: the list's length, or the refusal. A refusal leaves `buf` as it was.
-pub fn struct_order(sheet: &[u8], buf: &mut [u8]) -> Written
+pub fn struct_order(sheet: &[u8], buf: &mut [u8]) -> Result<usize, Refusal>
     ensures { Orders sheet.now buf.old result buf.new }
 {
     let mut names = [0u32; Outline::NAMES];
