@@ -4,7 +4,8 @@ use mathlib.Core.List.{List, []}
 use mathlib.Core.Bool.{Bool}
 use Prim.Native.Nat.{ℕ}
 use Rattle.bridge.specs.Write.{text}
-use Rattle.services.specs.declared.Written.{Written}
+use Rattle.std.specs.Prelude.{Result}
+use Rattle.refusal.specs.declared.Refusal.{Refusal}
 use Rattle.names.specs.Digests.{digests_at}
 use Rattle.view.specs.Values.{items_at, Ready}
 use Rattle.tables.specs.Tables.{names_in, items_in, items_of, Listed, Filled}
@@ -28,7 +29,7 @@ pub digested : {s names items digests t : List ℕ} → Ready s names items dige
     digests ≡ digests_at s (names_in t)
 digested r l = rw l.names_are r.digested
 
-pub text_of : (s : List ℕ) {names items t : List ℕ} (header doxygen : Bool) {buffer after : List ℕ} {r : Written} →
+pub text_of : (s : List ℕ) {names items t : List ℕ} (header doxygen : Bool) {buffer after : List ℕ} {r : Result ℕ Refusal} →
     Lists names items t → Delivers (text (sheet_of header doxygen (items_of s t))) buffer r after →
     Delivers (text (sheet_of header doxygen (items_at s names items))) buffer r after
 text_of s header doxygen l d = rw (l.names_are, l.items_are) at d

@@ -12,16 +12,17 @@ use Rattle.format.specs.Decode.{pick}
 use Rattle.format.specs.Sheet.{Sheet}
 use Rattle.rules.specs.Judge.{accepted, judge}
 use Rattle.bridge.specs.Write.{text}
-use Rattle.services.specs.declared.Written.TheVariants as Written
+use Rattle.std.specs.Prelude.{Result, Ok, Err}
+use Rattle.refusal.specs.declared.Refusal.{Refusal}
 use Rattle.services.specs.Services.{Writes}
 
-pub written_text : {sheet buffer after : List ℕ} {n : ℕ} {s : Sheet} → Writes sheet buffer (Written.Length n) after →
+pub written_text : {sheet buffer after : List ℕ} {n : ℕ} {s : Sheet} → Writes sheet buffer (Ok n) after →
     judge sheet ≡ accepted s → take n after ≡ text s
 written_text {sheet} {buffer} {after} {n} {s} w e =
     go (leb (length (text s)) (length buffer)) (rw e at w.answers) (rw e at w.leaves)
   where
     go : (fits : Bool) →
-        Written.Length n ≡ pick fits (Written.Length (length (text s))) (Written.Refused Overrun) →
+        ◌≡◌ {A = Result ℕ Refusal} (Ok n) (pick fits (Ok (length (text s))) (Err Overrun)) →
         after ≡ pick fits (text s ++ drop (length (text s)) buffer) buffer → take n after ≡ text s
     go true a b =
         let z : n ≡ length (text s) = cc in

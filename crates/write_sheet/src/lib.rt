@@ -21,8 +21,7 @@ use format::Outline;
 use intern::intern_types;
 use mangle::fill_full_names;
 use marks::Mark;
-use rules::Checked;
-use services::Written;
+use refusal::Refusal;
 use summary::{Words, fill_summaries};
 use tables::{Pool, Table, fill_pool, fill_table};
 
@@ -44,7 +43,7 @@ fn deliver_listed(
     pool: &mut [u8; Pool::BYTES],
     short: &mut [u8],
     buf: &mut [u8],
-) -> Written
+) -> Result<usize, Refusal>
     requires { Ready s.now names.now items.now digests.now }
     ensures { Delivers
         (text (sheet_of header doxygen (items_at s.now names.now items.now)))
@@ -84,7 +83,7 @@ fn deliver(
     doxygen: bool,
     pool: &mut [u8; Pool::BYTES],
     buf: &mut [u8],
-) -> Written
+) -> Result<usize, Refusal>
     requires { Ready s.now names.now items.now digests.now }
     ensures { Delivers
         (text (sheet_of header doxygen (items_at s.now names.now items.now)))
@@ -121,18 +120,15 @@ fn write_judged(
     doxygen: bool,
     pool: &mut [u8; Pool::BYTES],
     buf: &mut [u8],
-) -> Written
+) -> Result<usize, Refusal>
     requires { Ready s.now names.now items.now digests.now ×
         Marked s.now names.now items.now marks.now }
     ensures { Judges
         (sheet_of header doxygen (items_at s.now names.now items.now))
         buf.old result buf.new }
 {
-    let c = judge_in(s, names, items, digests, marks, pool);
-    match c {
-        Checked::Refused(e) => Written::Refused(e),
-        Checked::Accepted => deliver(s, names, items, digests, header, doxygen, pool, buf),
-    }
+    judge_in(s, names, items, digests, marks, pool)?;
+    deliver(s, names, items, digests, header, doxygen, pool, buf)
 }
 
 // A decoded sheet, with the four tables that its decoding filled.
@@ -145,7 +141,7 @@ fn write_decoded(
     o: Outline,
     pool: &mut [u8; Pool::BYTES],
     buf: &mut [u8],
-) -> Written
+) -> Result<usize, Refusal>
     requires { Tables sheet.now (decodeOf sheet.now) o names.now items.now digests.now
         (replicate places 0) marks.now × (most_names ≤ length names.now) × (most_items ≤ length items.now) ×
         (most_names ≤ length digests.now) }
@@ -176,19 +172,19 @@ fn answer(
     d: Decoded,
     pool: &mut [u8; Pool::BYTES],
     buf: &mut [u8],
-) -> Written
+) -> Result<usize, Refusal>
     requires { Answers sheet.now (decodeOf sheet.now) d names.now items.now digests.now
         (replicate places 0) marks.now }
     ensures { Writes sheet.now buf.old result buf.new }
 {
     match d {
-        Decoded::Refused(e) => Written::Refused(e),
+        Decoded::Refused(e) => Err(e),
         Decoded::Whole(o) => write_decoded(sheet, names, items, digests, marks, o, pool, buf),
     }
 }
 
 // Any bytes: the text's length, with the text in front of the buffer's old bytes, or the refusal.
-pub fn write(sheet: &[u8], buf: &mut [u8]) -> Written
+pub fn write(sheet: &[u8], buf: &mut [u8]) -> Result<usize, Refusal>
     ensures { Writes sheet.now buf.old result buf.new }
 {
     let mut names = [0u32; Outline::NAMES];
