@@ -1,7 +1,7 @@
 -- Laws of a shim's head.
 use mathlib.Core.Path.{◌≡◌, refl, sym, ◌∙◌}
 use mathlib.Core.List.{List, [], ◌∷◌, ◌++◌, map}
-use mathlib.Core.Bool.{Bool, true, false, not, ◌&&◌, and-false}
+use mathlib.Core.Bool.{Bool, true, false, not, ◌&&◌, and-false, true≢false}
 use mathlib.Core.Logic.{◌⊎◌, inl, inr}
 use Prim.Native.Nat.{ℕ}
 use native.Mathlib.Omega.{arith}
@@ -57,6 +57,14 @@ name_last true true true true false t = refl
 name_last true true true true true false = refl
 name_last true true true true true true = refl
 
+name_apart : (a d g r t n : Bool) → (a && d && g && r && t) ≡ false → (a && d && g && r && t && n) ≡ false
+name_apart false d g r t n h = refl
+name_apart true false g r t n h = refl
+name_apart true true false r t n h = refl
+name_apart true true true false t n h = refl
+name_apart true true true true false n h = refl
+name_apart true true true true true n h = absurd (true≢false h)
+
 module _ {s names items : List ℕ} {f : FunctionView} (a : FunctionAt s names items f) where
   abbrev this : Function
   this = function_at s names items f.number
@@ -95,6 +103,12 @@ module _ {s names items : List ℕ} {f : FunctionView} (a : FunctionAt s names i
             ← a.view.throws,
           )
           (name_last named (eqb v.depth 0) (not b) (eqb f.arguments 0) (not f.returns) (not f.throws))
+
+      -- where one of the first five does not hold, the name is not asked
+      pub main_other : (eqb f.arguments 0 && eqb v.depth 0 && not b && not f.returns && not f.throws) ≡ false →
+          false ≡ main
+      main_other q =
+          sym (main_is ∙ name_apart (eqb f.arguments 0) (eqb v.depth 0) (not b) (not f.returns) (not f.throws) named q)
 
       pub main_owned : b ≡ true → false ≡ main
       main_owned q = sym (main_is ∙ simp (q, and-false))

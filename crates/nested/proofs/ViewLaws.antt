@@ -10,6 +10,7 @@ use lib.ListN.{length, get_or, drop, take, length-map}
 use Rattle.refusal.specs.declared.Refusal.TheVariants.{BadKind}
 use Rattle.lexical.specs.Bytes.{same, within}
 use Rattle.format.specs.Decode.{got}
+use Rattle.format.specs.Limits.{most_namespaces}
 use Rattle.format.specs.Bits.{bits, bit}
 use Rattle.format.specs.Sheet.{Name, Body, Item}
 use Rattle.format.specs.Decoding.{enum_body}
@@ -102,6 +103,10 @@ module _ {s names items : List ℕ} {v w : ItemView} (a : ItemAt s names items v
   spaces_end {d} l left = sym (left ∙ shared_none (depth - d) (drop d X) (drop d Y) (omega arith))
 
 -- ---- members
+
+pub own_shallow : {s names items : List ℕ} {i own : ℕ} {w : ItemView} →
+    own ≡ length (item_no s names items i).namespace → ItemAt s names items w → w.number ≡ i → own ≤ most_namespaces
+own_shallow o a d = let e = rw d at a.view.depth in omega (arith, o, e, a.view.shallow)
 
 module _ (s names items : List ℕ) (L : Item) (depth i : ℕ) {own : ℕ}
     (o : own ≡ length (item_no s names items i).namespace) where

@@ -13,7 +13,7 @@ use Rattle.cursor.proofs.CheckLaws.{many_length}
 use Rattle.view.specs.declared.FunctionView.{FunctionView}
 use Rattle.view.specs.Values.{Yields}
 use Rattle.view.specs.Views.{comment_lines}
-use Rattle.tables.specs.Tables.{items_of, function_of, Function, Arguments, behind_arguments}
+use Rattle.tables.specs.Tables.{items_in, items_of, function_of, Function, Arguments, behind_arguments}
 use Rattle.count_type.specs.Counts.{Counts}
 use Rattle.summary.specs.Summaries.{Summary, Summaries, Keeping}
 
@@ -269,6 +269,9 @@ keeping_begins {kept = kept} e =
       each = λ f x m z. absurd (omega (arith, m));
       later = λ j m n. rw e (get_or-replicate 3744 j 0 0 (omega (arith, n)));
     }
+
+pub keeping_ends : {s t kept : List ℕ} {i end : ℕ} → Keeping s t i end kept → length (items_in t) ≤ i → Summaries s t kept
+keeping_ends k h = record { each = λ f x z. (k.each f x (omega (arith, h, x.there)) z).2 }
 
 -- ---- one of them
 
