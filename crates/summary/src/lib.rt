@@ -124,6 +124,16 @@ pub fn fill_summaries(
     }
 }
 
+// Words into as many places. std's `copy_from_slice` would call memmove, which nothing else of the archive needs.
+fn copy_words(from: &[u32], to: &mut [u32])
+    requires { length to.old ≡ length from.now }
+    ensures { to.new ≡ from.now }
+{
+    for i in 0..from.len() {
+        to[i] = from[i];
+    }
+}
+
 // The summary of a function, into the front of words, from those that are kept if it is among them; the answer is the
 // position of its comment.
 pub fn load_summary(s: &[u8], t: &[u32], f: FunctionView, kept: &[u32], words: &mut [u32]) -> Cursor
@@ -143,6 +153,6 @@ pub fn load_summary(s: &[u8], t: &[u32], f: FunctionView, kept: &[u32], words: &
     }
     let n = f.arguments as usize + 5;
     let end = start + n;
-    words[..n].copy_from_slice(&kept[start..end]);
+    copy_words(&kept[start..end], &mut words[..n]);
     Cursor::new(words[n - 1])
 }
