@@ -1,3 +1,4 @@
+pub mod ByteLoops
 pub mod OrderLaws
 pub mod ShapeLaws
 pub mod WalkLaws

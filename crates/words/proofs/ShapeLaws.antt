@@ -39,6 +39,11 @@ score_name c h = go (letter c) (underscore c) (digit c) h
 pub other_none : (c : ℕ) → (letter c || digit c) ≡ false → underscore c ≡ false → name_char c ≡ false
 other_none c h e = let q = neither (letter c) (digit c) h in rw (q.0, e, q.1)
 
+-- ---- steps
+
+pub step_leading : (c : ℕ) {k : Bool} → capital c ≡ k → step_shape Leading c ≡ pick k Reserved (step_shape Underscore c)
+step_leading c e = ap (λ (k : Bool). pick k Reserved (step_shape Underscore c)) e
+
 -- ---- shapes that stay
 
 pub broken_stays : (cs : List ℕ) → walk_shape Broken cs ≡ Broken

@@ -357,6 +357,25 @@ module _ {t : List ℕ} (r : Right t) (e : ℕ) (q : State) {g : Bool} (s : g �
 
 -- ---- the search of a word
 
+module _ (w : List ℕ) (m c : ℕ) {n y : ℕ} (e : n ≡ length w) (f : y ≡ m) where
+  pub compared_short : n ≤ y → Other ≡ compared_of (char_behind w m) c
+  compared_short l =
+      rw (le-ltb m (length w) (omega arith), ne_eqb 0 (c + 1) (λ z. omega arith), le-ltb (c + 1) 0 (omega arith))
+
+  module _ {k d x : ℕ} (l : y < n) (j : k ≡ m) (g : d ≡ get_or w k 0) (h : x ≡ c) where
+    some : char_behind w m ≡ d + 1
+    some = rw (lt-ltb m (length w) (omega arith), g, j)
+
+    pub compared_same : d ≡ x → Same ≡ compared_of (char_behind w m) c
+    compared_same z = rw (some, eq-eqb (d + 1) (c + 1) (omega arith))
+
+    pub compared_larger : (d ≡ x → ⊥) → x < d → Larger ≡ compared_of (char_behind w m) c
+    compared_larger n z = rw (some, ne_eqb (d + 1) (c + 1) (λ q. omega arith), lt-ltb (c + 1) (d + 1) (omega arith))
+
+    pub compared_other : (d ≡ x → ⊥) → d ≤ x → Other ≡ compared_of (char_behind w m) c
+    compared_other n z =
+        rw (some, ne_eqb (d + 1) (c + 1) (λ q. n (omega arith)), le-ltb (c + 1) (d + 1) (omega arith))
+
 -- what a comparison tells
 module _ (d c : ℕ) {r : Compared} (e : r ≡ compared_of d c) where
   same_told : r ≡ Same → d ≡ c + 1
