@@ -1,5 +1,5 @@
 -- Laws of windows: a walk over the characters of a number.
-use mathlib.Core.Logic.{◌⊎◌, ⊎_elim}
+use mathlib.Core.Logic.{◌⊎◌, inl, inr, ⊎_elim}
 use mathlib.Core.Path.{◌≡◌, refl, sym, ap, ◌∙◌}
 use mathlib.Core.List.{List, [], ◌∷◌}
 use mathlib.Core.Bool.{Bool, true, false, false≢true, ◌||◌, not}
@@ -146,6 +146,12 @@ module _ (x d : ℕ) (s q : Shape) (a : List ℕ) {r : ℕ} (f : r ≡ x % 2 ^ d
   unfolding walk_shape chars_in
   shape_end z = let y : d / 7 ≡ 0 = omega arith in sym (g ∙ rw y)
 
+-- a loop that was left: nothing is left to be stepped, or the shape is settled
+pub settled_left : (d : ℕ) (q : Shape) {A B : Type 0} → (d ≡ 0 → ⊥) → (A → settled q ≡ true) → (B → d ≤ 0) → A ⊎ B →
+    settled q ≡ true
+settled_left d q n f g (inl a) = f a
+settled_left d q n f g (inr b) = absurd (n (let z = g b in omega arith))
+
 -- ---- what the code tests
 
 -- a shape that ends in an underscore or not, and the lane that says so
@@ -154,14 +160,20 @@ pub record Score (q : Shape) (s : ℕ) : Type 0 where
   pub shape : q ≡ ending score
   pub lane : s ≡ score_lane score
 
+pub by_four : {A B C D P : Type 0} → (A → P) → (B → P) → (C → P) → (D → P) → A ⊎ (B ⊎ (C ⊎ D)) → P
+by_four f g h k (inl a) = f a
+by_four f g h k (inr (inl b)) = g b
+by_four f g h k (inr (inr (inl c))) = h c
+by_four f g h k (inr (inr (inr d))) = k d
+
 module _ {q : Shape} {s : ℕ} where
-  score_empty : settled q ≡ true → q ≡ Empty → Score q s
+  pub score_empty : settled q ≡ true → q ≡ Empty → Score q s
   score_empty h e = absurd (false≢true (sym (ap settled e) ∙ h))
 
-  score_leading : settled q ≡ true → q ≡ Leading → Score q s
+  pub score_leading : settled q ≡ true → q ≡ Leading → Score q s
   score_leading h e = absurd (false≢true (sym (ap settled e) ∙ h))
 
-  score_plain : q ≡ Plain → s ≡ 0 → Score q s
+  pub score_plain : q ≡ Plain → s ≡ 0 → Score q s
   score_plain e f = record { score = false; shape = e; lane = f }
 
   -- no underscore stands last
