@@ -14,6 +14,16 @@ use Rattle.marks.specs.Gathering.{each, gathered_of, answered, Gathers}
 use Rattle.std.specs.Prelude.{Result, Ok, Err, IsErrAnd}
 
 module _ {A S : Type 0} {f : A → S → S} where
+  -- the answer alone
+  pub gathers_checks : {p : Got A} {u v : S} {r : Result Cursor Refusal} → Gathers f p u r v → Checks p r
+  gathers_checks {p} {u} {v} {r} h = record { step = by_answer p r h.gathered }
+    where
+      by_answer : (p : Got A) (r : Result Cursor Refusal) → gathered_of f p u ≡ answered r v → r ≡ step_of p
+      by_answer (fault e) (Ok c) g = absurd (let z : ◌≡◌ {A = ℕ} 0 1 = cc in omega arith)
+      by_answer (fault e) (Err d) g = let z : e ≡ d = cc in rw z
+      by_answer (got x n) (Ok c) g = let z : n ≡ c.at = cc in rw z
+      by_answer (got x n) (Err d) g = absurd (let z : ◌≡◌ {A = ℕ} 0 1 = cc in omega arith)
+
   -- a call that gave a position: its decoder's value, and the facts
   pub moved : {p : Got A} {u v : S} {r : Result Cursor Refusal} {c : Cursor} → Gathers f p u r v → r ≡ Ok c →
       (x : A) × (p ≡ got x c.at) × (v ≡ f x u)

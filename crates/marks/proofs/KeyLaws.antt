@@ -6,7 +6,7 @@ use Prim.Native.Nat.{ℕ, ◌+◌, ◌%◌, ◌<◌, ◌≤◌}
 use native.Mathlib.Omega.{arith}
 use native.Mathlib.Numerals.{add-one}
 use lib.ListN.{length, get_or, set, take, drop, drop_of_length-le, take-append-drop}
-use lib.Seq.{drop-cons, take-suc, get_or-set_same, get_or-set_other}
+use lib.Seq.{drop-cons, take_all, take-suc, get_or-set_same, get_or-set_other}
 use lib.Dec.{eqb}
 use mir.Val.{bool_byte}
 use borrow.Author.Tests.{eqb-true, eqb-false, eq-eqb, ne_eqb}
@@ -26,6 +26,10 @@ module _ (k : ℕ) (xs : List ℕ) where
   pub count_end : (j : ℕ) → length xs ≤ j → count_of k (drop j xs) ≡ 0
   unfolding count_of
   count_end j l = ap (count_of k) (drop_of_length-le xs l)
+
+pub one_low : (b : Bool) → one_if b ≤ 1
+one_low true = omega arith
+one_low false = omega arith
 
 -- what a test counts
 pub one_of : (b : Bool) → (bool_byte b ≡ one_if b) × (one_if b ≤ 1)
@@ -122,6 +126,9 @@ pub record Apart (xs seen : List ℕ) (i : ℕ) : Type 0 where
 pub apart_none : (xs seen : List ℕ) → Apart xs seen 0
 unfolding any twice
 apart_none xs seen = record { apart = refl; marks = λ x e. absurd (false≢true e) }
+
+pub apart_all : (xs seen : List ℕ) (i : ℕ) → length xs ≤ i → Apart xs seen i → false ≡ twice eqb xs
+apart_all xs seen i l h = sym h.apart ∙ ap (twice eqb) (take_all i xs l)
 
 module _ (xs seen : List ℕ) (i : ℕ) (l : i < length xs) where
   abbrev key : ℕ
