@@ -2,7 +2,7 @@
 use mathlib.Core.Path.{◌≡◌, refl, sym, ap, ◌∙◌}
 use mathlib.Core.List.{List}
 use mathlib.Core.Bool.{Bool, true, false}
-use Prim.Native.Nat.{ℕ, zero, suc, ◌-◌, ◌<◌}
+use Prim.Native.Nat.{ℕ, zero, suc, ◌-◌, ◌<◌, ◌≤◌}
 use native.Mathlib.Omega.{arith}
 use lib.Dec.{eqb}
 use borrow.Author.Tests.{eqb-true, eqb-false}
@@ -28,6 +28,10 @@ kind_past k h = by_last (eqb k 15) refl
         let d = eqb-false k 15 e in
         let l : 15 < k = omega arith in
         sym (get_or-eq_default kinds Kind.Bad l)
+
+-- a number that is none of 0, 1, .. lies above them
+pub above_none : (k : ℕ) → 0 ≤ k
+above_none k = omega arith
 
 -- with no level left only a bad kind is refused as such
 pub deep_kind : (k : TypeKind) → (k ≡ Kind.Bad → ⊥) → step_in 262150 ≡ Err (too_deep k)
