@@ -13,7 +13,7 @@ use Rattle.lexical.specs.Bytes.{bytes, same}
 use Rattle.lexical.proofs.ByteLaws.{same_eq}
 use Rattle.refusal.specs.declared.Refusal.{Refusal}
 use Rattle.format.specs.Bits.{bits_at, width_of, index}
-use Rattle.format.specs.Limits.{most_bits}
+use Rattle.format.specs.Limits.{most_arguments, most_bits}
 use Rattle.format.specs.Decode.{Got, fault, got, many}
 use Rattle.format.specs.Types.{Ty}
 use Rattle.format.specs.Sheet.{Name, Argument}
@@ -238,6 +238,9 @@ module _ (method throws : Bool) (s names : List ℕ) (items n at : ℕ) (u : Lis
         }
 
 -- ---- equal names
+
+pub few_keys : (n : ℕ) (keys : List ℕ) → n ≤ most_arguments → n ≤ length keys → length (take n keys) < 4294967296
+few_keys n keys l h = let e : length (take n keys) ≡ n = length-take-le n keys h in omega arith
 
 -- names with digests that are all different are all different
 pub names_apart : (ns : List Name) {keys : List ℕ} {close : Bool} → keys ≡ map digest ns → close ≡ twice eqb keys →
