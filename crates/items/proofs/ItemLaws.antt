@@ -161,6 +161,12 @@ module _ (s : List ℕ) (at : ℕ) {k m : ℕ} (e : bits 2 s at ≡ got k m) whe
       by_number zero h = let z : free ≡ x = cc in rw (← z) refl
       by_number (suc j) h = by_index j (index items s m) (rw (ne_eqb (suc j) 0 (λ q. absurd (omega arith))) at h)
 
+  pub method_one : k ≡ 1 → (items l : ℕ) (x : Form) → form items s at ≡ got x l → true ≡ is_method x
+  method_one z items l x h = sym (form_value items l h ∙ rw (eq-eqb k 1 z))
+
+  pub method_two : (k ≡ 1 → ⊥) → (items l : ℕ) (x : Form) → form items s at ≡ got x l → eqb k 2 ≡ is_method x
+  method_two z items l x h = sym (form_value items l h ∙ rw (ne_eqb k 1 z))
+
   pub method_is : 0 < k → k < 3 → (items l : ℕ) (x : Form) → form items s at ≡ got x l → true ≡ is_method x
   method_is y z items l x h = sym (form_value items l h ∙ by_number k y z)
     where
