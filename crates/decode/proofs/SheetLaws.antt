@@ -2,7 +2,7 @@
 use mathlib.Core.Path.{◌≡◌, refl, sym, ◌∙◌}
 use mathlib.Core.List.{List}
 use mathlib.Core.Bool.{Bool, true, false, ◌&&◌, and-false}
-use Prim.Native.Nat.{ℕ, ◌-◌, ◌*◌, ◌/◌, ◌%◌, ◌≤◌, ◌<◌}
+use Prim.Native.Nat.{ℕ, ◌+◌, ◌-◌, ◌*◌, ◌/◌, ◌%◌, ◌≤◌, ◌<◌}
 use native.Mathlib.Omega.{arith}
 use lib.ListN.{length, take}
 use lib.Dec.{eqb, leb}
@@ -91,6 +91,16 @@ module _ (s : List ℕ) (at : ℕ) where
       both_bits f = rw (q, f)
 
 -- ---- the end of the sheet
+
+pub not_zero : {z : ℕ} → (z ≡ 0 → ⊥) → eqb z 0 ≡ false
+not_zero {z} h = ne_eqb z 0 h
+
+module _ (s : List ℕ) (at : ℕ) {n : ℕ} where
+  pub at_end_lem : n ≡ at + (8 - at % 8) % 8 → n / 8 ≡ length s → eqb n (8 * length s) ≡ true
+  at_end_lem e h = eq-eqb n (8 * length s) (omega arith)
+
+  pub past_end : n ≡ at + (8 - at % 8) % 8 → (n / 8 ≡ length s → ⊥) → eqb n (8 * length s) ≡ false
+  past_end e h = ne_eqb n (8 * length s) (λ z. h (omega arith))
 
 module _ {A : Type 0} (x : A) (s : List ℕ) (at : ℕ) where
   pub tail_cut : {e : Refusal} {r : Result Cursor Refusal} → IsErrAnd r (λ d. d ≡ e) →
