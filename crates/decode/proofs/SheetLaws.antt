@@ -9,6 +9,7 @@ use lib.Dec.{eqb, leb}
 use borrow.Author.Tests.{eq-eqb, ne_eqb, lt-leb, le-leb}
 use Rattle.refusal.specs.declared.Refusal.{Refusal}
 use Rattle.refusal.specs.declared.Refusal.TheVariants.{CutSheet, Edition, Tail}
+use Rattle.lexical.specs.Bytes.{within}
 use Rattle.lexical.specs.Names.{sheet_name, table_of}
 use Rattle.lexical.proofs.NameLaws.{sheet_name_base, edition_covers}
 use Rattle.format.specs.Limits.{last_edition, most_bytes}
@@ -47,16 +48,33 @@ module _ {s : List ℕ} {p : Got Sheet} {e : Refusal} where
 
 -- ---- the sheet's length
 
-module _ (s : List ℕ) where
-  pub too_long : most_bytes < length s → decode s ≡ fault CutSheet
-  unfolding decode
-  too_long h = rw (lt-leb (length s) most_bytes h)
+module _ {n : ℕ} where
+  pub too_long : most_bytes < n → leb n most_bytes ≡ false
+  too_long h = lt-leb n most_bytes h
 
-  pub not_too_long : length s ≤ most_bytes → decode s ≡ sheet s 0
+  pub not_too_long : n ≤ most_bytes → leb n most_bytes ≡ true
+  not_too_long h = le-leb n most_bytes h
+
+module _ (s : List ℕ) where
+  pub decode_cut : most_bytes < length s → decode s ≡ fault CutSheet
   unfolding decode
-  not_too_long h = rw (le-leb (length s) most_bytes h)
+  decode_cut h = rw (too_long h)
+
+  pub decode_within : length s ≤ most_bytes → decode s ≡ sheet s 0
+  unfolding decode
+  decode_within h = rw (not_too_long h)
 
 -- ---- the edition, and both bits
+
+module _ (e : ℕ) where
+  pub edition_none : e ≡ 0 → within 1 last_edition e ≡ false
+  edition_none h = rw h
+
+  pub edition_later : last_edition < e → within 1 last_edition e ≡ false
+  edition_later h = rw (lt-leb e last_edition h) (and-false (leb 1 e))
+
+  pub edition_known : (e ≡ 0 → ⊥) → e ≤ last_edition → within 1 last_edition e ≡ true
+  edition_known h l = rw (le-leb 1 e (omega arith), le-leb e last_edition l)
 
 module _ (s : List ℕ) (at : ℕ) where
   pub sheet_cut : {e : Refusal} → bits 4 s at ≡ fault e → sheet s at ≡ fault e
@@ -64,17 +82,17 @@ module _ (s : List ℕ) (at : ℕ) where
   sheet_cut q = rw q
 
   module _ {e m : ℕ} (q : bits 4 s at ≡ got e m) where
-    pub edition_none : e ≡ 0 → sheet s at ≡ fault Edition
+    pub sheet_without_edition : e ≡ 0 → sheet s at ≡ fault Edition
     unfolding sheet edition
-    edition_none h = rw (q, h)
+    sheet_without_edition h = rw (q, edition_none e h)
 
-    pub edition_later : last_edition < e → sheet s at ≡ fault Edition
+    pub sheet_of_later : last_edition < e → sheet s at ≡ fault Edition
     unfolding sheet edition
-    edition_later h = rw (q, lt-leb e last_edition h, and-false (leb 1 e))
+    sheet_of_later h = rw (q, edition_later e h)
 
-    pub edition_known : (e ≡ 0 → ⊥) → e ≤ last_edition → sheet s at ≡ behind_edition (table_of e) s m
+    pub sheet_of_known : (e ≡ 0 → ⊥) → e ≤ last_edition → sheet s at ≡ behind_edition (table_of e) s m
     unfolding sheet edition
-    edition_known h l = rw (q, le-leb 1 e (omega arith), le-leb e last_edition l)
+    sheet_of_known h l = rw (q, edition_known e h l)
 
   module _ (words : List (List ℕ)) where
     pub header_cut : {e : Refusal} → bit s at ≡ fault e → behind_edition words s at ≡ fault e
