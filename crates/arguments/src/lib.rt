@@ -112,7 +112,7 @@ fn judge_argument(
 }
 
 // An argument that was walked past: the index of its name, and the position behind it or the refusal, by one number.
-// A number comes back in a register, a Result through memory: measured slower (docs/DECISIONS.md).
+// A number comes back in a register, a Result through memory (docs/DECISIONS.md).
 #[derive(Clone, Copy)]
 pub struct Passed {
     pub name: u32,

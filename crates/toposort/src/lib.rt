@@ -11,6 +11,7 @@ use format::{ItemKind, Outline};
 pub struct Cycle;
 
 // The sizes of a traversal's tables.
+#[derive(Clone, Copy)]
 pub struct Traversal;
 
 impl Traversal {

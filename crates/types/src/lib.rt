@@ -71,7 +71,7 @@ pub fn is_indirect_template(k: Template) -> bool
 }
 
 // The walks answer by a number, as `step_in` of crate cursor reads it.
-// A number comes back in a register, a Result through memory: measured slower (docs/DECISIONS.md).
+// A number comes back in a register, a Result through memory (docs/DECISIONS.md).
 
 // The refusal of a kind where no level is left.
 fn too_deep(k: TypeKind) -> u32
