@@ -40,6 +40,12 @@ module _ {s names items keys : List ℕ} (whole : Whole s names items) (k : Keye
   unfolding items_at
   count = length-map items (one_item_at s names items)
 
+  pub few_keys : length (take (length items) keys) < 4294967296
+  few_keys =
+      let a = length-take-le (length items) keys k.room in
+      let b = whole.few in
+      omega arith
+
   keys_are : take (length items) keys ≡ map key_of all
   unfolding key_of item_at
   keys_are =

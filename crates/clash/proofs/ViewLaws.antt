@@ -2,16 +2,16 @@
 use mathlib.Core.Path.{◌≡◌, refl, sym, ap, ap₂, ◌∙◌}
 use mathlib.Core.List.{List, [], ◌∷◌}
 use mathlib.Core.Bool.{Bool, true, false, ◌&&◌}
-use Prim.Native.Nat.{ℕ, ◌+◌, ◌<◌, ◌≤◌}
+use Prim.Native.Nat.{ℕ, zero, suc, ◌+◌, ◌<◌, ◌≤◌}
 use lib.ListN.{length, get_or, drop}
 use Rattle.lexical.specs.Bytes.{same}
 use Rattle.format.specs.Bits.{bits, width_of}
 use Rattle.format.specs.Sheet.{Name, Item}
 use native.Mathlib.Omega.{arith}
 use Rattle.std.specs.Prelude.{Option, None, Some, is_some, not}
-use Rattle.view.specs.Views.{self_number}
+use Rattle.view.specs.Views.{form_of, form_view, self_number}
 use Rattle.view.proofs.FormLaws.{free_form, self_there}
-use Rattle.syntax.specs.Items.{full_name, is_function}
+use Rattle.syntax.specs.Items.{item_at, full_name, is_function}
 use Rattle.cursor.specs.declared.Found.{Found}
 use Rattle.view.specs.declared.ItemView.{ItemView}
 use Rattle.view.specs.declared.FunctionView.{FunctionView}
@@ -176,6 +176,14 @@ keys_apart {v} {j} whole k a l d =
 
 abbrev owners_of : List ℕ → List ℕ → List ℕ → FunctionView → List Name
 owners_of s names items f = owner_names (items_at s names items) (function_at s names items f.number).form
+
+owner_number : (all : List Item) (k i : ℕ) → (k ≡ 0 → ⊥) →
+    owner_names all (form_of (form_view k i)) ≡ (item_at all i).cxx ∷ []
+unfolding owner_names
+owner_number all zero i h = absurd (h refl)
+owner_number all (suc zero) i h = refl
+owner_number all (suc (suc zero)) i h = refl
+owner_number all (suc (suc (suc k))) i h = refl
 
 module _ {s names items : List ℕ} {f : FunctionView} (a : FunctionAt s names items f) {o : Option ℕ}
     (e : o ≡ self_number f.form) where

@@ -3,7 +3,7 @@ use mathlib.Core.Path.{◌≡◌, refl, sym, ◌∙◌}
 use mathlib.Core.List.{List, [], ◌∷◌, ◌++◌, map}
 use mathlib.Core.Bool.{Bool, true, false, not, ◌&&◌, and-false, true≢false}
 use mathlib.Core.Logic.{◌⊎◌, inl, inr}
-use Prim.Native.Nat.{ℕ}
+use Prim.Native.Nat.{ℕ, zero, suc}
 use native.Mathlib.Omega.{arith}
 use lib.Dec.{eqb}
 use lib.ListN.{length, get_or}
@@ -16,10 +16,10 @@ use Rattle.format.specs.Sheet.{Name, Function, Item}
 use Rattle.format.specs.Decoding.{argument}
 use Rattle.format.specs.Sheet.{Form}
 use Rattle.std.specs.Prelude.{Option, None, Some, is_some}
-use Rattle.view.specs.Views.{form_of, self_number}
+use Rattle.view.specs.Views.{form_of, form_view, self_number}
 use Rattle.view.specs.declared.FormView.{FormView}
 use Rattle.view.specs.declared.FormView.TheVariants.{Free, ConstMethod, MutMethod, Associated}
-use Rattle.view.proofs.FormLaws.{free_form, self_there}
+use Rattle.view.proofs.FormLaws.{free_form, self_there as form_self}
 use Rattle.cursor.proofs.CheckLaws.{many_length}
 use Rattle.syntax.specs.Items.{item_at, self_type}
 use Rattle.rules.specs.Rules.{gather}
@@ -44,6 +44,12 @@ free_is Free b f e h = rw (f, h, e)
 free_is (ConstMethod i) b f e h = rw (f, h, e)
 free_is (MutMethod i) b f e h = rw (f, h, e)
 free_is (Associated i) b f e h = rw (f, h, e)
+
+const_is : (k i : ℕ) → is_const (form_of (form_view k i)) ≡ eqb k 1
+const_is zero i = refl
+const_is (suc zero) i = refl
+const_is (suc (suc zero)) i = refl
+const_is (suc (suc (suc k))) i = sym (ne_eqb (suc (suc (suc k))) 1 (omega arith))
 
 -- the first of six asked last, and the fourth first
 name_last : (n d g a r t : Bool) → (n && d && g && a && r && t) ≡ (a && d && g && r && t && n)
@@ -140,13 +146,19 @@ module _ {s names items : List ℕ} {f : FunctionView} (a : FunctionAt s names i
 
   -- ---- its self type
 
+  self_there : (k i : ℕ) → (k ≡ 0 → ⊥) → self_type (form_of (form_view k i)) ≡ i ∷ []
+  self_there zero i h = absurd (h refl)
+  self_there (suc zero) i h = refl
+  self_there (suc (suc zero)) i h = refl
+  self_there (suc (suc (suc k))) i h = refl
+
   module _ {o : Option ℕ} (e : o ≡ self_number f.form) where
     pub self_none : (g : ℕ → List ℕ) (r : Sink) → o ≡ None → Wrote r (gather g (self_type this.form)) r
     self_none g r h = rw (free_form a.view.form e h, gather_none g) (wrote_nil r)
 
     pub self_one : (g : ℕ → List ℕ) {i : ℕ} {r t : Sink} → o ≡ Some i → Wrote r (g i) t →
         Wrote r (gather g (self_type this.form)) t
-    self_one g h p = wrote_as p (rw (self_there a.view.form e h, gather_one g))
+    self_one g h p = wrote_as p (rw (form_self a.view.form e h, gather_one g))
 
 -- ---- the head
 

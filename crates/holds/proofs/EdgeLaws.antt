@@ -66,6 +66,28 @@ pub record Flagging (items : List Item) (i : ℕ) (structs : List ℕ) : Type 0 
   pub size : length structs ≡ item_numbers
   pub each : (j : ℕ) → j < i → eqb (get_or structs j 0) 1 ≡ is_struct (item_at items j).body
 
+pub flag_none : {items : List Item} {structs : List ℕ} → length structs ≡ item_numbers → Flagging items 0 structs
+flag_none e = record { size = e; each = λ j h. absurd (omega arith) }
+
+pub flag_next : {items : List Item} {i v : ℕ} {b : Bool} {structs : List ℕ} → Flagging items i structs → i < item_numbers →
+    b ≡ is_struct (item_at items i).body → v ≡ pick b 1 0 → Flagging items (i + 1) (set structs i v)
+flag_next {items} {i} {v} {b} {structs} f h e z = record {
+  size = length-set structs i v ∙ f.size;
+  each = λ j k. one j k (ltb j i) refl;
+}
+  where
+    told : (b : Bool) → eqb (pick b 1 0) 1 ≡ b
+    told true = refl
+    told false = refl
+
+    one : (j : ℕ) → j < i + 1 → (t : Bool) → ltb j i ≡ t → eqb (get_or (set structs i v) j 0) 1 ≡ is_struct (item_at items j).body
+    one j k true t =
+        let l : j < i = ltb-true j i t in
+        rw (get_or-set_other structs i j v 0 (λ q. absurd (omega arith))) (f.each j l)
+    one j k false t =
+        let l : j ≡ i = omega (arith, ltb-false j i t) in
+        rw l (ap (λ (x : ℕ). eqb x 1) (get_or-set_same structs i v 0 (omega (arith, f.size)) ∙ z) ∙ told b ∙ e)
+
 pub flag_done : {items : List Item} {i : ℕ} {structs : List ℕ} → length items ≤ i → Flagging items i structs → Flags items structs
 flag_done {items} {i} {structs} h f = record { size = f.size; each = λ j k. f.each j (omega arith) }
 
@@ -80,6 +102,18 @@ pub record Filling (items : List Item) (i end : ℕ) (starts held : List ℕ) : 
   pub last : get_or starts i 0 ≡ end
   pub ends : (j : ℕ) → j < i → get_or starts (j + 1) 0 ≤ end
   pub rows : (j : ℕ) → j < i → graph_of starts held j ≡ held_structs items j
+
+pub fill_none : {items : List Item} {held : List ℕ} (starts : List ℕ) → length starts ≡ item_numbers + 1 → length held ≡ most_held →
+    Filling items 0 0 (set starts 0 0) held
+fill_none {items} {held} starts count size = record {
+  count = length-set starts 0 0 ∙ count;
+  size = size;
+  few = omega arith;
+  inside = omega arith;
+  last = get_or-set_same starts 0 0 0 (omega arith);
+  ends = λ j h. absurd (omega arith);
+  rows = λ j h. absurd (omega arith);
+}
 
 module _ {items : List Item} {i end r : ℕ} {starts held after : List ℕ} (f : Filling items i end starts held) (h : i < item_numbers)
     (p : Puts (held_structs items i) end held r after) (most : r ≤ end + most_fields) (inside : r ≤ most_held) where
@@ -155,6 +189,9 @@ pub record Listing (items : List Item) (i n : ℕ) (numbers : List ℕ) : Type 0
   pub few : n ≤ i
   pub inside : n ≤ length numbers
   pub left : take n numbers ++ structs_from i (drop i items) ≡ structs items
+
+pub list_none : {items : List Item} {numbers : List ℕ} → Listing items 0 0 numbers
+list_none = record { few = omega arith; inside = omega arith; left = refl }
 
 pub list_next : {items : List Item} {i n r : ℕ} {b : Bool} {numbers after : List ℕ} → Listing items i n numbers →
     n < length numbers → i < length items → b ≡ is_struct (item_at items i).body → Puts (counted (then_some b i)) n numbers r after →

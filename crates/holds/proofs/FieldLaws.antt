@@ -243,6 +243,14 @@ pub struct_told : (items : List Item) (i : ℕ) {b : Bool} {k : ItemKind} → b 
     k ≡ kind_of_body (item_at items i).body → b ≡ is_struct (item_at items i).body
 struct_told items i e h = e ∙ ap is_struct_kind h ∙ kind_struct (item_at items i).body
 
+pub struct_kind : (k : ItemKind) → is_struct_kind k ≡ true → k ≡ Part.Struct
+struct_kind Part.Struct e = refl
+struct_kind Part.Enum e = absurd (let z : ◌≡◌ {A = ℕ} 0 1 = cc in omega arith)
+struct_kind Part.CxxType e = absurd (let z : ◌≡◌ {A = ℕ} 0 1 = cc in omega arith)
+struct_kind Part.RustType e = absurd (let z : ◌≡◌ {A = ℕ} 0 1 = cc in omega arith)
+struct_kind Part.RustFunction e = absurd (let z : ◌≡◌ {A = ℕ} 0 1 = cc in omega arith)
+struct_kind Part.Bad e = absurd (let z : ◌≡◌ {A = ℕ} 0 1 = cc in omega arith)
+
 pub struct_body_lem : {k : ItemKind} (ns : List Name) (n : ℕ) (s : List ℕ) (at : ℕ) {b : Body} → k ≡ Part.Struct →
     Yields (item_body k ns n s at) b → Yields (struct_body n s at) b
 struct_body_lem {k} ns n s at {b} e y = rw e at y

@@ -1,11 +1,19 @@
 -- Laws of a list in front of an array.
 use mathlib.Core.Path.{◌≡◌, refl, sym, ap, ◌∙◌}
 use mathlib.Core.List.{List, [], ◌∷◌, ◌++◌, append-nil, append_assoc}
-use Prim.Native.Nat.{ℕ, zero, suc, ◌-◌, ◌≤◌}
+use Prim.Native.Nat.{ℕ, zero, suc, ◌+◌, ◌-◌, ◌<◌, ◌≤◌}
 use native.Mathlib.Omega.{arith}
-use lib.ListN.{length, take, drop, length-append}
-use lib.Seq.{take-take, take-nil, take-append_seam, length-take-le, take-length, drop_at}
-use Rattle.holds.specs.Edges.{Puts}
+use native.Mathlib.Numerals.{add-one}
+use lib.ListN.{length, take, drop, set, length-append, length-set}
+use lib.Seq.{take-suc-set, take-take, take-nil, take-append_seam, length-take-le, take-length, drop_at}
+use Rattle.std.specs.Prelude.{None, Some}
+use Rattle.holds.specs.Edges.{counted, Puts}
+
+pub put_one : (l : List ℕ) (at i : ℕ) → at < length l → Puts (counted (Some i)) at l (at + 1) (set l at i)
+put_one l at i h = record { front = rw add-one (take-suc-set l at i h); end = refl; kept = length-set l at i }
+
+pub put_none : (l : List ℕ) (at : ℕ) → Puts (counted None) at l at l
+put_none l at = record { front = sym (append-nil (take at l)); end = omega arith; kept = refl }
 
 -- one list behind another
 pub put_both : {xs ys l m n : List ℕ} {at r e : ℕ} → Puts xs at l r m → Puts ys r m e n → Puts (xs ++ ys) at l e n

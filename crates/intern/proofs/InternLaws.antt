@@ -41,15 +41,28 @@ spelled {s} {t} {pool} {after} {l} {b} {end} {k} {count} {r} at lent p long few 
 
 -- ---- the entries of a function's arguments, where more types are kept
 
-pub record Entries (s t entries : List ℕ) : Type 0 where
-  pub each : (j : ℕ) → j < length entries →
+pub record Entries (s t : List ℕ) (n : ℕ) (entries : List ℕ) : Type 0 where
+  pub each : (j : ℕ) → j < n →
       Typed s t (get_or entries j 0 / 16384) × FactsOf s (names_in t) (items_in t) (unpacked (get_or entries j 0))
 
 pub entries_of_lem : {s t : List ℕ} {f : FunctionView} {entries : List ℕ} → Arguments s t f entries →
-    Entries s t (take f.arguments entries)
+    Entries s t f.arguments entries
 unfolding type_here
-entries_of_lem {f = f} {entries} a = record {
+entries_of_lem a = record { each = λ j h. let y = (a.each j h).0.of in (rw (yielded str y) y, (a.each j h).1) }
+
+-- the front of them, in a list of its own
+pub entries_front : {s t : List ℕ} {f : FunctionView} {entries : List ℕ} → Arguments s t f entries →
+    Entries s t (length (take f.arguments entries)) (take f.arguments entries)
+entries_front {f = f} {entries} a = record {
   each = λ j l.
       let h : j < f.arguments = omega (arith, l, length-take f.arguments entries) in
-      let y = (a.each j h).0.of in rw (get_or-take f.arguments entries j 0 h) (rw (yielded str y) y, (a.each j h).1);
+      rw (get_or-take f.arguments entries j 0 h) ((entries_of_lem a).each j h);
 }
+
+module _ {s before t pool : List ℕ} {end : ℕ} (d : Filled s before t pool end) {n : ℕ} {entries : List ℕ}
+    (a : Entries s before n entries) {j : ℕ} (h : j < n) where
+  pub entry_typed : Typed s t (get_or entries j 0 / 16384)
+  entry_typed = rw d.same_items (a.each j h).0
+
+  pub entry_facts : FactsOf s (names_in t) (items_in t) (unpacked (get_or entries j 0))
+  entry_facts = rw (d.same_names, d.same_items) (a.each j h).1

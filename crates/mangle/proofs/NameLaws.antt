@@ -1,12 +1,12 @@
 -- Laws of the names and symbols of items, from what was written of them.
-use mathlib.Core.Path.{◌≡◌, sym}
+use mathlib.Core.Path.{◌≡◌, refl, sym}
 use mathlib.Core.List.{List, [], ◌∷◌, ◌++◌, map, append-nil}
-use Prim.Native.Nat.{ℕ, ◌+◌, ◌<◌, ◌≤◌}
+use Prim.Native.Nat.{ℕ, zero, suc, ◌+◌, ◌<◌, ◌≤◌}
 use lib.ListN.{get_or, take}
 use Rattle.lexical.specs.Bytes.{bytes}
 use Rattle.format.specs.Sheet.{Name, Function, Item}
 use Rattle.std.specs.Prelude.{Option, None, Some}
-use Rattle.view.specs.Views.{self_number}
+use Rattle.view.specs.Views.{form_of, form_view, self_number}
 use Rattle.view.proofs.FormLaws.{free_form, self_there}
 use Rattle.syntax.specs.Items.{item_at, full_name, self_type}
 use Rattle.syntax.specs.Symbol.{push_all, join}
@@ -18,7 +18,7 @@ use Rattle.view.specs.declared.FunctionView.{FunctionView}
 use Rattle.view.specs.Values.{name_at, items_at, function_at}
 use Rattle.view.specs.Views.{ItemAt, FunctionAt}
 use Rattle.mangle.specs.Segments.{each_between}
-use Rattle.mangle.proofs.SegmentLaws.{segments_turn, path_end, join_version, push_two, push_three}
+use Rattle.mangle.proofs.SegmentLaws.{segments_turn, segments_all, path_end, join_version, push_two, push_three}
 
 -- ---- one segment more
 
@@ -47,6 +47,10 @@ module _ {s names items : List ℕ} {v : ItemView} (a : ItemAt s names items v) 
           Wrote r (each_between before behind (take (d + 1) spaces)) z
       spaces_turn h e p q x y = segments_turn before behind spaces (rw (← a.view.depth) h) e p q x y
 
+      pub spaces_all : v.depth ≤ d → Wrote r (each_between before behind (take d spaces)) t →
+          Wrote r (each_between before behind spaces) t
+      spaces_all h p = segments_all before behind spaces {d = d} (rw (← a.view.depth) h) p
+
   module _ {r t : Sink} where
     -- its C++ name
     pub cxx_name_lem : {i : ℕ} → v.number ≡ i → Wrote r (name_at s (get_or names v.name 0)) t → Wrote r (item_of i).cxx t
@@ -74,6 +78,13 @@ module _ {s names items : List ℕ} {v : ItemView} (a : ItemAt s names items v) 
         (rw a.view.cxx (push_three spaces (item_of v.number).cxx (bytes "operator") name))
 
 -- ---- a function
+
+self_is : (all : List Item) (k i : ℕ) → (k ≡ 0 → ⊥) →
+    map (λ j. (item_at all j).cxx) (self_type (form_of (form_view k i))) ≡ (item_at all i).cxx ∷ []
+self_is all zero i h = absurd (h refl)
+self_is all (suc zero) i h = refl
+self_is all (suc (suc zero)) i h = refl
+self_is all (suc (suc (suc k))) i h = refl
 
 module _ {s names items : List ℕ} {f : FunctionView} (b : FunctionAt s names items f) where
   abbrev function : Function

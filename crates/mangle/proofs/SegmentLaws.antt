@@ -1,10 +1,10 @@
 -- Laws of segments in a row.
-use mathlib.Core.Path.{◌≡◌, refl}
+use mathlib.Core.Path.{◌≡◌, refl, ap}
 use mathlib.Core.List.{List, [], ◌∷◌, ◌++◌, append-nil, append_assoc}
-use Prim.Native.Nat.{ℕ, ◌+◌, ◌<◌}
+use Prim.Native.Nat.{ℕ, ◌+◌, ◌<◌, ◌≤◌}
 use native.Mathlib.Numerals.{add-one}
 use lib.ListN.{length, get_or, take}
-use lib.Seq.{take-suc}
+use lib.Seq.{take-suc, take_all}
 use Rattle.lexical.specs.Bytes.{bytes}
 use Rattle.syntax.specs.Items.{path}
 use Rattle.syntax.specs.Symbol.{push_all, join}
@@ -29,6 +29,10 @@ module _ (before behind : List ℕ) where
         Wrote r (each_between before behind (take (d + 1) xs)) w
     segments_turn h e p a b c =
         wrote_as (p ▷ a ▷ b ▷ c) (rw (add-one, take-suc xs d [] h, between_end, e))
+
+    pub segments_all : length xs ≤ d → Wrote r (each_between before behind (take d xs)) t →
+        Wrote r (each_between before behind xs) t
+    segments_all h p = wrote_as p (ap (each_between before behind) (take_all d xs h))
 
 -- ---- full names
 

@@ -1,7 +1,7 @@
 -- What the views of items say of their groups.
 use mathlib.Core.Path.{◌≡◌, refl, sym, ap₂, ◌∙◌}
 use mathlib.Core.List.{List, []}
-use mathlib.Core.Bool.{Bool, true, false, ◌&&◌}
+use mathlib.Core.Bool.{Bool, true, false, not, ◌&&◌, false≢true}
 use Prim.Native.Nat.{ℕ, ◌+◌, ◌-◌, ◌<◌, ◌≤◌}
 use native.Mathlib.Omega.{arith}
 use borrow.Author.Tests.{eq-eqb, ne_eqb, lt-ltb, le-ltb}
@@ -9,10 +9,10 @@ use lib.Dec.{eqb}
 use lib.ListN.{length, get_or, drop, take, length-map}
 use Rattle.refusal.specs.declared.Refusal.TheVariants.{BadKind}
 use Rattle.lexical.specs.Bytes.{same, within}
-use Rattle.format.specs.Decode.{got}
 use Rattle.format.specs.Limits.{most_namespaces}
+use Rattle.format.specs.Decode.{got}
 use Rattle.format.specs.Bits.{bits, bit}
-use Rattle.format.specs.Sheet.{Name, Body, Item}
+use Rattle.format.specs.Sheet.{Name, Body, struct, enum, cxx_type, rust_type, function, Item}
 use Rattle.format.specs.Decoding.{enum_body}
 use Rattle.format.specs.declared.ItemKind.{ItemKind}
 use Rattle.format.specs.declared.ItemKind.TheVariants.{Struct, Enum, CxxType, RustType, RustFunction, Bad}
@@ -22,8 +22,9 @@ use Rattle.bridge.specs.Write.{needs_forward_declaration}
 use Rattle.cursor.specs.declared.Found.{Found}
 use Rattle.view.specs.declared.ItemView.{ItemView}
 use Rattle.view.specs.Values.{Yields, one_item_at, items_at, item_no}
-use Rattle.view.specs.Views.{Finds, ItemAt}
+use Rattle.view.specs.Views.{Finds, kind_of_body, ItemAt}
 use Rattle.cursor.proofs.YieldLaws.{in_turn, passed, got_value, bit_value, bit_next, found_value, found_next}
+use Rattle.nested.specs.declared.EnumView.{EnumView}
 use Rattle.nested.specs.Groups.{EnumOf, shared, belongs, is_direct, is_first, opens, names_before, Next}
 use Rattle.nested.proofs.ListLaws.{and-true, and-false, any_last, any_there}
 use Rattle.nested.proofs.SharedLaws.{shared_none, shared_short, shared_low, shared_turn, shared_differ}
@@ -63,6 +64,35 @@ is_enum_kind RustType = false
 is_enum_kind RustFunction = false
 is_enum_kind Bad = false
 
+-- the kinds that say by themselves whether one is needed
+abbrev pub is_declared_kind : ItemKind → Bool
+is_declared_kind Struct = true
+is_declared_kind CxxType = true
+is_declared_kind RustType = true
+is_declared_kind Enum = false
+is_declared_kind RustFunction = false
+is_declared_kind Bad = false
+
+needs_body : (b : Body) → is_enum_kind (kind_of_body b) ≡ false → is_declared_kind (kind_of_body b) ≡ needs_forward_declaration b
+needs_body (struct p ts) h = refl
+needs_body (enum p a c) h = absurd (false≢true (sym h))
+needs_body (cxx_type p) h = refl
+needs_body (rust_type p) h = refl
+needs_body (function f) h = refl
+
+pub needs_kind : (s names items : List ℕ) (i : ℕ) {k l : ItemKind} → k ≡ kind_of_body (item_no s names items i).body →
+    k ≡ l → is_enum_kind l ≡ false → is_declared_kind l ≡ needs_forward_declaration (item_no s names items i).body
+needs_kind s names items i {k} {l} e d h =
+    let b = (item_no s names items i).body in
+    let q : kind_of_body b ≡ l = sym e ∙ d in rw (← q) (needs_body b (rw q h))
+
+pub needs_enum : {b : Body} {v : EnumView} → EnumOf b v → not v.owned ≡ needs_forward_declaration b
+needs_enum e = rw e.is
+
+pub enum_kind : {s names items : List ℕ} {v : ItemView} {i : ℕ} {k : ItemKind} → ItemAt s names items v →
+    v.number ≡ i → k ≡ kind_of_body (item_no s names items i).body → k ≡ Enum → v.kind ≡ Enum
+enum_kind {v} {i} a e h d = a.view.kind ∙ rw e (sym h ∙ d)
+
 -- ---- shared namespaces
 
 module _ {s names items : List ℕ} {v w : ItemView} (a : ItemAt s names items v) (b : ItemAt s names items w)
@@ -81,6 +111,9 @@ module _ {s names items : List ℕ} {v w : ItemView} (a : ItemAt s names items v
 
   abbrev Left : ℕ → Type 0
   Left d = shared depth X Y ≡ shared (depth - d) (drop d X) (drop d Y)
+
+  pub spaces_begin : Left 0
+  spaces_begin = let z : depth - 0 ≡ depth = omega arith in rw z
 
   module _ (k : depth ≤ v.depth) (l : depth ≤ w.depth) {d : ℕ} (h : d < depth) {m n : Name} {r : Bool}
       (p : m ≡ get_or X d []) (q : n ≡ get_or Y d []) (t : r ≡ same m n) (left : Left d) where

@@ -1,15 +1,16 @@
 -- Laws of the code's blocks and boundaries, by their cases.
 use mathlib.Core.Path.{◌≡◌}
 use mathlib.Core.List.{List, []}
-use mathlib.Core.Bool.{Bool}
+use mathlib.Core.Bool.{Bool, false}
 use Prim.Native.Nat.{ℕ, ◌<◌}
 use lib.ListN.{length, get_or}
-use Rattle.lexical.specs.Bytes.{bytes}
+use Rattle.lexical.specs.Bytes.{bytes, same}
 use Rattle.lexical.specs.Decimal.{pick_text}
 use Rattle.sink.specs.Sink.{Sink, Wrote}
 use Rattle.sink.proofs.SinkLaws.{◌▷◌}
 use Rattle.view.specs.Values.{name_at}
-use Rattle.bridge.specs.Block.{write_common, write_begin, write_end}
+use Rattle.bridge.specs.Block.{write_common, write_begin, write_end, same_block}
+use Rattle.bridge.specs.Out.{cancels}
 use Rattle.out.specs.declared.Block.{Block}
 use Rattle.out.specs.declared.Block.TheVariants.{UserDefinedNamespace, ExternC}
 use Rattle.out.specs.declared.Boundary.{Boundary}
@@ -31,7 +32,26 @@ module _ (s names : List ℕ) where
       Wrote x (write_common (block_of s names b)) y
   common_extern_c e p = rw e p
 
+  pub same_names_lem : {a b : Block} {m n : ℕ} {r : Bool} → a ≡ UserDefinedNamespace m → b ≡ UserDefinedNamespace n →
+      r ≡ same (name_at s (get_or names m 0)) (name_at s (get_or names n 0)) →
+      r ≡ same_block (block_of s names a) (block_of s names b)
+  same_names_lem d e f = rw (d, e) f
+
   -- ---- boundaries
+
+  module _ {a b : Block} {x y : Boundary} where
+    pub begin_begin : x ≡ Begin a → y ≡ Begin b → false ≡ cancels (boundary_of s names x) (boundary_of s names y)
+    begin_begin d e = rw (d, e)
+
+    pub end_end : x ≡ End a → y ≡ End b → false ≡ cancels (boundary_of s names x) (boundary_of s names y)
+    end_end d e = rw (d, e)
+
+    module _ {r : Bool} (f : r ≡ same_block (block_of s names a) (block_of s names b)) where
+      pub begin_end : x ≡ Begin a → y ≡ End b → r ≡ cancels (boundary_of s names x) (boundary_of s names y)
+      begin_end d e = rw (d, e) f
+
+      pub end_begin : x ≡ End a → y ≡ Begin b → r ≡ cancels (boundary_of s names x) (boundary_of s names y)
+      end_begin d e = rw (d, e) f
 
   module _ {b : Block} {x : Boundary} where
     pub begin_text : (section : Bool) {u v w : Sink} → x ≡ Begin b → Wrote u (pick_text section (bytes "\n") []) v →

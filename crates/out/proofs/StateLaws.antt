@@ -273,6 +273,9 @@ module _ (s names : List ℕ) where
     pub few : d ≤ length ms
     pub turns : Turns s names (λ _. []) (λ _. named (take d ms)) c₀ c
 
+  pub beginning_none : (ms : List Name) (c : Content) → Beginning ms c c 0
+  beginning_none ms c = record { few = omega arith; turns = record { each = λ st. st } }
+
   module _ {ms : List Name} {at : Cursor} {depth : ℕ} (p : Spaces s names at depth ms) {c₀ c : Content} (d : ℕ) {i : ℕ}
       (l : d < depth) (g : Beginning ms c₀ c d) (x : Indexes s names at d i) where
     found_begin : (i < length names) × (name_at s (get_or names i 0) ≡ get_or ms d [])

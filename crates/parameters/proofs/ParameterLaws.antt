@@ -1,9 +1,9 @@
 -- Laws of the parameters of a declaration.
 use mathlib.Core.Path.{◌≡◌, refl, sym, ap, ◌∙◌}
-use mathlib.Core.List.{List, [], ◌++◌, map}
-use mathlib.Core.Bool.{Bool, true, false, ◌||◌}
-use Prim.Native.Nat.{ℕ}
-use lib.Dec.{ltb}
+use mathlib.Core.List.{List, [], ◌++◌, map, append-nil}
+use mathlib.Core.Bool.{Bool, true, false, ◌||◌, false≢true}
+use Prim.Native.Nat.{ℕ, zero, suc}
+use lib.Dec.{eqb, ltb}
 use lib.ListN.{length}
 use Rattle.lexical.specs.Bytes.{bytes}
 use Rattle.lexical.specs.Decimal.{pick_text}
@@ -20,7 +20,7 @@ use Rattle.view.specs.declared.FunctionView.{FunctionView}
 use Rattle.view.specs.Values.{items_at, function_at, type_here}
 use Rattle.view.specs.declared.FormView.TheVariants.{Free, ConstMethod, MutMethod, Associated}
 use Rattle.std.specs.Prelude.{◌<◌, Some}
-use Rattle.view.specs.Views.{form_of, self_number, FunctionAt, ArgumentsAt, kind_of_type}
+use Rattle.view.specs.Views.{form_of, form_view, self_number, FunctionAt, ArgumentsAt, kind_of_type}
 use Rattle.write_atom.specs.Texts.{space_of_kind}
 use Rattle.write_type.proofs.TypeLaws.{space_is}
 use Rattle.shape.proofs.FunctionLaws.{slot_some, slot_empty, method_is, arguments_count}
@@ -40,6 +40,24 @@ module _ {s names items : List ℕ} {f : FunctionView} (a : FunctionAt s names i
   result = type_here (length items) s f.result.at
 
   -- ---- the receiver
+
+  module _ {b : Bool} (h : b ≡ is_method (form_of f.form)) where
+    -- by the number of its form, and its self type's item
+    pub receiver_some : (k i : ℕ) → f.form ≡ form_view k i → b ≡ true →
+        full_name (item_at all i) ++ pick_text (eqb k 1) (bytes " const") [] ++ bytes " &self" ≡
+        commas false (receiver all this.form)
+    receiver_some k i v e = rw (a.view.form.form, v) (by_form k i (rw v at (sym h ∙ e)))
+      where
+        by_form : (k i : ℕ) → is_method (form_of (form_view k i)) ≡ true →
+            full_name (item_at all i) ++ pick_text (eqb k 1) (bytes " const") [] ++ bytes " &self" ≡
+            commas false (receiver all (form_of (form_view k i)))
+        by_form zero i q = absurd (false≢true q)
+        by_form (suc zero) i q = sym (commas_one false _)
+        by_form (suc (suc zero)) i q = rw append-nil (sym (commas_one false _))
+        by_form (suc (suc (suc k))) i q = absurd (false≢true q)
+
+    pub receiver_owner : b ≡ true → f.form ≡ Free → ⊥
+    receiver_owner e z = false≢true (rw z at (sym h ∙ e))
 
   module _ {i : ℕ} where
     pub receiver_const : f.form ≡ ConstMethod i →

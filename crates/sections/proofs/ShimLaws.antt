@@ -3,11 +3,28 @@ use mathlib.Core.Path.{◌≡◌, refl, sym, ap, ◌∙◌}
 use mathlib.Core.Bool.{Bool, true, false, not, ◌&&◌}
 use Prim.Native.Nat.{ℕ, zero, suc}
 use Rattle.format.specs.Sheet.{Form, Function, Item, Sheet}
+use Rattle.view.specs.Views.{form_of, form_view}
 use Rattle.bridge.specs.Out as machine
 use Rattle.bridge.specs.Out.{next_section, set_namespace}
 use Rattle.bridge.specs.Write.{is_free, function_shim, write_rust_function_shim}
 use Rattle.pieces.proofs.Machine.{nothing_written}
 use Rattle.sections.specs.Runs.{hidden_form, shim_section}
+
+pub hidden_free : (header : Bool) (form owner : ℕ) → form ≡ 0 → false ≡ hidden_form header (form_of (form_view form owner))
+hidden_free true form owner e = rw e
+hidden_free false form owner e = refl
+
+pub hidden_method : (header : Bool) (form owner : ℕ) → (form ≡ 0 → ⊥) →
+    header ≡ hidden_form header (form_of (form_view form owner))
+hidden_method true zero owner h = absurd (h refl)
+hidden_method true (suc zero) owner h = refl
+hidden_method true (suc (suc zero)) owner h = refl
+hidden_method true (suc (suc (suc form))) owner h = refl
+hidden_method false form owner h = refl
+
+hidden_form_lem : (header : Bool) (form owner : ℕ) →
+    (header && not (is_free (form_of (form_view form owner)))) ≡ hidden_form header (form_of (form_view form owner))
+hidden_form_lem header form owner = refl
 
 -- ---- the shim of the function of a number
 

@@ -1,9 +1,12 @@
 -- Laws of a function's view: what it returns, its receiver, its arguments.
-use mathlib.Core.Path.{◌≡◌, sym, ap, ◌∙◌}
+use mathlib.Core.Path.{◌≡◌, refl, sym, ap, ◌∙◌}
 use mathlib.Core.List.{List, [], ◌∷◌}
 use mathlib.Core.Bool.{Bool, true, false, false≢true}
-use Prim.Native.Nat.{ℕ}
+use Prim.Native.Nat.{ℕ, zero, suc}
+use native.Mathlib.Omega.{arith}
+use lib.Dec.{eqb}
 use lib.ListN.{length}
+use borrow.Author.Tests.{ne_eqb}
 use Rattle.lexical.proofs.BoolLaws.{by_cases}
 use Rattle.format.specs.Types.{Ret, none, gives}
 use Rattle.format.specs.Sheet.{Function}
@@ -13,7 +16,7 @@ use Rattle.rules.specs.Rules.{is_method}
 use Rattle.bridge.specs.Write.{indirect_return, slot, direct}
 use Rattle.view.specs.declared.FunctionView.{FunctionView}
 use Rattle.view.specs.Values.{Yields, items_at, function_at, type_here}
-use Rattle.view.specs.Views.{form_of, return_of, FunctionAt, ArgumentsAt}
+use Rattle.view.specs.Views.{form_of, form_view, return_of, FunctionAt, ArgumentsAt}
 use Rattle.cursor.proofs.YieldLaws.{in_turn, got_value, yields}
 use Rattle.shape.proofs.TypeLaws.{here_is, here_yields}
 
@@ -100,3 +103,12 @@ module _ {s names items : List ℕ} {f : FunctionView} (a : FunctionAt s names i
 pub arguments_count : {s names items offsets : List ℕ} {f : FunctionView} → ArgumentsAt s names items f offsets →
     length (function_at s names items f.number).arguments ≡ f.arguments
 arguments_count a = a.count
+
+pub method_const : (k i : ℕ) → k ≡ 1 → true ≡ is_method (form_of (form_view k i))
+method_const k i e = rw e
+
+pub method_other : (k i : ℕ) → (k ≡ 1 → ⊥) → eqb k 2 ≡ is_method (form_of (form_view k i))
+method_other zero i h = refl
+method_other (suc zero) i h = absurd (h refl)
+method_other (suc (suc zero)) i h = refl
+method_other (suc (suc (suc k))) i h = ne_eqb (suc (suc (suc k))) 2 (omega arith)

@@ -7,10 +7,11 @@ use Prim.Native.Nat.{ℕ, suc, ◌+◌, ◌-◌, ◌≤◌, ◌<◌, min}
 use native.Mathlib.Omega.{arith}
 use native.Mathlib.Decide.{dec_lt}
 use native.Mathlib.Numerals.{add-one}
+use lib.Dec.{leb}
 use borrow.Rule.Slice.PartMut.{put_mid}
-use borrow.Author.Tests.{leb-true, leb-false}
+use borrow.Author.Tests.{leb-true, leb-false, le-leb, lt-leb}
 use lib.ListN.{length, get_or, set, take, replicate, length-set, length-replicate, get_or-replicate}
-use lib.Seq.{sets, set_out, take-suc, take_all, length-take-le, sets-eq, drop-drop}
+use lib.Seq.{sets, set_out, take-suc, take_all, length-sets, length-take-le, sets-eq, drop-drop}
 use Rattle.sink.specs.Sink.{Sink, sink, limit, step, emit, has_room, seen, Wrote}
 use Rattle.sink.specs.Copying.{Fits}
 use Rattle.sink.proofs.SinkLaws.{place_emit, wrote_by}
@@ -51,6 +52,12 @@ buffer_emit (b ∷ t) s h g =
 pub record Stored (l : List ℕ) (at : ℕ) (text : List ℕ) (n : ℕ) (now : List ℕ) : Type 0 where
   pub is : now ≡ sets l at (take n text)
 
+pub stored_none : (l : List ℕ) (at : ℕ) (text : List ℕ) → Stored l at text 0 l
+stored_none l at text = record { is = refl }
+
+pub stored_length : {l text now : List ℕ} {at n : ℕ} → Stored l at text n now → length now ≡ length l
+stored_length {l} {text} {now} {at} {n} p = ap length p.is ∙ length-sets l at (take n text)
+
 -- a turn of the loop
 pub stored_next :
     {l text now : List ℕ} {at i b : ℕ} →
@@ -73,6 +80,17 @@ module _ {at count size : ℕ} {b : Bool} (f : Fits at count size b) where
 
   pub no_room : b ≡ false → size < at + count
   no_room t = leb-false (at + count) size (sym f.is ∙ t)
+
+pub fits_past : (at count size : ℕ) → size < at → Fits at count size false
+fits_past at count size h = record { is = sym (lt-leb (at + count) size (omega arith)) }
+
+pub fits_within : (at count size : ℕ) → at ≤ size → Fits at count size (leb count (size - at))
+fits_within at count size h = record {
+  is = by_cases
+      (dec_lt size (at + count))
+      (λ past. lt-leb count (size - at) (omega arith) ∙ sym (lt-leb (at + count) size past))
+      (λ within. le-leb count (size - at) (omega arith) ∙ sym (le-leb (at + count) size (omega arith)));
+}
 
 module _ {l text : List ℕ} {at : ℕ} where
   -- all of it is stored

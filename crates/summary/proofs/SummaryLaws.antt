@@ -172,6 +172,17 @@ summary_view x y e w = record {
 -- ---- all functions
 
 module _ {s t kept : List ℕ} {i end : ℕ} (k : Keeping s t i end kept) where
+  pub keeping_none : i < 255 → Keeping s t (i + 1) end kept
+  keeping_none h = record {
+    first = k.first;
+    near = k.near;
+    small = k.small;
+    each = λ f x l z. by_cases (ℕ_discrete f.number i)
+        (λ e. absurd (z (k.later f.number (omega (arith, e)) (omega (arith, e, h)))))
+        (λ e. k.each f x (omega (arith, l, e)) z);
+    later = λ j l m. k.later j (omega (arith, l)) m;
+  }
+
   module _ {f : FunctionView} (x : Function s t f) (n : f.number ≡ i) (small : i < 255) (room : end + 36 ≤ length kept)
       {words : List ℕ} (w : Summary s t f words)
       (long : length words ≡ length (take (length kept - end) (drop end kept))) where
@@ -288,6 +299,9 @@ module _ {s t kept : List ℕ} (words : List ℕ) {f : FunctionView} (x : Functi
 
   room_in : m ≤ length words
   room_in = omega (arith, h, x.view.few)
+
+  pub kept_room : from + m ≤ length kept
+  kept_room = omega (arith, own_kept.room, length-drop from kept)
 
   part_long : length part ≡ m
   part_long = length-take-le (from + m - from) (drop from kept) (omega (arith, own_kept.room)) ∙ omega arith

@@ -20,6 +20,12 @@ pub front_long : {names a : List ℕ} (t : List ℕ) → a ≡ names → length 
 front_long {names} {a} t x h =
     length-append a (drop (length names) t) ∙ omega (arith, length-drop (length names) t, ap length x)
 
+pub back_room : {names a : List ℕ} (items t : List ℕ) → a ≡ names → length names ≤ most_names → length items ≤ most_items →
+    length t ≡ 3068 →
+    length (take (1024 + length items - 1024) (drop 1024 (a ++ drop (length names) t))) ≡ length items
+back_room {names} {a} items t x n k l =
+    part_long 1024 (length items) (a ++ drop (length names) t) (omega (arith, front_long t x (omega arith)))
+
 -- two lists in front of the places p and q, the second from f on
 module _ (p f m : ℕ) (names items t a b : List ℕ) where
   abbrev q : ℕ
