@@ -56,6 +56,15 @@ module _ {s names items : List ℕ} {f : FunctionView} (a : FunctionAt s names i
         by_form (suc (suc zero)) i q = rw append-nil (sym (commas_one false _))
         by_form (suc (suc (suc k))) i q = absurd (false≢true q)
 
+    pub receiver_none : b ≡ false → [] ≡ commas false (receiver all this.form)
+    receiver_none e = rw a.view.form.form (by_form f.form (sym h ∙ e))
+      where
+        by_form : (x : FormView) → is_method (form_of x) ≡ false → [] ≡ commas false (receiver all (form_of x))
+        by_form Free q = sym (commas_none false)
+        by_form (ConstMethod i) q = absurd (false≢true (sym q))
+        by_form (MutMethod i) q = absurd (false≢true (sym q))
+        by_form (Associated i) q = sym (commas_none false)
+
     pub receiver_owner : b ≡ true → f.form ≡ Free → ⊥
     receiver_owner e z = false≢true (rw z at (sym h ∙ e))
 
@@ -68,8 +77,8 @@ module _ {s names items : List ℕ} {f : FunctionView} (a : FunctionAt s names i
         full_name (item_at all i) ++ bytes " &self" ≡ commas false (receiver all this.form)
     receiver_mut e = rw (a.view.form.form, e) (sym (commas_one false _))
 
-    pub receiver_none : f.form ≡ Associated i → [] ≡ commas false (receiver all this.form)
-    receiver_none e = rw (a.view.form.form, e) (sym (commas_none false))
+    pub receiver_associated : f.form ≡ Associated i → [] ≡ commas false (receiver all this.form)
+    receiver_associated e = rw (a.view.form.form, e) (sym (commas_none false))
 
     -- the number of its self type's item
     pub self_below : self_number f.form ≡ Some i → i < length items

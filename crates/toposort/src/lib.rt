@@ -71,16 +71,19 @@ fn visit_held(
         (graph_of starts.now held.now i) marks.old order.old at result
         marks.new order.new }
 {
-    let start = usize::from(starts[i]);
+    let mut k = usize::from(starts[i]);
     let stop = usize::from(starts[i + 1]);
     let mut end = at;
-    for k in start..stop {
+    // By an index, which the edit next_passed_over moves too far.
+    while k < stop {
         let j = usize::from(held[k]);
         if 1 < marks[j] {
             // One that was visited costs no call.
+            k = k + 1;
             continue;
         }
         end = visit(starts, held, levels, j, marks, order, end)?;
+        k = k + 1;
     }
     Ok(end)
 }

@@ -74,6 +74,7 @@ pub fn is_indirect_template(k: Template) -> bool
 // A number comes back in a register, a Result through memory (docs/DECISIONS.md).
 
 // The refusal of a kind where no level is left.
+#[tactic(auto, using(cursor::proofs::CodeLaws::bad_in, cursor::proofs::CodeLaws::deep_in))]
 fn too_deep(k: TypeKind) -> u32
     ensures { step_in result ≡ Err (too_deep k) }
 {

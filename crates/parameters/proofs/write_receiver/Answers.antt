@@ -1,7 +1,7 @@
 use mathlib.Core.Path.{ap}
 use Rattle.sink.proofs.SinkLaws.{◌▷◌, wrote_nil, wrote_as}
 use Rattle.view.specs.Views.{self_number}
-use Rattle.parameters.proofs.ParameterLaws.{receiver_const, receiver_mut, receiver_none, receiver_free, self_below}
+use Rattle.parameters.proofs.ParameterLaws.{receiver_const, receiver_mut, receiver_associated, receiver_free, self_below}
 use Rattle.parameters.proofs.write_receiver.Goals as goal
 
 pub write_full_name-named-requires : goal.write_full_name-named-requires
@@ -21,7 +21,7 @@ returns-in-MutMethod c =
     c.requires.1 c.in-MutMethod.is)
 
 pub returns-in-Associated : goal.returns-in-Associated
-returns-in-Associated c = wrote_as (wrote_nil _) (receiver_none c.requires.1 c.in-Associated.is)
+returns-in-Associated c = wrote_as (wrote_nil _) (receiver_associated c.requires.1 c.in-Associated.is)
 
 pub returns-in-Free : goal.returns-in-Free
 returns-in-Free c = wrote_as (wrote_nil _) (receiver_free c.requires.1 c.in-Free.is)

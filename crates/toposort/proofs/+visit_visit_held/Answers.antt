@@ -53,7 +53,7 @@ pub visit_held-loop-k-init : goal.visit_held-loop-k-init
 visit_held-loop-k-init t c =
     let p = c.requires in
     let a = c.args in
-    let from = c.from-start.ensures in
+    let from = c.from-k.ensures in
     let to = c.from-stop.ensures in (
       table_inside a.starts.now a.held.now a.i from to p.1 p.0,
       going_as (table_part a.starts.now a.held.now a.i from to) record { left = refl; room = p.2 },
@@ -76,14 +76,14 @@ visit_held-visit-requires t c = (omega arith, (omega arith, c.requires.1, c.loop
 pub visit_held-returns-in_err-end : goal.visit_held-returns-in_err-end
 visit_held-returns-in_err-end t c =
     let v = c.loop-k.invariant in
-    let now = going_as (part_next _ _ _ (omega arith) v.0 c.from-j.ensures) v.1 in
+    let now = going_as (part_next _ _ _ c.loop-k-test.true v.0 c.from-j.ensures) v.1 in
     all_ring c.requires.2.order c.from_residual.ensures.1 now (visited_as c.in_err-end.was c.visit.ensures)
 
 pub visit_held-loop-k-preserved-then-marks-j-gt1 : goal.visit_held-loop-k-preserved-then-marks-j-gt1
 visit_held-loop-k-preserved-then-marks-j-gt1 t c =
     let v = c.loop-k.invariant in
     let within = c.requires.1.within in
-    let now = going_as (part_next _ _ _ (omega arith) v.0 c.from-j.ensures) v.1 in
+    let now = going_as (part_next _ _ _ c.loop-k-test.true v.0 c.from-j.ensures) v.1 in
     let room = now.room in
     (v.0, going_next within (omega arith) now (visited_already c.if-marks-j-gt1.true (omega arith)))
 
@@ -91,9 +91,9 @@ pub visit_held-loop-k-preserved : goal.visit_held-loop-k-preserved
 visit_held-loop-k-preserved t c =
     let v = c.loop-k.invariant in
     let within = c.requires.1.within in
-    let now = going_as (part_next _ _ _ (omega arith) v.0 c.from-j.ensures) v.1 in
+    let now = going_as (part_next _ _ _ c.loop-k-test.true v.0 c.from-j.ensures) v.1 in
     (v.0, going_next within (omega arith) now (visited_as c.in_ok-end.was c.visit.ensures))
 
 pub visit_held-returns : goal.visit_held-returns
 visit_held-returns t c =
-    all_done c.requires.2.order (going_as (part_end c.args.held.now c.loop-k.k c.from-stop.result (omega arith)) c.loop-k.invariant.1)
+    all_done c.requires.2.order (going_as (part_end _ _ _ c.loop-k-test.false) c.loop-k.invariant.1)

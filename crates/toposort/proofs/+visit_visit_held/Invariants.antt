@@ -16,3 +16,6 @@ invariant-visit_held-loop-k l = (l.stop ≤ length l.held) × Going (graph_of l.
     (visit_all (visit·spec (graph_of l.starts l.held) l.levels) (graph_of l.starts l.held l.i) l.initial.marks
     (take l.at l.initial.order))
     (take (l.stop - l.k) (drop l.k l.held)) l.marks l.order l.end
+
+abbrev pub decreases-visit_held-loop-k : goal.decreases-visit_held-loop-k
+decreases-visit_held-loop-k l = l.stop - l.k
