@@ -144,7 +144,8 @@ pub fn fetch(s: &[u8], at: u32, buf: &mut [u8]) -> Name
 
 // ---- names by number
 
-// Whether the names at two positions are the same.
+// Whether the names at two positions are the same. Not inlined, so that `same_name` is small.
+#[inline(never)]
 fn same_chars(s: &[u8], a: u32, b: u32) -> bool
     requires { Limited s.now × Yields (name s.now a) (name_at s.now a) ×
         Yields (name s.now b) (name_at s.now b) }
@@ -159,7 +160,9 @@ fn same_chars(s: &[u8], a: u32, b: u32) -> bool
     equal(&x[..k], &y[..l])
 }
 
-// Whether names i and j are the same; unequal digests tell them apart.
+// Whether names i and j are the same; unequal digests tell them apart. Inlined: most pairs that a loop asks for have one
+// number, or two digests.
+#[inline(always)]
 pub fn same_name(s: &[u8], names: &[u32], digests: &[u32], i: u32, j: u32) -> bool
     requires { Named s.now names.now × (digests.now ≡ digests_at s.now names.now) ×
         (i < length names.now) × (j < length names.now) }

@@ -2,11 +2,10 @@
 // leader, and a depth: its members need a forward declaration and lie in the leader's first so many namespaces.
 #![tactic(auto)]
 
-ghost use Rattle.std.specs.Prelude.{◌≡◌, ◌<◌, ◌≤◌, length, get_or};
-ghost use Rattle.lexical.specs.Bytes.{same};
+ghost use Rattle.std.specs.Prelude.{◌≡◌, ◌<◌, ◌≤◌, length};
 ghost use Rattle.format.specs.declared.ItemKind.TheVariants.{Enum};
 ghost use Rattle.bridge.specs.Write.{needs_forward_declaration};
-ghost use Rattle.view.specs.Values.{name_at, items_at, item_no, Named, Whole};
+ghost use Rattle.view.specs.Values.{items_at, item_no, Whole};
 ghost use Rattle.names.specs.Digests.{digests_at};
 ghost use Rattle.view.specs.Views.{ItemAt};
 ghost use Rattle.nested.specs.Groups.{EnumOf, shared, belongs, is_direct, is_first, Next};
@@ -60,18 +59,6 @@ pub fn needs_forward_declaration(s: &[u8], names: &[u32], items: &[u32], i: u32)
 
 // ---- shared namespaces
 
-// Whether two names have the same characters. Two of one number, and two of other digests, cost no call.
-fn alike(s: &[u8], names: &[u32], digests: &[u32], i: u32, j: u32) -> bool
-    requires { Named s.now names.now × (digests.now ≡ digests_at s.now names.now) ×
-        (i < length names.now) × (j < length names.now) }
-    ensures { result ≡ same (name_at s.now (get_or names.now i 0))
-        (name_at s.now (get_or names.now j 0)) }
-{
-    let a = i as usize;
-    let b = j as usize;
-    i == j || digests[a] == digests[b] && same_name(s, names, digests, i, j)
-}
-
 // Whether two items share so many namespaces.
 fn shares(
     s: &[u8],
@@ -94,7 +81,7 @@ fn shares(
     for d in 0..depth {
         let a = namespace(s, names, items, v, d);
         let b = namespace(s, names, items, w, d);
-        if !alike(s, names, digests, a, b) {
+        if !same_name(s, names, digests, a, b) {
             return false;
         }
     }
