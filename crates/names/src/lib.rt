@@ -160,8 +160,8 @@ fn same_chars(s: &[u8], a: u32, b: u32) -> bool
     equal(&x[..k], &y[..l])
 }
 
-// Whether names i and j are the same; unequal digests tell them apart. Inlined: most pairs that a loop asks for have one
-// number, or two digests.
+// Whether names i and j are the same; unequal digests tell them apart. Inlined: most pairs that a loop asks for have
+// one number, or two digests.
 #[inline(always)]
 pub fn same_name(s: &[u8], names: &[u32], digests: &[u32], i: u32, j: u32) -> bool
     requires { Named s.now names.now × (digests.now ≡ digests_at s.now names.now) ×
