@@ -18,6 +18,7 @@ use Rattle.sink.specs.Sink.{Sink, Wrote}
 use Rattle.sink.proofs.SinkLaws.{◌▷◌, wrote_nil, wrote_as}
 use Rattle.view.specs.declared.FunctionView.{FunctionView}
 use Rattle.view.specs.Values.{items_at, function_at, type_here}
+use Rattle.view.specs.declared.FormView.{FormView}
 use Rattle.view.specs.declared.FormView.TheVariants.{Free, ConstMethod, MutMethod, Associated}
 use Rattle.std.specs.Prelude.{◌<◌, Some}
 use Rattle.view.specs.Views.{form_of, form_view, self_number, FunctionAt, ArgumentsAt, kind_of_type}
