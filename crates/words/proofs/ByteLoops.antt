@@ -1,4 +1,4 @@
--- Laws of the loop over two lists of bytes.
+-- Laws of two lists of bytes: compared entry by entry, and by a loop.
 use mathlib.Core.Path.{◌≡◌, refl, ap}
 use mathlib.Core.List.{List, [], ◌∷◌}
 use mathlib.Core.Bool.{Bool, true, false, ◌&&◌}
@@ -6,9 +6,17 @@ use Prim.Native.Nat.{ℕ, suc, ◌+◌, ◌<◌, ◌≤◌}
 use native.Mathlib.Numerals.{add-one}
 use lib.ListN.{length, get_or, drop, drop_of_length-le}
 use lib.Dec.{eqb}
+use lib.Pointwise.{pointwise}
 use lib.Seq.{drop-cons}
 use borrow.Author.Tests.{eq-eqb, ne_eqb}
 use Rattle.lexical.specs.Bytes.{same}
+
+pub pointwise_same : (a b : List ℕ) → pointwise eqb a b ≡ same a b
+unfolding same
+pointwise_same [] [] = refl
+pointwise_same [] (y ∷ b) = refl
+pointwise_same (x ∷ a) [] = refl
+pointwise_same (x ∷ a) (y ∷ b) = ap (λ (r : Bool). eqb x y && r) (pointwise_same a b)
 
 pub same_length_lem : (a b : List ℕ) → (length a ≡ length b → ⊥) → same a b ≡ false
 unfolding same

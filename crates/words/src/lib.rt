@@ -22,6 +22,7 @@ pub fn in_range(lo: u8, hi: u8, c: u8) -> bool
 }
 
 // Whether two lists of bytes are the same.
+#[tactic(auto, using(crate::proofs::ByteLoops::pointwise_same, std::proofs::lemmas::List::take_all))]
 pub fn equal(a: &[u8], b: &[u8]) -> bool
     ensures { result ≡ same a.now b.now }
 {

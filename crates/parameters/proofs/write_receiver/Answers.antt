@@ -1,4 +1,5 @@
 use mathlib.Core.Path.{ap}
+use mathlib.Core.List.{append_assoc}
 use Rattle.sink.proofs.SinkLaws.{◌▷◌, wrote_nil, wrote_as}
 use Rattle.view.specs.Views.{self_number}
 use Rattle.parameters.proofs.ParameterLaws.{receiver_const, receiver_mut, receiver_associated, receiver_free, self_below}
@@ -7,9 +8,12 @@ use Rattle.parameters.proofs.write_receiver.Goals as goal
 pub write_full_name-named-requires : goal.write_full_name-named-requires
 write_full_name-named-requires c = (c.requires.0, self_below c.requires.1 (ap self_number c.in-ConstMethod.is))
 
+-- The text is compared as a whole, wherever one literal of it ends.
 pub returns-in-ConstMethod : goal.returns-in-ConstMethod
 returns-in-ConstMethod c =
-    wrote_as (c.write_full_name-named.ensures ▷ c.put_bytes-qualified.ensures ▷ c.put_bytes.ensures) (receiver_const c.requires.1 c.in-ConstMethod.is)
+    let e = receiver_const c.requires.1 c.in-ConstMethod.is in
+    wrote_as (c.write_full_name-named.ensures ▷ c.put_bytes-qualified.ensures ▷ c.put_bytes.ensures)
+    (rw append_assoc (rw append_assoc at e))
 
 pub write_full_name-named-requires-in-MutMethod : goal.write_full_name-named-requires-in-MutMethod
 write_full_name-named-requires-in-MutMethod c =
