@@ -15,6 +15,8 @@ use Rattle.syntax.specs.Items.{item_at, full_name, is_function}
 use Rattle.cursor.specs.declared.Found.{Found}
 use Rattle.view.specs.declared.ItemView.{ItemView}
 use Rattle.view.specs.declared.FunctionView.{FunctionView}
+use Rattle.view.specs.declared.FormView.{FormView}
+use Rattle.view.specs.declared.FormView.TheVariants.{Free, ConstMethod, MutMethod, Associated}
 use Rattle.view.specs.Values.{name_at, items_at, function_in, function_at, Whole, item_no}
 use Rattle.cursor.specs.Yielding.{Finds}
 use Rattle.names.specs.Digests.{digest, digests_at}
@@ -196,24 +198,58 @@ module _ {s names items : List ℕ} {f : FunctionView} (a : FunctionAt s names i
   owner_one t = rw (self_there a.view.form e t)
 
 -- of two lists of none or one
-pub owners_none : {xs ys : List Name} {b : Bool} (o : Option ℕ) (n : ℕ → Name) → xs ≡ [] → is_some o ≡ not b →
+pub lists_none : {xs ys : List Name} {b : Bool} (o : Option ℕ) (n : ℕ → Name) → xs ≡ [] → is_some o ≡ not b →
     (o ≡ None → ys ≡ []) → ((i : ℕ) → o ≡ Some i → ys ≡ n i ∷ []) → b ≡ same_names xs ys
 unfolding same_names
-owners_none {b = true} None n x t y z = rw (x, y refl)
-owners_none {b = false} None n x t y z = absurd (let q : ◌≡◌ {A = ℕ} 0 1 = cc in omega arith)
-owners_none {b = false} (Some i) n x t y z = rw (x, z i refl)
-owners_none {b = true} (Some i) n x t y z = absurd (let q : ◌≡◌ {A = ℕ} 0 1 = cc in omega arith)
+lists_none {b = true} None n x t y z = rw (x, y refl)
+lists_none {b = false} None n x t y z = absurd (let q : ◌≡◌ {A = ℕ} 0 1 = cc in omega arith)
+lists_none {b = false} (Some i) n x t y z = rw (x, z i refl)
+lists_none {b = true} (Some i) n x t y z = absurd (let q : ◌≡◌ {A = ℕ} 0 1 = cc in omega arith)
 
-pub owners_differ : {xs ys : List Name} {n : Name} → xs ≡ n ∷ [] → ys ≡ [] → false ≡ same_names xs ys
+pub lists_differ : {xs ys : List Name} {n : Name} → xs ≡ n ∷ [] → ys ≡ [] → false ≡ same_names xs ys
 unfolding same_names
-owners_differ x y = rw (x, y)
+lists_differ x y = rw (x, y)
 
-pub owners_both : {xs ys : List Name} {n m a b : Name} {r : Bool} → xs ≡ n ∷ [] → ys ≡ m ∷ [] → a ≡ n → b ≡ m →
+pub lists_both : {xs ys : List Name} {n m a b : Name} {r : Bool} → xs ≡ n ∷ [] → ys ≡ m ∷ [] → a ≡ n → b ≡ m →
     r ≡ same a b → r ≡ same_names xs ys
 unfolding same_names
-owners_both x y a b t = rw (x, y, ← a, ← b, and_nothing) t
+lists_both x y a b t = rw (x, y, ← a, ← b, and_nothing) t
 
 -- the name of an item of that number
 pub name_of_number : {s names items : List ℕ} {v : ItemView} {i : ℕ} → ItemAt s names items v → v.number ≡ i →
     name_at s (get_or names v.name 0) ≡ (item_no s names items i).cxx
 name_of_number a e = rw (← e) a.view.cxx
+
+none_free : (v : FormView) → None ≡ self_number v → v ≡ Free
+none_free Free q = refl
+none_free (ConstMethod i) q = absurd (let o : ◌≡◌ {A = ℕ} 0 1 = cc in omega arith)
+none_free (MutMethod i) q = absurd (let o : ◌≡◌ {A = ℕ} 0 1 = cc in omega arith)
+none_free (Associated i) q = absurd (let o : ◌≡◌ {A = ℕ} 0 1 = cc in omega arith)
+
+-- of two functions, by their forms
+module _ {s names items : List ℕ} {f g : FunctionView} (a : FunctionAt s names items f) (b : FunctionAt s names items g) where
+  pub owners_none : f.form ≡ Free →
+      not (is_some (self_number g.form)) ≡ same_names (owners_of s names items f) (owners_of s names items g)
+  unfolding same_names
+  owners_none e = by_number (self_number g.form) refl
+    where
+      by_number : (o : Option ℕ) → o ≡ self_number g.form →
+          not (is_some o) ≡ same_names (owners_of s names items f) (owners_of s names items g)
+      by_number None q = rw (owner_none a refl (rw e refl), owner_none b q refl)
+      by_number (Some i) q = rw (owner_none a refl (rw e refl), owner_one b q refl)
+
+  pub owners_differ : (f.form ≡ Free → ⊥) → g.form ≡ Free →
+      false ≡ same_names (owners_of s names items f) (owners_of s names items g)
+  owners_differ h e = by_number (self_number f.form) refl
+    where
+      by_number : (o : Option ℕ) → o ≡ self_number f.form →
+          false ≡ same_names (owners_of s names items f) (owners_of s names items g)
+      by_number None q = absurd (h (none_free f.form q))
+      by_number (Some i) q = lists_differ (owner_one a q refl) (owner_none b refl (rw e refl))
+
+  pub owners_both : {v w : ItemView} {r : Bool} {i j : ℕ} → self_number f.form ≡ Some i → self_number g.form ≡ Some j →
+      ItemAt s names items v → v.number ≡ i → ItemAt s names items w → w.number ≡ j →
+      r ≡ same (name_at s (get_or names v.name 0)) (name_at s (get_or names w.name 0)) →
+      r ≡ same_names (owners_of s names items f) (owners_of s names items g)
+  owners_both h k x d y e t =
+      lists_both (owner_one a refl h) (owner_one b refl k) (name_of_number x d) (name_of_number y e) t

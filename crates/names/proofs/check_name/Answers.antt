@@ -21,8 +21,8 @@ cut_only : (n : ℕ) (s : List ℕ) (at : ℕ) {r : Result Found Refusal} → Re
     (e : Refusal) → r ≡ Err e → e ≡ CutSheet
 cut_only n s at h e g = field_fault n s at (cut h g)
 
--- What was read is found by `grind` and not named, here and below: so an edit of the refusal that is handed on is
--- refused for that refusal, and not for standing between the read and the `?`.
+-- What was read is found by `grind`, here and below, and not by the name of what `?` is asked of: an edit may put another
+-- value there, and is refused where that value is wrong.
 pub returns-in_err-length : goal.returns-in_err-length
 unfolding name_by
 returns-in_err-length c =

@@ -25,8 +25,8 @@ comment_member {s} {names} {items} {f} a x r h = by_number (self_number f.form) 
 pub write_doc-requires : goal.write_doc-requires
 write_doc-requires c = (c.requires.0.tabled.whole.named.limited, comment_yields c.requires.1 _ c.requires.2)
 
--- The form is asked by `grind`, here and below: so an edit of what is matched is refused for its answer, and not for its
--- place.
+-- Whether the form has a self type is found by `grind`, here and below, and not by the name of what is matched: an edit may
+-- match another value, and is refused where that value is wrong.
 pub returns-in-None : goal.returns-in-None
 returns-in-None c = comment_written c.requires.1 _ c.requires.2 _ refl (grind arith) c.write_doc.ensures
 
